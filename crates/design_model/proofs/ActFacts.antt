@@ -1,0 +1,29 @@
+-- Worked values of the acts.
+use Rattle.std.proofs.Common.{◌≡◌, ℤ, pos, true, false, List, [], ◌∷◌, refl}
+use Rattle.design_model.specs.declared.act.Act.TheVariants as act
+use Rattle.design_model.specs.declared.command.Command.TheVariants.{Stitch, Jump, Trim, Stop}
+use Rattle.design_model.specs.declared.point.Point.{Point}
+use Rattle.design_model.specs.Acts.{acts_along, bare, numbered}
+
+-- the point at that x on the axis
+abbrev pub at : ℤ → Point
+at x = record { x = x; y = pos 0 }
+
+-- a jump before the first needle is no float, and a cut of a loose thread is no act
+pub known_first : acts_along (Trim ∷ Jump (at (pos 9)) ∷ Stitch (at (pos 9)) ∷ [])
+    ≡ numbered 3 (act.Needle (at (pos 9)) false) ∷ []
+known_first = refl
+
+-- a jump between two needles makes the second a float; after a trim it does not
+pub known_floats :
+    bare (acts_along (Stitch (at (pos 0)) ∷ Jump (at (pos 5)) ∷ Stitch (at (pos 5)) ∷ Trim
+    ∷ Trim ∷ Jump (at (pos 9)) ∷ Stitch (at (pos 9)) ∷ []))
+    ≡ act.Needle (at (pos 0)) false ∷ act.Needle (at (pos 5)) true ∷ act.Trim
+    ∷ act.Needle (at (pos 9)) false ∷ []
+known_floats = refl
+
+-- a stop is an act of its own, and leaves the thread loose
+pub known_stops : acts_along (Stitch (at (pos 1)) ∷ Trim ∷ Stop ∷ Trim ∷ Stop ∷ Stitch (at (pos 2)) ∷ [])
+    ≡ numbered 1 (act.Needle (at (pos 1)) false) ∷ numbered 2 act.Trim ∷ numbered 3 act.Stop
+    ∷ numbered 5 act.Stop ∷ numbered 6 (act.Needle (at (pos 2)) false) ∷ []
+known_stops = refl

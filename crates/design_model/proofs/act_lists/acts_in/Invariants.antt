@@ -1,0 +1,11 @@
+use Rattle.std.proofs.Common.{◌≡◌, ◌++◌, ◌+◌, drop}
+use Rattle.design_model.specs.Acts.{acts_along, acts_from}
+use Rattle.design_model.proofs.act_lists.acts_in.Given as goal
+
+-- the acts so far, and those of the commands that are left
+abbrev pub invariant-loop-command : goal.invariant-loop-command
+invariant-loop-command l = record {
+  count : l.number ≡ l.command-index;
+  acts : l.acts ++ acts_from (l.number + 1) l.thread.loose l.thread.jumped (drop l.command-index l.commands)
+      ≡ acts_along l.commands;
+}

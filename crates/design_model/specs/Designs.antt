@@ -1,0 +1,52 @@
+-- Designs as contracts see them: three lists within their limits.
+use Rattle.std.specs.Prelude.{◌≡◌, ℕ, ◌+◌, ◌%◌, ◌<◌, ◌≤◌, List, [], ◌∷◌, ◌++◌, true, false, length, Result, Ok, Err, IsTrue, slice_get, unwrap_or}
+use Rattle.std.specs.List.{list_all}
+use Rattle.design_model.specs.declared.command.Command.{Command}
+use Rattle.design_model.specs.declared.design.ModelFault.{ModelFault}
+use Rattle.design_model.specs.declared.design.ModelFault.TheVariants as fault
+use Rattle.design_model.specs.declared.design.TheConstants.{MAX_COMMANDS, MAX_THREADS}
+use Rattle.design_model.specs.Commands.{is_in_range}
+use Rattle.design_model.specs.Labels.{IsLabel}
+
+-- a label, the thread numbers of the first blocks, and the commands
+pub record DesignValue : Type 0 where
+  pub label : List ℕ
+  pub threads : List ℕ
+  pub commands : List Command
+
+-- the limits of a design
+pub record KeepsLimits (d : DesignValue) : Type 0 where
+  pub label : IsLabel d.label
+  pub threads : length d.threads ≤ MAX_THREADS
+  pub count : length d.commands ≤ MAX_COMMANDS
+  pub in_range : IsTrue (list_all is_in_range d.commands)
+
+-- no label, no threads, no commands
+abbrev pub empty_design : DesignValue
+empty_design = record { label = []; threads = []; commands = [] }
+
+-- the same design under another label
+abbrev pub with_label : DesignValue → List ℕ → DesignValue
+with_label d text = record d { label = text }
+
+-- the design with one thread number more
+abbrev pub with_thread : DesignValue → ℕ → DesignValue
+with_thread d thread = record d { threads = d.threads ++ thread ∷ [] }
+
+-- the design with one command more
+abbrev pub with_command : DesignValue → Command → DesignValue
+with_command d command = record d { commands = d.commands ++ command ∷ [] }
+
+-- the thread of a block: the kept number, else one from 1 to 64 by the block's place
+abbrev pub thread_of : DesignValue → ℕ → ℕ
+thread_of d block = unwrap_or (slice_get d.threads block) (1 + block % 64)
+
+-- what each answer of a push means; a refusal leaves the design as it was
+abbrev pub Pushes : {T : Type 0} → Command → DesignValue → Result T ModelFault → DesignValue → Type 0
+Pushes c old (Ok _) new =
+    (is_in_range c ≡ true) × (length old.commands < MAX_COMMANDS) × (new ≡ with_command old c)
+Pushes c old (Err fault.Range) new = (is_in_range c ≡ false) × (new ≡ old)
+Pushes c old (Err fault.TooMany) new =
+    (is_in_range c ≡ true) × (length old.commands ≡ MAX_COMMANDS) × (new ≡ old)
+Pushes c old (Err fault.Memory) new =
+    (is_in_range c ≡ true) × (length old.commands < MAX_COMMANDS) × (new ≡ old)

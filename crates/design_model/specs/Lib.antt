@@ -1,0 +1,6 @@
+pub mod Points
+pub mod Labels
+pub mod Commands
+-- read this one first: what a design is, and its limits
+pub mod Designs
+pub mod Acts

@@ -1,0 +1,19 @@
+-- Places, in whole tenths of a millimetre; x grows to the right, y grows downwards.
+use Rattle.std.specs.Prelude.{ℕ, ℤ, Bool, ◌&&◌, ◌-ℤ◌, max, nat_le, unsigned_abs, pos}
+use Rattle.design_model.specs.declared.point.Point.{Point}
+
+-- neither coordinate is larger in size than the limit
+abbrev pub is_within : ℕ → Point → Bool
+is_within limit p = nat_le (unsigned_abs p.x) limit && nat_le (unsigned_abs p.y) limit
+
+-- the place from which all moves begin
+abbrev pub origin : Point
+origin = record { x = pos 0; y = pos 0 }
+
+-- the move from one place to another
+abbrev pub move_between : Point → Point → Point
+move_between p q = record { x = q.x -ℤ p.x; y = q.y -ℤ p.y }
+
+-- the size of a move: that of its larger axis
+abbrev pub size_of : Point → ℕ
+size_of m = max (unsigned_abs m.x) (unsigned_abs m.y)

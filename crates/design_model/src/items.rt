@@ -1,0 +1,99 @@
+ghost use Rattle.std.specs.Prelude.{◌≡◌, ◌==◌, ◌∷◌, ◌++◌, [], length, OnOk, OnErr};
+
+use crate::act::NumberedAct;
+use crate::command::Command;
+use crate::memory::Memory;
+use crate::point::Point;
+use std::alloc::Global;
+use std::marker::Model;
+
+/// A list that grows at its end. Contracts see it as the list of its items.
+#[derive(Debug, Drop)]
+pub struct Items<T> {
+    held: Vec<T>,
+}
+
+/// The bytes of a file or a text.
+pub type Bytes = Items<u8>;
+/// Indexes or numbers.
+pub type Numbers = Items<u32>;
+/// Points, in tenths of a millimetre.
+pub type Points = Items<Point>;
+/// The acts of a design.
+pub type Acts = Items<NumberedAct>;
+/// Commands of a design.
+pub type Commands = Items<Command>;
+
+impl<T> Model for Items<T> {
+    ghost use Rattle.std.specs.Prelude.{List};
+
+    ghost Value = { List T };
+
+    ghost view = { λ list. list.held.items };
+}
+
+impl<T> Items<T> {
+    /// The empty list, which takes no memory.
+    pub fn new(alloc: Global) -> Self
+        ensures { result ≡ [] }
+    {
+        Items {
+            held: Vec::new(alloc),
+        }
+    }
+
+    /// The list of a vector's items.
+    pub fn from_vec(held: Vec<T>) -> Self
+        ensures { result ≡ held.items }
+    {
+        Items { held }
+    }
+
+    /// The items as a vector; this takes no memory.
+    pub fn into_vec(self) -> Vec<T>
+        ensures { result.items ≡ self }
+    {
+        let Items { held } = self;
+        held
+    }
+
+    pub fn as_slice(&self) -> &[T]
+        ensures { result.now ≡ self.now }
+    {
+        self.held.as_slice()
+    }
+
+    pub fn len(&self) -> usize
+        ensures { result ≡ length self.now }
+    {
+        self.held.len()
+    }
+
+    pub fn is_empty(&self) -> bool
+        ensures { result ≡ (length self.now == 0) }
+    {
+        self.held.is_empty()
+    }
+}
+
+impl<T: Drop> Items<T> {
+    /// Adds an item at the end. A refusal leaves the list as it was.
+    pub fn push(&mut self, item: T) -> Result<(), Memory>
+        ensures ok { OnOk result (self.new ≡ self.old ++ item ∷ []) }
+        ensures err { OnErr result (self.new ≡ self.old) }
+    {
+        self.held.push(item)?;
+        Ok(())
+    }
+}
+
+impl<T: Copy> Items<T> {
+    /// Adds all items of a slice at the end. A refusal leaves the list as it was.
+    pub fn append(&mut self, more: &[T]) -> Result<(), Memory>
+        ensures ok { OnOk result (self.new ≡ self.old ++ more.now) }
+        ensures err { OnErr result (self.new ≡ self.old) }
+    {
+        self.held.extend_from_slice(more)?;
+        Ok(())
+    }
+}
