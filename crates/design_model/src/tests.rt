@@ -1,0 +1,88 @@
+use crate::{Act, Acts, Bytes, Command, Design, Memory, ModelFault, NumberedAct, Point, acts};
+use std::test::Fail;
+
+fn at(x: i32) -> Point {
+    Point { x, y: 0 }
+}
+
+fn filled(rt: &HostRuntime, commands: &[Command]) -> Result<Design, ModelFault> {
+    let mut design = Design::new(rt.alloc());
+    for command in commands {
+        design.push(*command)?;
+    }
+    Ok(design)
+}
+
+#[test]
+fn a_list_keeps_what_is_pushed_and_appended(rt: HostRuntime) -> Result<(), Fail> {
+    let mut bytes = Bytes::new(rt.alloc());
+    bytes.push(7)?;
+    bytes.append(&[8, 9])?;
+    assert_eq!(rt; bytes.as_slice(), [7, 8, 9].as_slice());
+    Ok(())
+}
+
+#[test]
+fn a_push_refuses_by_range_and_keeps_the_rest(rt: HostRuntime) -> Result<(), Fail> {
+    let cases = [
+        (Command::Stitch(at(30_000)), Ok(())),
+        (Command::Stitch(at(-30_001)), Err(ModelFault::Range)),
+        (Command::Jump(at(-32_767)), Ok(())),
+        (Command::Jump(at(32_768)), Err(ModelFault::Range)),
+        (Command::Trim, Ok(())),
+        (Command::Stop, Ok(())),
+    ];
+    let mut design = Design::new(rt.alloc());
+    for (command, answer) in cases {
+        assert_eq!(rt; design.push(command), answer, "{command:?}");
+    }
+    assert_eq!(rt; design.commands().len(), 4);
+    Ok(())
+}
+
+#[test]
+fn threads_are_the_kept_ones_and_then_go_round(rt: HostRuntime) -> Result<(), Fail> {
+    let mut design = Design::new(rt.alloc());
+    design.push_thread(200);
+    for (block, thread) in [(0, 200), (1, 2), (63, 64), (64, 1), (4_294_967_295, 64)] {
+        assert_eq!(rt; design.thread(block), thread, "block {block}");
+    }
+    Ok(())
+}
+
+#[test]
+fn acts_carry_the_numbers_of_their_commands(rt: HostRuntime) -> Result<(), Fail> {
+    let commands = [
+        Command::Jump(at(5)),
+        Command::Stitch(at(5)),
+        Command::Jump(at(9)),
+        Command::Stitch(at(9)),
+        Command::Trim,
+        Command::Trim,
+    ];
+    let listed: Result<Acts, Memory> = acts(rt.alloc(), &filled(&rt, &commands)?);
+    let first = Act::Needle {
+        at: at(5),
+        float: false,
+    };
+    let second = Act::Needle {
+        at: at(9),
+        float: true,
+    };
+    let expected = [
+        NumberedAct {
+            number: 2,
+            act: first,
+        },
+        NumberedAct {
+            number: 4,
+            act: second,
+        },
+        NumberedAct {
+            number: 5,
+            act: Act::Trim,
+        },
+    ];
+    assert_eq!(rt; listed?.as_slice(), expected.as_slice());
+    Ok(())
+}
