@@ -1,0 +1,113 @@
+ghost use Rattle.std.specs.Prelude.{◌≡◌, ℕ, ◌≤◌, List, [], ◌++◌, length, Some, None, IfOk, OnOk};
+ghost use Rattle.outside_io.specs.Blames.{Blame};
+ghost use Rattle.outside_io.specs.Counts.{counted_on};
+
+use crate::blame::{Kind, LastFault};
+use crate::limits::MAX_NAME;
+use crate::std_sink::write_all;
+use crate::store::{Failed, ReadStop, Store};
+use arrayvec::ArrayVec;
+use std::fs::File;
+use std::io::{Read, Seek, SeekFrom, Write};
+use std::rt::Files;
+use std::{fs, io};
+
+/// A file that was read from its beginning up to an offset, and may be read on from there.
+#[derive(Drop)]
+struct Opened<F: Drop> {
+    name: ArrayVec<u8, MAX_NAME>,
+    file: F,
+    at: u64,
+}
+
+/// Real files, which the store doesn't tell. Each error of the system is a fault, a missing file and
+/// want of memory among them. A file that is read in order is opened once.
+#[derive(Drop)]
+pub struct DirStore<'a, R: Files> {
+    rt: &'a R,
+    opened: Option<Opened<R::File>>,
+    faults: u64,
+    last: LastFault,
+}
+
+impl<'a, R: Files> DirStore<'a, R> {
+    /// The files of the running program's system. No faults so far.
+    pub fn new(rt: &'a R) -> Self
+        ensures faults { result.faults ≡ 0 }
+        ensures blame { result.last ≡ None }
+    {
+        DirStore {
+            rt,
+            opened: None,
+            faults: 0,
+            last: LastFault::none(),
+        }
+    }
+
+    /// Notes that the call failed.
+    fn fail(&mut self, kind: Kind, name: &str)
+        requires { length name.now ≤ MAX_NAME }
+        ensures faults { self.new.faults ≡ counted_on self.old.faults }
+        ensures last { self.new.last ≡ Some (record { kind = kind; name = name.now }) }
+    {
+        self.faults = self.faults.saturating_add(1);
+        self.last.note(kind, name.as_bytes());
+    }
+}
+
+impl<'a, R: Files> Store for DirStore<'a, R> {
+    ghost files = { λ _. None };
+
+    ghost faults = { λ s. s.faults };
+
+    ghost blame = { λ s. s.last };
+
+    fn read_at(&mut self, name: &str, at: u64, buf: &mut [u8]) -> Result<usize, ReadStop> {
+        match read_from(self.rt, name, at, buf) {
+            Ok(count) => Ok(count),
+            Err(_) => {
+                self.fail(Kind::Read, name);
+                Err(ReadStop::Failed)
+            }
+        }
+    }
+
+    fn create(&mut self, name: &str) -> Result<(), Failed> {
+        match fs::create(self.rt, name) {
+            Ok(_) => Ok(()),
+            Err(_) => {
+                self.fail(Kind::Write, name);
+                Err(Failed)
+            }
+        }
+    }
+
+    fn append(&mut self, name: &str, bytes: &[u8]) -> Result<(), Failed> {
+        match add_to_file(self.rt, name, bytes) {
+            Ok(()) => Ok(()),
+            Err(_) => {
+                self.fail(Kind::Write, name);
+                Err(Failed)
+            }
+        }
+    }
+}
+
+fn read_from<R: Files>(rt: &R, name: &str, at: u64, buf: &mut [u8]) -> io::Result<usize>
+    ensures { IfOk result (λ count. count ≤ length buf.new) }
+{
+    let mut file = fs::open(rt, name)?;
+    file.seek(SeekFrom::Start(at))?;
+    file.read(buf)
+}
+
+fn add_to_file<R: Files>(rt: &R, name: &str, bytes: &[u8]) -> io::Result<()> {
+    let mut options = File::options();
+    options.append(true);
+    let mut file = options.open(rt, name)?;
+    if write_all(&mut file, bytes) {
+        Ok(())
+    } else {
+        Err(io::ErrorKind::WriteZero.into())
+    }
+}
