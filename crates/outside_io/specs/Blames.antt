@@ -20,3 +20,12 @@ write_of name = record { kind = Write; name = name }
 abbrev pub blame_of : Option Kind → List ℕ → Option Blame
 blame_of None name = None
 blame_of (Some kind) name = Some (record { kind = kind; name = name })
+
+-- how many calls have failed, and the last of them
+pub record FaultsSoFar : Type 0 where
+  pub count : ℕ
+  pub last : Option Blame
+
+-- no call has failed
+abbrev pub no_faults : FaultsSoFar
+no_faults = record { count = 0; last = None }

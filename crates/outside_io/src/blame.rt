@@ -1,4 +1,7 @@
-ghost use Rattle.std.specs.Prelude.{◌≡◌, ◌≤◌, length, Some, None};
+ghost use Rattle.std.specs.Prelude.{◌≡◌, ◌≤◌, length, Some};
+ghost use Rattle.outside_io.specs.Blames.{no_faults};
+ghost use Rattle.outside_io.specs.Causes.{Faults};
+ghost use Rattle.outside_io.specs.Counts.{counted_on};
 
 use crate::limits::MAX_NAME;
 use arrayvec::ArrayVec;
@@ -13,38 +16,46 @@ pub enum Kind {
     Write,
 }
 
-/// The last call that failed, or none.
+/// How many calls have failed, up to the greatest count, and the last of them.
 #[derive(Drop)]
-pub(crate) struct LastFault {
+pub(crate) struct FaultLog {
+    count: u64,
     kind: Option<Kind>,
     name: ArrayVec<u8, MAX_NAME>,
 }
 
-impl Model for LastFault {
-    ghost use Rattle.std.specs.Prelude.{Option};
-    ghost use Rattle.outside_io.specs.Blames.{Blame, blame_of};
+impl Model for FaultLog {
+    ghost use Rattle.outside_io.specs.Blames.{FaultsSoFar, blame_of};
 
-    ghost Value = { Option Blame };
+    ghost Value = { FaultsSoFar };
 
-    ghost view = { λ last. blame_of last.kind last.name.items };
+    ghost view = { λ log. record {
+      count = log.count;
+      last = blame_of log.kind log.name.items;
+    } };
 }
 
-impl LastFault {
-    pub(crate) fn none() -> Self
-        ensures { result ≡ None }
+impl FaultLog {
+    /// No call has failed.
+    pub(crate) fn new() -> Self
+        ensures { result ≡ no_faults }
     {
-        LastFault {
+        FaultLog {
+            count: 0,
             kind: None,
             name: ArrayVec::new(),
         }
     }
 
-    pub(crate) fn note(&mut self, kind: Kind, name: &[u8])
+    /// Notes that a call of that kind on that name failed.
+    pub(crate) fn note(&mut self, kind: Kind, name: &str)
         requires { length name.now ≤ MAX_NAME }
-        ensures { self.new ≡ Some (record { kind = kind; name = name.now }) }
+        ensures value { self.new ≡ record { count = counted_on self.old.count; last = Some (record { kind = kind; name = name.now }) } }
+        ensures cause { Faults self.old.count self.new.count self.new.last (record { kind = kind; name = name.now }) }
     {
+        self.count = self.count.saturating_add(1);
         self.kind = Some(kind);
         self.name.clear();
-        self.name.try_extend_from_slice(name).unwrap();
+        self.name.try_extend_from_slice(name.as_bytes()).unwrap();
     }
 }

@@ -1,14 +1,15 @@
 ghost use Rattle.std.specs.Prelude.{◌≡◌, ℕ, ◌≤◌, List, [], ◌++◌, length, Some, None, IfOk, OnOk};
-ghost use Rattle.outside_io.specs.Blames.{Blame};
+ghost use Rattle.outside_io.specs.Blames.{Blame, no_faults};
 ghost use Rattle.outside_io.specs.Counts.{counted_on};
 
-use crate::blame::{Kind, LastFault};
+use crate::blame::{FaultLog, Kind};
 use crate::limits::MAX_NAME;
 use crate::std_sink::write_all;
 use crate::store::{Failed, ReadStop, Store};
 use arrayvec::ArrayVec;
 use std::fs::File;
 use std::io::{Read, Seek, SeekFrom, Write};
+use std::marker::Model;
 use std::rt::Files;
 use std::{fs, io};
 
@@ -26,39 +27,34 @@ struct Opened<F: Drop> {
 pub struct DirStore<'a, R: Files> {
     rt: &'a R,
     opened: Option<Opened<R::File>>,
-    faults: u64,
-    last: LastFault,
+    log: FaultLog,
+}
+
+impl<'a, R: Files> Model for DirStore<'a, R> {
+    ghost use Rattle.outside_io.specs.Blames.{FaultsSoFar};
+
+    ghost Value = { FaultsSoFar };
+
+    ghost view = { λ s. s.log };
 }
 
 impl<'a, R: Files> DirStore<'a, R> {
     /// The files of the running program's system. No faults so far.
     pub fn new(rt: &'a R) -> Self
-        ensures faults { result.faults ≡ 0 }
-        ensures blame { result.last ≡ None }
+        ensures { result ≡ no_faults }
     {
         DirStore {
             rt,
             opened: None,
-            faults: 0,
-            last: LastFault::none(),
+            log: FaultLog::new(),
         }
-    }
-
-    /// Notes that the call failed.
-    fn fail(&mut self, kind: Kind, name: &str)
-        requires { length name.now ≤ MAX_NAME }
-        ensures faults { self.new.faults ≡ counted_on self.old.faults }
-        ensures last { self.new.last ≡ Some (record { kind = kind; name = name.now }) }
-    {
-        self.faults = self.faults.saturating_add(1);
-        self.last.note(kind, name.as_bytes());
     }
 }
 
 impl<'a, R: Files> Store for DirStore<'a, R> {
     ghost files = { λ _. None };
 
-    ghost faults = { λ s. s.faults };
+    ghost faults = { λ s. s.count };
 
     ghost blame = { λ s. s.last };
 
@@ -66,7 +62,7 @@ impl<'a, R: Files> Store for DirStore<'a, R> {
         match read_from(self.rt, name, at, buf) {
             Ok(count) => Ok(count),
             Err(_) => {
-                self.fail(Kind::Read, name);
+                self.log.note(Kind::Read, name);
                 Err(ReadStop::Failed)
             }
         }
@@ -76,7 +72,7 @@ impl<'a, R: Files> Store for DirStore<'a, R> {
         match fs::create(self.rt, name) {
             Ok(_) => Ok(()),
             Err(_) => {
-                self.fail(Kind::Write, name);
+                self.log.note(Kind::Write, name);
                 Err(Failed)
             }
         }
@@ -86,7 +82,7 @@ impl<'a, R: Files> Store for DirStore<'a, R> {
         match add_to_file(self.rt, name, bytes) {
             Ok(()) => Ok(()),
             Err(_) => {
-                self.fail(Kind::Write, name);
+                self.log.note(Kind::Write, name);
                 Err(Failed)
             }
         }

@@ -12,7 +12,12 @@ fn place_of(entries: &[Entry], name: &[u8]) -> Option<usize>
     ensures some { IfSome result (λ place. IsPlace entries.now name.now place) }
     ensures none { IfNone result (IsFree entries.now name.now) }
 {
-    entries.iter().position(|entry| entry.is_named(name))
+    for (place, entry) in entries.iter().enumerate() {
+        if entry.is_named(name) {
+            return Some(place);
+        }
+    }
+    None
 }
 
 /// The content of the file of that name.

@@ -5,10 +5,10 @@ ghost use Rattle.outside_io.specs.Counts.{counted_on};
 ghost use Rattle.outside_io.specs.Files.{ChangesOnly, HoldsNow, IsName, IsThere};
 ghost use Rattle.outside_io.specs.MemStores.{MemAppends, MemCreates, MemReads, MemStoreValue, after_fault, empty_store, files_of, is_listed, with_file, with_room};
 
-use crate::blame::{Kind, LastFault};
+use crate::blame::{FaultLog, Kind};
 use crate::entries::{add_to_file, content_of, make_file, raise_room, set_file};
 use crate::entry::Entry;
-use crate::limits::{MAX_FILE, MAX_NAME};
+use crate::limits::MAX_FILE;
 use crate::store::{Failed, ReadStop, Store};
 use design_model::Memory;
 use std::alloc::Global;
@@ -23,8 +23,7 @@ pub struct MemStore {
     entries: Vec<Entry>,
     failing: Vec<u64>,
     calls: u64,
-    faults: u64,
-    last: LastFault,
+    log: FaultLog,
 }
 
 impl Model for MemStore {
@@ -36,8 +35,8 @@ impl Model for MemStore {
       entries = s.entries.items;
       failing = s.failing.items;
       calls = s.calls;
-      faults = s.faults;
-      blame = s.last;
+      faults = s.log.count;
+      blame = s.log.last;
     } };
 }
 
@@ -51,8 +50,7 @@ impl MemStore {
             entries: Vec::new(alloc),
             failing: Vec::new(alloc),
             calls: 0,
-            faults: 0,
-            last: LastFault::none(),
+            log: FaultLog::new(),
         }
     }
 
@@ -105,15 +103,6 @@ impl MemStore {
         self.calls = self.calls.saturating_add(1);
         self.failing.contains(&self.calls)
     }
-
-    /// Notes that the call failed.
-    fn fail(&mut self, kind: Kind, name: &str)
-        requires { length name.now ≤ MAX_NAME }
-        ensures { self.new ≡ record self.old { faults = counted_on self.old.faults; blame = Some (record { kind = kind; name = name.now }) } }
-    {
-        self.faults = self.faults.saturating_add(1);
-        self.last.note(kind, name.as_bytes());
-    }
 }
 
 impl Store for MemStore {
@@ -136,7 +125,7 @@ impl Store for MemStore {
         ensures exact { MemReads self.old self.new name.now at buf.new result }
     {
         if self.begins_to_fail() {
-            self.fail(Kind::Read, name);
+            self.log.note(Kind::Read, name);
             return Err(ReadStop::Failed);
         }
         match content_of(self.entries.as_slice(), name.as_bytes()) {
@@ -154,7 +143,7 @@ impl Store for MemStore {
         ensures exact { MemCreates self.old self.new name.now result }
     {
         if self.begins_to_fail() || !make_file(self.entries.as_mut_slice(), name.as_bytes()) {
-            self.fail(Kind::Write, name);
+            self.log.note(Kind::Write, name);
             return Err(Failed);
         }
         Ok(())
@@ -172,7 +161,7 @@ impl Store for MemStore {
         if self.begins_to_fail()
             || !add_to_file(self.entries.as_mut_slice(), name.as_bytes(), bytes)
         {
-            self.fail(Kind::Write, name);
+            self.log.note(Kind::Write, name);
             return Err(Failed);
         }
         Ok(())

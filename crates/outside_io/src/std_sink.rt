@@ -4,6 +4,7 @@ ghost use Rattle.outside_io.specs.Counts.{counted_on};
 use crate::sink::Sink;
 use crate::store::Failed;
 use std::io::Write;
+use std::marker::Model;
 
 /// A stream of the system, as standard output, whose bytes the sink doesn't tell.
 #[derive(Drop)]
@@ -12,10 +13,18 @@ pub struct StdSink<W: Write + Drop> {
     faults: u64,
 }
 
+impl<W: Write + Drop> Model for StdSink<W> {
+    ghost use Rattle.std.specs.Prelude.{ℕ};
+
+    ghost Value = { ℕ };
+
+    ghost view = { λ s. s.faults };
+}
+
 impl<W: Write + Drop> StdSink<W> {
     /// A sink over that stream. No faults so far.
     pub fn new(writer: W) -> Self
-        ensures { result.faults ≡ 0 }
+        ensures { result ≡ 0 }
     {
         StdSink { writer, faults: 0 }
     }
@@ -24,7 +33,7 @@ impl<W: Write + Drop> StdSink<W> {
 impl<W: Write + Drop> Sink for StdSink<W> {
     ghost taken = { λ _. None };
 
-    ghost faults = { λ s. s.faults };
+    ghost faults = { λ s. s };
 
     fn put(&mut self, bytes: &[u8]) -> Result<(), Failed> {
         if write_all(&mut self.writer, bytes) {
