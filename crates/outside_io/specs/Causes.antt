@@ -37,13 +37,17 @@ WriteCause name faults_old faults_new blame_old blame_new (Ok _) =
 WriteCause name faults_old faults_new blame_old blame_new (Err _) =
     Faults faults_old faults_new blame_new (write_of name)
 
--- the first bytes of the buffer are those of the file from that offset on; none are given only at
--- the file's end, past it, or into an empty buffer
+-- so many first bytes of the buffer are those of the content from that offset on; there are none
+-- only at its end, past it, or in an empty buffer
+pub record ReadsOn (content : List ℕ) (offset : ℕ) (buffer : List ℕ) (count : ℕ) : Type 0 where
+  pub bytes : take count buffer ≡ take count (drop offset content)
+  pub left : count ≤ length (drop offset content)
+  pub some : offset < length content → 0 < length buffer → 0 < count
+
+-- there is a content, and so many first bytes of the buffer are its bytes from that offset on
 abbrev pub ReadsFrom : Option (List ℕ) → ℕ → List ℕ → ℕ → Type 0
 ReadsFrom None offset buffer count = ⊥
-ReadsFrom (Some content) offset buffer count =
-    (take count buffer ≡ take count (drop offset content)) × (count ≤ length (drop offset content))
-    × (offset < length content → 0 < length buffer → 0 < count)
+ReadsFrom (Some content) offset buffer count = ReadsOn content offset buffer count
 
 -- what an answer to a read tells of the file
 abbrev pub ReadGives : Option Files → List ℕ → ℕ → List ℕ → Result ℕ ReadStop → Type 0

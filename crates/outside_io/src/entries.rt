@@ -55,7 +55,11 @@ pub(crate) fn add_to_file(entries: &mut [Entry], name: &[u8], bytes: &[u8]) -> b
     match place_of(entries, name) {
         Some(place) => {
             let entry = &mut entries[place];
-            entry.add(bytes)
+            if !entry.fits(bytes) {
+                return false;
+            }
+            entry.add(bytes);
+            true
         }
         None => unreachable!(),
     }

@@ -79,18 +79,20 @@ impl Entry {
         self.is_made = true;
     }
 
-    /// Adds the bytes at the file's end where the room is large enough, and answers whether it was.
-    pub(crate) fn add(&mut self, bytes: &[u8]) -> bool
-        requires { IsSome self.old.content }
-        ensures fits { result ≡ nat_le (length (unwrap_or self.old.content []) + length bytes.now) self.old.room }
-        ensures added { self.new ≡ record self.old { content = Some (if result then unwrap_or self.old.content [] ++ bytes.now else unwrap_or self.old.content []) } }
+    /// The bytes have room behind the file's content.
+    pub(crate) fn fits(&self, bytes: &[u8]) -> bool
+        requires { IsSome self.now.content }
+        ensures { result ≡ nat_le (length (unwrap_or self.now.content []) + length bytes.now) self.now.room }
     {
-        if bytes.len() > self.room - self.content.len() {
-            return false;
-        }
-        match self.content.extend_from_slice(bytes) {
-            Ok(()) => true,
-            Err(_) => unreachable!(),
-        }
+        bytes.len() <= self.room - self.content.len()
+    }
+
+    /// Adds the bytes at the file's end.
+    pub(crate) fn add(&mut self, bytes: &[u8])
+        requires made { IsSome self.old.content }
+        requires fits { length (unwrap_or self.old.content []) + length bytes.now ≤ self.old.room }
+        ensures { self.new ≡ record self.old { content = Some (unwrap_or self.old.content [] ++ bytes.now) } }
+    {
+        self.content.extend_from_slice(bytes).unwrap();
     }
 }
