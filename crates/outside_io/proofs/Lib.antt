@@ -1,3 +1,4 @@
 pub mod EntryPlaces
 pub mod EntryFiles
 pub mod WholeFiles
+pub mod WholeAnswers

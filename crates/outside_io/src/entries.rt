@@ -32,9 +32,9 @@ pub(crate) fn content_of<'a>(entries: &'a [Entry], name: &[u8]) -> Option<&'a [u
 }
 
 /// Makes the file of that name empty where the name has room, and answers whether it has.
-pub(crate) fn make_file(entries: &mut [Entry], name: &[u8]) -> bool
-    ensures has_room { result ≡ is_some (room_in entries.old name.now) }
-    ensures made { entries.new ≡ (if result then with_content entries.old name.now [] else entries.old) }
+pub(crate) fn make_file(entries: &mut Vec<Entry>, name: &[u8]) -> bool
+    ensures has_room { result ≡ is_some (room_in entries.old.items name.now) }
+    ensures made { entries.new.items ≡ (if result then with_content entries.old.items name.now [] else entries.old.items) }
 {
     match place_of(entries, name) {
         Some(place) => {
@@ -47,10 +47,10 @@ pub(crate) fn make_file(entries: &mut [Entry], name: &[u8]) -> bool
 }
 
 /// Adds bytes at the end of the file of that name where they fit, and answers whether they do.
-pub(crate) fn add_to_file(entries: &mut [Entry], name: &[u8], bytes: &[u8]) -> bool
-    requires { IsSome (file_in entries.old name.now) }
-    ensures fits { result ≡ not (overflows entries.old name.now bytes.now) }
-    ensures added { entries.new ≡ (if result then with_content entries.old name.now (unwrap_or (file_in entries.old name.now) [] ++ bytes.now) else entries.old) }
+pub(crate) fn add_to_file(entries: &mut Vec<Entry>, name: &[u8], bytes: &[u8]) -> bool
+    requires { IsSome (file_in entries.old.items name.now) }
+    ensures fits { result ≡ not (overflows entries.old.items name.now bytes.now) }
+    ensures added { entries.new.items ≡ (if result then with_content entries.old.items name.now (unwrap_or (file_in entries.old.items name.now) [] ++ bytes.now) else entries.old.items) }
 {
     match place_of(entries, name) {
         Some(place) => {

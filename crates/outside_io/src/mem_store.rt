@@ -1,4 +1,4 @@
-ghost use Rattle.std.specs.Prelude.{◌≡◌, ℕ, ◌≤◌, ◌<◌, List, [], ◌∷◌, ◌++◌, length, Some, None, IfOk, IfSome, IfNone, OnOk, OnErr, min, take, drop};
+ghost use Rattle.std.specs.Prelude.{◌≡◌, ◌≢◌, ℕ, ◌≤◌, ◌<◌, List, [], ◌∷◌, ◌++◌, length, Some, None, IfOk, IfSome, IfNone, OnOk, OnErr, min, take, drop};
 ghost use Rattle.outside_io.specs.Blames.{Blame};
 ghost use Rattle.outside_io.specs.Causes.{ReadCause, ReadGives, WriteCause};
 ghost use Rattle.outside_io.specs.Counts.{counted_on};
@@ -58,9 +58,11 @@ impl MemStore {
     pub fn put_file(&mut self, name: &str, bytes: &[u8]) -> Result<(), Memory>
         ensures ok { OnOk result (self.new ≡ record self.old { entries = with_file self.old.entries name.now bytes.now }) }
         ensures file { OnOk result (files_of self.new name.now ≡ Some bytes.now) }
+        ensures others { (other : List ℕ) → other ≢ name.now → files_of self.new other ≡ files_of self.old other }
         ensures err { OnErr result (self.new ≡ self.old) }
     {
-        set_file(self.alloc, &mut self.entries, name.as_bytes(), bytes)
+        set_file(self.alloc, &mut self.entries, name.as_bytes(), bytes)?;
+        Ok(())
     }
 
     /// Raises the room of a name to `room` bytes. Files stay. A refusal changes nothing.
@@ -142,7 +144,7 @@ impl Store for MemStore {
         ensures cause { WriteCause name.now self.old.faults self.new.faults self.old.blame self.new.blame result }
         ensures exact { MemCreates self.old self.new name.now result }
     {
-        if self.begins_to_fail() || !make_file(self.entries.as_mut_slice(), name.as_bytes()) {
+        if self.begins_to_fail() || !make_file(&mut self.entries, name.as_bytes()) {
             self.log.note(Kind::Write, name);
             return Err(Failed);
         }
@@ -159,7 +161,7 @@ impl Store for MemStore {
         ensures exact { MemAppends self.old self.new name.now bytes.now result }
     {
         if self.begins_to_fail()
-            || !add_to_file(self.entries.as_mut_slice(), name.as_bytes(), bytes)
+            || !add_to_file(&mut self.entries, name.as_bytes(), bytes)
         {
             self.log.note(Kind::Write, name);
             return Err(Failed);
