@@ -1,11 +1,11 @@
 -- Where no count rises, the file decides what the reading of it answers.
-use Rattle.std.proofs.Common.{◌≡◌, ◌≢◌, ℕ, ◌<◌, ◌≤◌, List, length, Some, None, Ok, Err, Option, Result, true, false, refl, sym, ◌∙◌, ap, arith, inl, inr, ◌⊎◌}
+use Rattle.std.proofs.Common.{◌≡◌, ℕ, ◌≤◌, List, length, Some, None, Ok, Err, Option, Result, true, false, refl, sym, ◌∙◌, ap, arith, inl, inr}
 use Rattle.std.specs.Bool.{nat_le}
 use Rattle.outside_io.specs.declared.whole_files.GetFault.{GetFault}
 use Rattle.outside_io.specs.declared.whole_files.GetFault.TheVariants as fault
 use Rattle.outside_io.specs.Blames.{Blame}
 use Rattle.outside_io.specs.Causes.{ReadsWhole, GivesOrMemory, whole_answer, IsLonger}
-use Rattle.outside_io.specs.Counts.{GREATEST_COUNT, Rose, IsQuiet}
+use Rattle.outside_io.specs.Counts.{Rose, IsQuiet}
 use Rattle.outside_io.specs.Files.{Files, WhereTold}
 
 -- a count that is quiet didn't rise
@@ -25,8 +25,8 @@ longer_answer (Some content) limit longer =
 
 -- each answer that can come then is the file's, or want of memory
 pub decided : (files : Option Files) (name : List ℕ) (limit f g : ℕ) (b c : Option Blame) (result : Result (List ℕ) GetFault) →
-  ReadsWhole files name limit f g b c result → IsQuiet f g →
-  WhereTold files (λ told. GivesOrMemory (whole_answer (told name) limit) result)
+    ReadsWhole files name limit f g b c result → IsQuiet f g →
+    WhereTold files (λ told. GivesOrMemory (whole_answer (told name) limit) result)
 decided files name limit f g b c (Ok bytes) reads still told is =
     inl (sym (ap (λ file. whole_answer file limit) (reads.1 told is) ∙ short_answer bytes limit reads.0))
 decided files name limit f g b c (Err fault.Missing) reads still told is =

@@ -1,5 +1,5 @@
 -- Where an entry stands among the entries of a store in memory.
-use Rattle.std.specs.Prelude.{◌≡◌, ℕ, ◌<◌, List, [], ◌∷◌, ◌++◌, length, Some, None, slice_get, slice_set, IfSome}
+use Rattle.std.specs.Prelude.{◌≡◌, ℕ, ◌<◌, List, [], ◌∷◌, ◌++◌, length, None, slice_get, slice_set, IfSome}
 use Rattle.outside_io.specs.MemStores.{EntryValue, entry_in, put_in}
 
 -- the entry of that name stands at that index: it is found there, and replaced there

@@ -77,7 +77,8 @@ impl MemStore {
             &mut self.entries,
             name.as_bytes(),
             room as usize,
-        )
+        )?;
+        Ok(())
     }
 
     /// The content of the named file.
@@ -160,9 +161,7 @@ impl Store for MemStore {
         ensures cause { WriteCause name.now self.old.faults self.new.faults self.old.blame self.new.blame result }
         ensures exact { MemAppends self.old self.new name.now bytes.now result }
     {
-        if self.begins_to_fail()
-            || !add_to_file(&mut self.entries, name.as_bytes(), bytes)
-        {
+        if self.begins_to_fail() || !add_to_file(&mut self.entries, name.as_bytes(), bytes) {
             self.log.note(Kind::Write, name);
             return Err(Failed);
         }

@@ -1,4 +1,4 @@
-use Rattle.std.proofs.Common.{◌≡◌, ℕ, ◌≤◌, List, Option, Some, ◌+◌, ◌-◌, length, take}
+use Rattle.std.proofs.Common.{◌≡◌, ℕ, ◌≤◌, List, Some, ◌+◌, ◌-◌, length, take}
 use Rattle.outside_io.specs.Causes.{Stays}
 use Rattle.outside_io.specs.Files.{WhereTold}
 use Rattle.outside_io.proofs.whole_files.read_in_order.Given as goal

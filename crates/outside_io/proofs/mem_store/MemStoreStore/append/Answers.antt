@@ -13,9 +13,9 @@ pub returns-clause-added : goal.returns-clause-added
 returns-clause-added c =
     let made : c.add_to_file.new.entries.items ≡ with_content c.args.self.now.entries c.args.name.now (unwrap_or (file_in c.args.self.now.entries c.args.name.now) [] ++ c.args.bytes.now) = search rules in
     λ content holds.
-      where_told _ _
-      (file_in-with_content _ _ _ _ made
-        ∙ ap (λ file. Some (unwrap_or file [] ++ c.args.bytes.now)) (holds _ refl))
+    where_told _ _
+    (file_in-with_content _ _ _ _ made
+    ∙ ap (λ file. Some (unwrap_or file [] ++ c.args.bytes.now)) (holds _ refl))
 
 pub returns-clause-others : goal.returns-clause-others
 returns-clause-others c =
