@@ -1,5 +1,5 @@
 -- Files: the bytes under each name. A store tells its files, or leaves them untold.
-use Rattle.std.specs.Prelude.{◌≡◌, ◌≢◌, ℕ, ◌≤◌, List, length, Option, Some, None, IsSome}
+use Rattle.std.specs.Prelude.{◌≡◌, ◌≢◌, ℕ, ◌≤◌, List, ◌++◌, length, Option, Some, None, IsSome}
 use Rattle.outside_io.specs.declared.limits.TheConstants.{MAX_NAME}
 
 -- the content of the file of each name, where there is one
@@ -22,6 +22,11 @@ IsThere files name = WhereTold files (λ told. IsSome (told name))
 -- where the files are told, the one of that name holds these bytes
 abbrev pub HoldsNow : Option Files → List ℕ → List ℕ → Type 0
 HoldsNow files name content = WhereTold files (λ told. told name ≡ Some content)
+
+-- where the files are told, the bytes stand behind whatever content the named file had
+abbrev pub Adds : Option Files → Option Files → List ℕ → List ℕ → Type 0
+Adds old new name bytes =
+    (content : List ℕ) → HoldsNow old name content → HoldsNow new name (content ++ bytes)
 
 -- the files are told, and none has that name
 pub record Lacks (files : Option Files) (name : List ℕ) : Type 0 where

@@ -61,6 +61,10 @@ abbrev pub with_content : List EntryValue → List ℕ → List ℕ → List Ent
 with_content entries name content =
     put_in entries (record { name = name; content = Some content; room = unwrap_or (room_in entries name) 0 })
 
+-- the entries where these bytes stand behind the content of the file of that name
+abbrev pub with_added : List EntryValue → List ℕ → List ℕ → List EntryValue
+with_added entries name bytes = with_content entries name (unwrap_or (file_in entries name) [] ++ bytes)
+
 -- the entries where the file of that name has this content, and room for it
 abbrev pub with_file : List EntryValue → List ℕ → List ℕ → List EntryValue
 with_file entries name content =
@@ -79,6 +83,10 @@ is_listed failing calls = list_any (λ n. n == counted_on calls) failing
 abbrev pub overflows : List EntryValue → List ℕ → List ℕ → Bool
 overflows entries name bytes =
     nat_lt (unwrap_or (room_in entries name) 0) (length (unwrap_or (file_in entries name) []) + length bytes)
+
+-- the same store with these entries
+abbrev pub with_entries : MemStoreValue → List EntryValue → MemStoreValue
+with_entries store entries = record store { entries = entries }
 
 -- the store after a call that didn't fail, and left these entries
 abbrev pub after_call : MemStoreValue → List EntryValue → MemStoreValue
@@ -116,7 +124,7 @@ MemCreates old new name (Err _) =
 abbrev pub MemAppends : {T : Type 0} → MemStoreValue → MemStoreValue → List ℕ → List ℕ → Result T Failed → Type 0
 MemAppends old new name bytes (Ok _) =
     ((is_listed old.failing old.calls || overflows old.entries name bytes) ≡ false)
-    × (new ≡ after_call old (with_content old.entries name (unwrap_or (files_of old name) [] ++ bytes)))
+    × (new ≡ after_call old (with_added old.entries name bytes))
 MemAppends old new name bytes (Err _) =
     ((is_listed old.failing old.calls || overflows old.entries name bytes) ≡ true)
     × (new ≡ after_fault old (write_of name))

@@ -1,7 +1,6 @@
 ghost use Rattle.std.specs.Prelude.{◌≡◌, ◌≤◌, length, Some};
-ghost use Rattle.outside_io.specs.Blames.{no_faults};
+ghost use Rattle.outside_io.specs.Blames.{call_of, no_faults, noted};
 ghost use Rattle.outside_io.specs.Causes.{Faults};
-ghost use Rattle.outside_io.specs.Counts.{counted_on};
 
 use crate::limits::MAX_NAME;
 use arrayvec::ArrayVec;
@@ -50,8 +49,8 @@ impl FaultLog {
     /// Notes that a call of that kind on that name failed.
     pub(crate) fn note(&mut self, kind: Kind, name: &str)
         requires { length name.now ≤ MAX_NAME }
-        ensures value { self.new ≡ record { count = counted_on self.old.count; last = Some (record { kind = kind; name = name.now }) } }
-        ensures cause { Faults self.old.count self.new.count self.new.last (record { kind = kind; name = name.now }) }
+        ensures value { self.new ≡ noted self.old (call_of kind name.now) }
+        ensures cause { Faults self.old.count self.new.count self.new.last (call_of kind name.now) }
     {
         self.count = self.count.saturating_add(1);
         self.kind = Some(kind);

@@ -4,8 +4,8 @@ ghost use Rattle.outside_io.specs.Counts.{counted_on};
 
 use crate::blame::{FaultLog, Kind};
 use crate::limits::MAX_NAME;
-use crate::std_sink::write_all;
 use crate::store::{Failed, ReadStop, Store};
+use crate::writing::write_all;
 use arrayvec::ArrayVec;
 use std::fs::File;
 use std::io::{Read, Seek, SeekFrom, Write};
@@ -59,7 +59,7 @@ impl<'a, R: Files> Store for DirStore<'a, R> {
     ghost blame = { λ s. s.last };
 
     fn read_at(&mut self, name: &str, at: u64, buf: &mut [u8]) -> Result<usize, ReadStop> {
-        match read_from(self.rt, name, at, buf) {
+        match read_from(self.rt, &mut self.opened, name, at, buf) {
             Ok(count) => Ok(count),
             Err(_) => {
                 self.log.note(Kind::Read, name);
@@ -69,6 +69,7 @@ impl<'a, R: Files> Store for DirStore<'a, R> {
     }
 
     fn create(&mut self, name: &str) -> Result<(), Failed> {
+        self.opened = None;
         match fs::create(self.rt, name) {
             Ok(_) => Ok(()),
             Err(_) => {
@@ -79,6 +80,7 @@ impl<'a, R: Files> Store for DirStore<'a, R> {
     }
 
     fn append(&mut self, name: &str, bytes: &[u8]) -> Result<(), Failed> {
+        self.opened = None;
         match add_to_file(self.rt, name, bytes) {
             Ok(()) => Ok(()),
             Err(_) => {
@@ -89,14 +91,63 @@ impl<'a, R: Files> Store for DirStore<'a, R> {
     }
 }
 
-fn read_from<R: Files>(rt: &R, name: &str, at: u64, buf: &mut [u8]) -> io::Result<usize>
+/// Reads on where the opened file stands there, and else from a file that it opens. A file that gave
+/// bytes is kept open.
+fn read_from<R: Files>(
+    rt: &R,
+    opened: &mut Option<Opened<R::File>>,
+    name: &str,
+    at: u64,
+    buf: &mut [u8],
+) -> io::Result<usize>
+    requires { length name.now ≤ MAX_NAME }
     ensures { IfOk result (λ count. count ≤ length buf.new) }
 {
-    let mut file = fs::open(rt, name)?;
-    file.seek(SeekFrom::Start(at))?;
-    file.read(buf)
+    let mut reading = match opened.take() {
+        Some(before) => stand_at(rt, before, name, at)?,
+        None => open_at(rt, name, at)?,
+    };
+    let count = reading.file.read(buf)?;
+    if count > 0 {
+        reading.at = at.saturating_add(count as u64);
+        *opened = Some(reading);
+    }
+    Ok(count)
 }
 
+/// The opened file where it stands there, and else a file that is opened.
+fn stand_at<R: Files>(
+    rt: &R,
+    before: Opened<R::File>,
+    name: &str,
+    at: u64,
+) -> io::Result<Opened<R::File>>
+    requires { length name.now ≤ MAX_NAME }
+{
+    if before.at == at && before.name.as_slice() == name.as_bytes() {
+        Ok(before)
+    } else {
+        open_at(rt, name, at)
+    }
+}
+
+fn open_at<R: Files>(rt: &R, name: &str, at: u64) -> io::Result<Opened<R::File>>
+    requires { length name.now ≤ MAX_NAME }
+{
+    let mut file = fs::open(rt, name)?;
+    if at > 0 {
+        file.seek(SeekFrom::Start(at))?;
+    }
+    let mut kept = ArrayVec::new();
+    kept.try_extend_from_slice(name.as_bytes()).unwrap();
+    Ok(Opened {
+        name: kept,
+        file,
+        at,
+    })
+}
+
+/// Adds all the bytes at the end of a file that is there.
 fn add_to_file<R: Files>(rt: &R, name: &str, bytes: &[u8]) -> io::Result<()> {
     let mut options = File::options();
     options.append(true);

@@ -1,6 +1,5 @@
-ghost use Rattle.std.specs.Prelude.{◌≡◌, ◌<◌, ◌++◌, ◌∷◌, [], not, Some, None, IfSome, IfNone, OnOk, OnErr, is_some, IsSome, unwrap_or, if◌then◌else◌};
-ghost use Rattle.std.specs.List.{position};
-ghost use Rattle.outside_io.specs.MemStores.{file_in, overflows, room_in, with_content, with_file, with_room};
+ghost use Rattle.std.specs.Prelude.{◌≡◌, [], not, Some, None, IfSome, IfNone, OnOk, OnErr, is_some, IsSome, if◌then◌else◌};
+ghost use Rattle.outside_io.specs.MemStores.{file_in, overflows, room_in, with_added, with_content, with_file, with_room};
 ghost use Rattle.outside_io.specs.Places.{IsFree, IsPlace};
 
 use crate::entry::Entry;
@@ -50,7 +49,7 @@ pub(crate) fn make_file(entries: &mut Vec<Entry>, name: &[u8]) -> bool
 pub(crate) fn add_to_file(entries: &mut Vec<Entry>, name: &[u8], bytes: &[u8]) -> bool
     requires { IsSome (file_in entries.old.items name.now) }
     ensures fits { result ≡ not (overflows entries.old.items name.now bytes.now) }
-    ensures added { entries.new.items ≡ (if result then with_content entries.old.items name.now (unwrap_or (file_in entries.old.items name.now) [] ++ bytes.now) else entries.old.items) }
+    ensures added { entries.new.items ≡ (if result then with_added entries.old.items name.now bytes.now else entries.old.items) }
 {
     match place_of(entries, name) {
         Some(place) => {

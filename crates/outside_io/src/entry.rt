@@ -42,12 +42,14 @@ impl Entry {
         })
     }
 
+    /// The name is this one.
     pub(crate) fn is_named(&self, name: &[u8]) -> bool
         ensures { result ≡ bytes_eq self.now.name name.now }
     {
         self.name.as_slice() == name
     }
 
+    /// The content of the file, where there is one.
     pub(crate) fn content(&self) -> Option<&[u8]>
         ensures some { IfSome result (λ content. self.now.content ≡ Some content.now) }
         ensures none { IfNone result (self.now.content ≡ None) }

@@ -13,6 +13,7 @@ mod sink;
 mod std_sink;
 mod store;
 mod whole_files;
+mod writing;
 
 pub use blame::Kind;
 pub use dir_store::DirStore;

@@ -1,9 +1,9 @@
-ghost use Rattle.std.specs.Prelude.{◌≡◌, ◌≢◌, ℕ, ◌≤◌, ◌<◌, List, [], ◌∷◌, ◌++◌, length, Some, None, IfOk, IfSome, IfNone, OnOk, OnErr, min, take, drop};
+ghost use Rattle.std.specs.Prelude.{◌≡◌, ℕ, ◌≤◌, ◌<◌, List, [], ◌∷◌, ◌++◌, length, Some, None, IfOk, IfSome, IfNone, OnOk, OnErr, min, take, drop};
 ghost use Rattle.outside_io.specs.Blames.{Blame};
 ghost use Rattle.outside_io.specs.Causes.{ReadCause, ReadGives, WriteCause};
 ghost use Rattle.outside_io.specs.Counts.{counted_on};
-ghost use Rattle.outside_io.specs.Files.{ChangesOnly, HoldsNow, IsName, IsThere};
-ghost use Rattle.outside_io.specs.MemStores.{MemAppends, MemCreates, MemReads, MemStoreValue, after_fault, empty_store, files_of, is_listed, with_file, with_room};
+ghost use Rattle.outside_io.specs.Files.{Adds, ChangesOnly, HoldsNow, IsName, IsThere};
+ghost use Rattle.outside_io.specs.MemStores.{MemAppends, MemCreates, MemReads, MemStoreValue, after_fault, empty_store, files_of, is_listed, with_entries, with_file, with_room};
 
 use crate::blame::{FaultLog, Kind};
 use crate::entries::{add_to_file, content_of, make_file, raise_room, set_file};
@@ -56,9 +56,9 @@ impl MemStore {
 
     /// Sets one file, and raises the room of its name to its length. A refusal changes nothing.
     pub fn put_file(&mut self, name: &str, bytes: &[u8]) -> Result<(), Memory>
-        ensures ok { OnOk result (self.new ≡ record self.old { entries = with_file self.old.entries name.now bytes.now }) }
+        ensures ok { OnOk result (self.new ≡ with_entries self.old (with_file self.old.entries name.now bytes.now)) }
         ensures file { OnOk result (files_of self.new name.now ≡ Some bytes.now) }
-        ensures others { (other : List ℕ) → other ≢ name.now → files_of self.new other ≡ files_of self.old other }
+        ensures others { ChangesOnly (Some (files_of self.old)) (Some (files_of self.new)) name.now }
         ensures err { OnErr result (self.new ≡ self.old) }
     {
         set_file(self.alloc, &mut self.entries, name.as_bytes(), bytes)?;
@@ -68,7 +68,7 @@ impl MemStore {
     /// Raises the room of a name to `room` bytes. Files stay. A refusal changes nothing.
     pub fn prepare(&mut self, name: &str, room: u32) -> Result<(), Memory>
         requires { room ≤ MAX_FILE }
-        ensures ok { OnOk result (self.new ≡ record self.old { entries = with_room self.old.entries name.now room }) }
+        ensures ok { OnOk result (self.new ≡ with_entries self.old (with_room self.old.entries name.now room)) }
         ensures files { (other : List ℕ) → files_of self.new other ≡ files_of self.old other }
         ensures err { OnErr result (self.new ≡ self.old) }
     {
@@ -156,7 +156,7 @@ impl Store for MemStore {
     fn append(&mut self, name: &str, bytes: &[u8]) -> Result<(), Failed>
         requires name { IsName name.now }
         requires there { IsThere (Some (files_of self.old)) name.now }
-        ensures added { OnOk result ((content : List ℕ) → HoldsNow (Some (files_of self.old)) name.now content → HoldsNow (Some (files_of self.new)) name.now (content ++ bytes.now)) }
+        ensures added { OnOk result (Adds (Some (files_of self.old)) (Some (files_of self.new)) name.now bytes.now) }
         ensures others { ChangesOnly (Some (files_of self.old)) (Some (files_of self.new)) name.now }
         ensures cause { WriteCause name.now self.old.faults self.new.faults self.old.blame self.new.blame result }
         ensures exact { MemAppends self.old self.new name.now bytes.now result }

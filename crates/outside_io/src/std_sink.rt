@@ -3,6 +3,7 @@ ghost use Rattle.outside_io.specs.Counts.{counted_on};
 
 use crate::sink::Sink;
 use crate::store::Failed;
+use crate::writing::write_all;
 use std::io::Write;
 use std::marker::Model;
 
@@ -42,16 +43,4 @@ impl<W: Write + Drop> Sink for StdSink<W> {
         self.faults = self.faults.saturating_add(1);
         Err(Failed)
     }
-}
-
-/// Writes all the bytes, and answers whether the stream took them. A write that takes nothing fails.
-pub(crate) fn write_all<W: Write>(writer: &mut W, bytes: &[u8]) -> bool {
-    let mut rest = bytes;
-    while !rest.is_empty() {
-        match writer.write(rest) {
-            Ok(0) | Err(_) => return false,
-            Ok(count) => rest = &rest[count..],
-        }
-    }
-    true
 }

@@ -1,7 +1,7 @@
-ghost use Rattle.std.specs.Prelude.{◌≡◌, ℕ, ◌≤◌, List, [], ◌++◌, length, Option, IfOk, OnOk};
+ghost use Rattle.std.specs.Prelude.{◌≡◌, ℕ, ◌≤◌, [], length, Option, IfOk, OnOk};
 ghost use Rattle.outside_io.specs.Blames.{Blame};
 ghost use Rattle.outside_io.specs.Causes.{ReadCause, ReadGives, WriteCause};
-ghost use Rattle.outside_io.specs.Files.{ChangesOnly, Files, HoldsNow, IsName, IsThere};
+ghost use Rattle.outside_io.specs.Files.{Adds, ChangesOnly, Files, HoldsNow, IsName, IsThere};
 
 use crate::limits::MAX_FILE;
 
@@ -37,20 +37,23 @@ pub trait Store {
         ensures same { files self.new ≡ files self.old }
         ensures bound { IfOk result (λ count. count ≤ length buf.new) }
         ensures gives { ReadGives (files self.old) name.now at buf.new result }
-        ensures cause { ReadCause name.now (faults self.old) (faults self.new) (blame self.old) (blame self.new) result };
+        ensures cause { ReadCause name.now (faults self.old) (faults self.new)
+            (blame self.old) (blame self.new) result };
 
     /// Makes the named file empty, whether or not it was there.
     fn create(&mut self, name: &str) -> Result<(), Failed>
         requires name { IsName name.now }
         ensures empty { OnOk result (HoldsNow (files self.new) name.now []) }
         ensures others { ChangesOnly (files self.old) (files self.new) name.now }
-        ensures cause { WriteCause name.now (faults self.old) (faults self.new) (blame self.old) (blame self.new) result };
+        ensures cause { WriteCause name.now (faults self.old) (faults self.new)
+            (blame self.old) (blame self.new) result };
 
     /// Adds all the bytes at the end of the named file, which is there.
     fn append(&mut self, name: &str, bytes: &[u8]) -> Result<(), Failed>
         requires name { IsName name.now }
         requires there { IsThere (files self.old) name.now }
-        ensures added { OnOk result ((content : List ℕ) → HoldsNow (files self.old) name.now content → HoldsNow (files self.new) name.now (content ++ bytes.now)) }
+        ensures added { OnOk result (Adds (files self.old) (files self.new) name.now bytes.now) }
         ensures others { ChangesOnly (files self.old) (files self.new) name.now }
-        ensures cause { WriteCause name.now (faults self.old) (faults self.new) (blame self.old) (blame self.new) result };
+        ensures cause { WriteCause name.now (faults self.old) (faults self.new)
+            (blame self.old) (blame self.new) result };
 }

@@ -44,10 +44,12 @@ pub fn read_whole<S: Store>(
 ) -> Result<Bytes, GetFault>
     requires name { IsName name.now }
     requires limit { limit ≤ MAX_FILE }
-    ensures reads { ReadsWhole (S.files store.old) name.now limit (S.faults store.old) (S.faults store.new) (S.blame store.old) (S.blame store.new) result }
+    ensures reads { ReadsWhole (S.files store.old) name.now limit (S.faults store.old) (S.faults store.new)
+        (S.blame store.old) (S.blame store.new) result }
     ensures same { S.files store.new ≡ S.files store.old }
     // Where no count rises, the file decides, or want of memory comes.
-    ensures decided { IsQuiet (S.faults store.old) (S.faults store.new) → WhereTold (S.files store.old) (λ told. GivesOrMemory (whole_answer (told name.now) limit) result) }
+    ensures decided { IsQuiet (S.faults store.old) (S.faults store.new) →
+        WhereTold (S.files store.old) (λ told. GivesOrMemory (whole_answer (told name.now) limit) result) }
 {
     read_in_order(alloc, store, name, limit)
 }
@@ -60,7 +62,8 @@ fn read_in_order<S: Store>(
 ) -> Result<Bytes, GetFault>
     requires name { IsName name.now }
     requires limit { limit ≤ MAX_FILE }
-    ensures reads { ReadsWhole (S.files store.old) name.now limit (S.faults store.old) (S.faults store.new) (S.blame store.old) (S.blame store.new) result }
+    ensures reads { ReadsWhole (S.files store.old) name.now limit (S.faults store.old) (S.faults store.new)
+        (S.blame store.old) (S.blame store.new) result }
     ensures same { S.files store.new ≡ S.files store.old }
 {
     let mut bytes = Bytes::new(alloc);
