@@ -1,3 +1,6 @@
+mod CountFacts
+mod CauseFacts
+mod MemoryFacts
 pub mod EntryPlaces
 pub mod EntryFiles
 pub mod WholeFiles

@@ -12,6 +12,8 @@ mod mem_store;
 mod sink;
 mod std_sink;
 mod store;
+#[cfg(test)]
+mod tests;
 mod whole_files;
 mod writing;
 
