@@ -6,6 +6,7 @@ use Rattle.outside_io.specs.declared.store.Failed.{Failed}
 use Rattle.outside_io.specs.declared.store.ReadStop.{ReadStop}
 use Rattle.outside_io.specs.declared.store.ReadStop.TheVariants as stop
 use Rattle.outside_io.specs.Blames.{Blame, read_of, write_of}
+use Rattle.outside_io.specs.Causes.{ReadCause, WriteCause}
 use Rattle.outside_io.specs.Counts.{counted_on}
 use Rattle.outside_io.specs.Files.{Files}
 
@@ -44,9 +45,13 @@ abbrev pub put_in : List EntryValue → EntryValue → List EntryValue
 put_in [] entry = entry ∷ []
 put_in (e ∷ rest) entry = if bytes_eq e.name entry.name then entry ∷ rest else e ∷ put_in rest entry
 
--- the files of a store, which it tells
+-- the files of a store
 abbrev pub files_of : MemStoreValue → Files
 files_of store name = file_in store.entries name
+
+-- what the store tells: all its files
+abbrev pub told_by : MemStoreValue → Option Files
+told_by store = Some (files_of store)
 
 -- the room of each name
 abbrev pub rooms_of : MemStoreValue → List ℕ → Option ℕ
@@ -84,9 +89,13 @@ abbrev pub overflows : List EntryValue → List ℕ → List ℕ → Bool
 overflows entries name bytes =
     nat_lt (unwrap_or (room_in entries name) 0) (length (unwrap_or (file_in entries name) []) + length bytes)
 
--- the same store with these entries
-abbrev pub with_entries : MemStoreValue → List EntryValue → MemStoreValue
-with_entries store entries = record store { entries = entries }
+-- the store after the file of that name was set
+abbrev pub file_set : MemStoreValue → List ℕ → List ℕ → MemStoreValue
+file_set store name content = record store { entries = with_file store.entries name content }
+
+-- the store after the room of that name was raised
+abbrev pub room_raised : MemStoreValue → List ℕ → ℕ → MemStoreValue
+room_raised store name room = record store { entries = with_room store.entries name room }
 
 -- the store after a call that didn't fail, and left these entries
 abbrev pub after_call : MemStoreValue → List EntryValue → MemStoreValue
@@ -99,6 +108,14 @@ after_fault store call = record store {
   faults = counted_on store.faults;
   blame = Some call;
 }
+
+-- what a read does to the faults of a store
+abbrev pub MemReadCause : {T : Type 0} → List ℕ → MemStoreValue → MemStoreValue → Result T ReadStop → Type 0
+MemReadCause name old new result = ReadCause name old.faults new.faults old.blame new.blame result
+
+-- what a write does to the faults of a store
+abbrev pub MemWriteCause : {T : Type 0} → List ℕ → MemStoreValue → MemStoreValue → Result T Failed → Type 0
+MemWriteCause name old new result = WriteCause name old.faults new.faults old.blame new.blame result
 
 -- what each answer to a read means; it fails where its number is listed, and nowhere else
 abbrev pub MemReads : MemStoreValue → MemStoreValue → List ℕ → ℕ → List ℕ → Result ℕ ReadStop → Type 0

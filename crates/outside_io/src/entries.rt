@@ -1,4 +1,5 @@
-ghost use Rattle.std.specs.Prelude.{◌≡◌, [], not, Some, None, IfSome, IfNone, OnOk, OnErr, is_some, IsSome, if◌then◌else◌};
+ghost use Rattle.std.specs.Prelude.{◌≡◌, [], not, Some, None, IfSome, IfNone, OnOk, OnErr, is_some, IsSome};
+ghost use Rattle.std.specs.Bool.{OnTrue, OnFalse};
 ghost use Rattle.outside_io.specs.MemStores.{file_in, overflows, room_in, with_added, with_content, with_file, with_room};
 ghost use Rattle.outside_io.specs.Places.{IsFree, IsPlace};
 
@@ -33,7 +34,8 @@ pub(crate) fn content_of<'a>(entries: &'a [Entry], name: &[u8]) -> Option<&'a [u
 /// Makes the file of that name empty where the name has room, and answers whether it has.
 pub(crate) fn make_file(entries: &mut Vec<Entry>, name: &[u8]) -> bool
     ensures has_room { result ≡ is_some (room_in entries.old.items name.now) }
-    ensures made { entries.new.items ≡ (if result then with_content entries.old.items name.now [] else entries.old.items) }
+    ensures made { OnTrue result (entries.new.items ≡ with_content entries.old.items name.now []) }
+    ensures kept { OnFalse result (entries.new.items ≡ entries.old.items) }
 {
     match place_of(entries, name) {
         Some(place) => {
@@ -49,7 +51,8 @@ pub(crate) fn make_file(entries: &mut Vec<Entry>, name: &[u8]) -> bool
 pub(crate) fn add_to_file(entries: &mut Vec<Entry>, name: &[u8], bytes: &[u8]) -> bool
     requires { IsSome (file_in entries.old.items name.now) }
     ensures fits { result ≡ not (overflows entries.old.items name.now bytes.now) }
-    ensures added { entries.new.items ≡ (if result then with_added entries.old.items name.now bytes.now else entries.old.items) }
+    ensures added { OnTrue result (entries.new.items ≡ with_added entries.old.items name.now bytes.now) }
+    ensures kept { OnFalse result (entries.new.items ≡ entries.old.items) }
 {
     match place_of(entries, name) {
         Some(place) => {

@@ -1,9 +1,9 @@
 ghost use Rattle.std.specs.Prelude.{◌≡◌, ℕ, ◌≤◌, ◌<◌, List, [], ◌∷◌, ◌++◌, length, Some, None, IfOk, IfSome, IfNone, OnOk, OnErr, min, take, drop};
 ghost use Rattle.outside_io.specs.Blames.{Blame};
-ghost use Rattle.outside_io.specs.Causes.{ReadCause, ReadGives, WriteCause};
+ghost use Rattle.outside_io.specs.Causes.{ReadGives};
 ghost use Rattle.outside_io.specs.Counts.{counted_on};
 ghost use Rattle.outside_io.specs.Files.{Adds, ChangesOnly, HoldsNow, IsName, IsThere};
-ghost use Rattle.outside_io.specs.MemStores.{MemAppends, MemCreates, MemReads, MemStoreValue, after_fault, empty_store, files_of, is_listed, with_entries, with_file, with_room};
+ghost use Rattle.outside_io.specs.MemStores.{MemAppends, MemCreates, MemReadCause, MemReads, MemWriteCause, empty_store, file_set, files_of, is_listed, room_raised, told_by};
 
 use crate::blame::{FaultLog, Kind};
 use crate::entries::{add_to_file, content_of, make_file, raise_room, set_file};
@@ -56,9 +56,9 @@ impl MemStore {
 
     /// Sets one file, and raises the room of its name to its length. A refusal changes nothing.
     pub fn put_file(&mut self, name: &str, bytes: &[u8]) -> Result<(), Memory>
-        ensures ok { OnOk result (self.new ≡ with_entries self.old (with_file self.old.entries name.now bytes.now)) }
+        ensures ok { OnOk result (self.new ≡ file_set self.old name.now bytes.now) }
         ensures file { OnOk result (files_of self.new name.now ≡ Some bytes.now) }
-        ensures others { ChangesOnly (Some (files_of self.old)) (Some (files_of self.new)) name.now }
+        ensures others { ChangesOnly (told_by self.old) (told_by self.new) name.now }
         ensures err { OnErr result (self.new ≡ self.old) }
     {
         set_file(self.alloc, &mut self.entries, name.as_bytes(), bytes)?;
@@ -68,7 +68,7 @@ impl MemStore {
     /// Raises the room of a name to `room` bytes. Files stay. A refusal changes nothing.
     pub fn prepare(&mut self, name: &str, room: u32) -> Result<(), Memory>
         requires { room ≤ MAX_FILE }
-        ensures ok { OnOk result (self.new ≡ with_entries self.old (with_room self.old.entries name.now room)) }
+        ensures ok { OnOk result (self.new ≡ room_raised self.old name.now room) }
         ensures files { (other : List ℕ) → files_of self.new other ≡ files_of self.old other }
         ensures err { OnErr result (self.new ≡ self.old) }
     {
@@ -109,9 +109,9 @@ impl MemStore {
 }
 
 impl Store for MemStore {
-    ghost use Rattle.outside_io.specs.MemStores.{files_of};
+    ghost use Rattle.outside_io.specs.MemStores.{told_by};
 
-    ghost files = { λ s. Some (files_of s) };
+    ghost files = { told_by };
 
     ghost faults = { λ s. s.faults };
 
@@ -121,10 +121,10 @@ impl Store for MemStore {
     fn read_at(&mut self, name: &str, at: u64, buf: &mut [u8]) -> Result<usize, ReadStop>
         requires name { IsName name.now }
         requires offset { at ≤ MAX_FILE }
-        ensures same { files_of self.new ≡ files_of self.old }
+        ensures same { told_by self.new ≡ told_by self.old }
         ensures bound { IfOk result (λ count. count ≤ length buf.new) }
-        ensures gives { ReadGives (Some (files_of self.old)) name.now at buf.new result }
-        ensures cause { ReadCause name.now self.old.faults self.new.faults self.old.blame self.new.blame result }
+        ensures gives { ReadGives (told_by self.old) name.now at buf.new result }
+        ensures cause { MemReadCause name.now self.old self.new result }
         ensures exact { MemReads self.old self.new name.now at buf.new result }
     {
         if self.begins_to_fail() {
@@ -140,9 +140,9 @@ impl Store for MemStore {
     /// Makes the file empty, where the name has room.
     fn create(&mut self, name: &str) -> Result<(), Failed>
         requires name { IsName name.now }
-        ensures empty { OnOk result (HoldsNow (Some (files_of self.new)) name.now []) }
-        ensures others { ChangesOnly (Some (files_of self.old)) (Some (files_of self.new)) name.now }
-        ensures cause { WriteCause name.now self.old.faults self.new.faults self.old.blame self.new.blame result }
+        ensures empty { OnOk result (HoldsNow (told_by self.new) name.now []) }
+        ensures others { ChangesOnly (told_by self.old) (told_by self.new) name.now }
+        ensures cause { MemWriteCause name.now self.old self.new result }
         ensures exact { MemCreates self.old self.new name.now result }
     {
         if self.begins_to_fail() || !make_file(&mut self.entries, name.as_bytes()) {
@@ -155,10 +155,10 @@ impl Store for MemStore {
     /// Adds the bytes, where they fit into the room of the name.
     fn append(&mut self, name: &str, bytes: &[u8]) -> Result<(), Failed>
         requires name { IsName name.now }
-        requires there { IsThere (Some (files_of self.old)) name.now }
-        ensures added { OnOk result (Adds (Some (files_of self.old)) (Some (files_of self.new)) name.now bytes.now) }
-        ensures others { ChangesOnly (Some (files_of self.old)) (Some (files_of self.new)) name.now }
-        ensures cause { WriteCause name.now self.old.faults self.new.faults self.old.blame self.new.blame result }
+        requires there { IsThere (told_by self.old) name.now }
+        ensures added { OnOk result (Adds (told_by self.old) (told_by self.new) name.now bytes.now) }
+        ensures others { ChangesOnly (told_by self.old) (told_by self.new) name.now }
+        ensures cause { MemWriteCause name.now self.old self.new result }
         ensures exact { MemAppends self.old self.new name.now bytes.now result }
     {
         if self.begins_to_fail() || !add_to_file(&mut self.entries, name.as_bytes(), bytes) {
