@@ -1,4 +1,4 @@
-ghost use Rattle.std.specs.Prelude.{◌≡◌, ◌≤◌, length, Some};
+ghost use Rattle.std.specs.Prelude.{◌≡◌, ◌≤◌, length};
 ghost use Rattle.outside_io.specs.Blames.{call_of, no_faults, noted};
 ghost use Rattle.outside_io.specs.Causes.{Faults};
 

@@ -1,6 +1,5 @@
-ghost use Rattle.std.specs.Prelude.{◌≡◌, ℕ, ◌≤◌, List, [], ◌++◌, length, Some, None, IfOk, OnOk};
-ghost use Rattle.outside_io.specs.Blames.{Blame, no_faults};
-ghost use Rattle.outside_io.specs.Counts.{counted_on};
+ghost use Rattle.std.specs.Prelude.{◌≡◌, ◌≤◌, length, None, IfOk};
+ghost use Rattle.outside_io.specs.Blames.{no_faults};
 
 use crate::blame::{FaultLog, Kind};
 use crate::limits::MAX_NAME;

@@ -1,5 +1,4 @@
-ghost use Rattle.std.specs.Prelude.{◌≡◌, ◌+◌, ◌≤◌, ◌++◌, [], Some, None, length, IfOk, IfSome, IfNone, OnOk, OnErr, IsSome, nat_le, max, if◌then◌else◌, unwrap_or, bytes_eq};
-ghost use Rattle.outside_io.specs.MemStores.{EntryValue};
+ghost use Rattle.std.specs.Prelude.{◌≡◌, ◌+◌, ◌≤◌, ◌++◌, [], length, IfOk, IfSome, IfNone, OnOk, OnErr, IsSome, nat_le, max, unwrap_or, bytes_eq};
 
 use design_model::Memory;
 use std::alloc::Global;

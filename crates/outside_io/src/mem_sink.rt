@@ -1,7 +1,7 @@
-ghost use Rattle.std.specs.Prelude.{◌≡◌, ℕ, ◌∷◌, ◌++◌, [], OnOk, OnErr, IfOk, Some};
+ghost use Rattle.std.specs.Prelude.{◌≡◌, ◌∷◌, ◌++◌, [], OnOk, OnErr, IfOk, Some};
 ghost use Rattle.outside_io.specs.Causes.{PutCause, Took};
 ghost use Rattle.outside_io.specs.Counts.{counted_on};
-ghost use Rattle.outside_io.specs.MemSinks.{MemPuts, MemSinkValue, empty_sink, refuses};
+ghost use Rattle.outside_io.specs.MemSinks.{MemPuts, empty_sink, refuses};
 
 use crate::sink::Sink;
 use crate::store::Failed;

@@ -1,5 +1,4 @@
-ghost use Rattle.std.specs.Prelude.{◌≡◌, ℕ, ◌≤◌, ◌<◌, List, [], ◌∷◌, ◌++◌, length, Some, None, IfOk, IfSome, IfNone, OnOk, OnErr, min, take, drop};
-ghost use Rattle.outside_io.specs.Blames.{Blame};
+ghost use Rattle.std.specs.Prelude.{◌≡◌, ℕ, ◌≤◌, List, [], ◌∷◌, ◌++◌, length, IfOk, IfSome, IfNone, OnOk, OnErr, min, take, drop};
 ghost use Rattle.outside_io.specs.Causes.{ReadGives};
 ghost use Rattle.outside_io.specs.Counts.{counted_on};
 ghost use Rattle.outside_io.specs.Files.{Adds, ChangesOnly, HoldsNow, IsName, IsThere};

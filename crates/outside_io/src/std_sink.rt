@@ -1,5 +1,4 @@
 ghost use Rattle.std.specs.Prelude.{◌≡◌, None};
-ghost use Rattle.outside_io.specs.Counts.{counted_on};
 
 use crate::sink::Sink;
 use crate::store::Failed;

@@ -1,4 +1,4 @@
-ghost use Rattle.std.specs.Prelude.{◌≡◌, ℕ, ◌≤◌, List, Option};
+ghost use Rattle.std.specs.Prelude.{◌≡◌, ◌≤◌};
 ghost use Rattle.outside_io.specs.Causes.{GivesOrMemory, ReadsWhole, whole_answer};
 ghost use Rattle.outside_io.specs.Counts.{IsQuiet};
 ghost use Rattle.outside_io.specs.Files.{IsName, WhereTold};
