@@ -1,0 +1,88 @@
+-- What putting an entry changes: the file and the room of its name, and nothing else.
+use Rattle.std.proofs.Common.{◌≡◌, ◌≢◌, ℕ, ◌∷◌, [], List, Bool, true, false, Some, refl, sym, ◌∙◌, ap, subst, cond}
+use Rattle.std.proofs.lemmas.Slice.Eq.{bytes_eq-Decides}
+use Rattle.std.specs.Str.{bytes_eq}
+use Rattle.outside_io.specs.Files.{Files, WhereTold}
+use Rattle.outside_io.specs.MemStores.{EntryValue, entry_in, file_in, put_in, with_content, with_file, with_room}
+
+-- what holds of the files that are told holds where they are told
+pub where_told : (P : Files → Type 0) (files : Files) → P files → WhereTold (Some files) P
+where_told P files holds told is = let same : files ≡ told = cc in subst P same holds
+
+-- a test's two cases
+by_test : {P : Type 0} (b : Bool) → (b ≡ true → P) → (b ≡ false → P) → P
+by_test true yes_case no_case = yes_case refl
+by_test false yes_case no_case = no_case refl
+
+-- different names are told apart
+unlike : (a b : List ℕ) → a ≢ b → bytes_eq a b ≡ false
+unlike a b differs = by_test (bytes_eq a b) (λ is. absurd (differs ((bytes_eq-Decides a b).0 is))) (λ is. is)
+
+-- equal names aren't told apart
+told_apart : (a b : List ℕ) → a ≡ b → bytes_eq a b ≡ false → ⊥
+told_apart a b same differs = let test : bytes_eq a b ≡ true = (bytes_eq-Decides a b).1 same in cc
+
+-- the entry that was put is the one of its name
+pub entry_in-put_in : (entries : List EntryValue) (entry : EntryValue) →
+    entry_in (put_in entries entry) entry.name ≡ Some entry
+entry_in-put_in [] entry = rw ((bytes_eq-Decides entry.name entry.name).1 refl)
+entry_in-put_in (e ∷ rest) entry =
+    by_test (bytes_eq e.name entry.name)
+    (λ is. rw (is, (bytes_eq-Decides entry.name entry.name).1 refl))
+    (λ is. rw (is, is) (entry_in-put_in rest entry))
+
+-- the entries of other names stay
+pub entry_in-put_in_other : (entries : List EntryValue) (entry : EntryValue) (other : List ℕ) → other ≢ entry.name →
+    entry_in (put_in entries entry) other ≡ entry_in entries other
+entry_in-put_in_other [] entry other differs =
+    by_test (bytes_eq entry.name other)
+    (λ is. absurd (differs (sym ((bytes_eq-Decides entry.name other).0 is))))
+    (λ is. rw is)
+entry_in-put_in_other (e ∷ rest) entry other differs =
+    by_test (bytes_eq e.name entry.name)
+    (λ is.
+    let same : e.name ≡ entry.name = (bytes_eq-Decides e.name entry.name).0 is in
+    rw (is, unlike entry.name other (λ h. differs (sym h)), unlike e.name other (λ h. differs (sym h ∙ same))))
+    (λ is. rw is (ap (λ r. cond (bytes_eq e.name other) (Some e) r) (entry_in-put_in_other rest entry other differs)))
+
+-- the file of the name that was put
+pub file_in-put_in : (entries : List EntryValue) (entry : EntryValue) (name : List ℕ) → entry.name ≡ name →
+    file_in (put_in entries entry) name ≡ entry.content
+file_in-put_in entries entry name same = rw (← same) (rw (entry_in-put_in entries entry))
+
+-- the files of other names stay
+pub file_in-put_in_other : (entries : List EntryValue) (entry : EntryValue) (other : List ℕ) → other ≢ entry.name →
+    file_in (put_in entries entry) other ≡ file_in entries other
+file_in-put_in_other entries entry other differs = rw (entry_in-put_in_other entries entry other differs)
+
+-- the file whose content was set holds it
+pub file_in-with_content : (entries before : List EntryValue) (name content : List ℕ) →
+    entries ≡ with_content before name content → file_in entries name ≡ Some content
+file_in-with_content entries before name content is = rw is (file_in-put_in before _ name refl)
+
+-- the other files stay where a content was set
+pub file_in-with_content_other : (entries before : List EntryValue) (name content other : List ℕ) →
+    entries ≡ with_content before name content → other ≢ name → file_in entries other ≡ file_in before other
+file_in-with_content_other entries before name content other is differs =
+    rw is (file_in-put_in_other before _ other differs)
+
+-- the file that was put is there
+pub file_in-with_file : (entries before : List EntryValue) (name content : List ℕ) →
+    entries ≡ with_file before name content → file_in entries name ≡ Some content
+file_in-with_file entries before name content is = rw is (file_in-put_in before _ name refl)
+
+-- the other files stay where a file was put
+pub file_in-with_file_other : (entries before : List EntryValue) (name content other : List ℕ) →
+    entries ≡ with_file before name content → other ≢ name → file_in entries other ≡ file_in before other
+file_in-with_file_other entries before name content other is differs =
+    rw is (file_in-put_in_other before _ other differs)
+
+-- all files stay where room was raised
+pub file_in-with_room : (entries before : List EntryValue) (name : List ℕ) (room : ℕ) (other : List ℕ) →
+    entries ≡ with_room before name room → file_in entries other ≡ file_in before other
+file_in-with_room entries before name room other is =
+    by_test (bytes_eq other name)
+    (λ same.
+    let here : other ≡ name = (bytes_eq-Decides other name).0 same in
+    rw (is, here) (file_in-put_in before _ name refl))
+    (λ other_name. rw is (file_in-put_in_other before _ other (λ same. absurd (told_apart other name same other_name))))

@@ -1,0 +1,7 @@
+mod CountFacts
+mod CauseFacts
+mod MemoryFacts
+pub mod EntryPlaces
+pub mod EntryFiles
+pub mod WholeFiles
+pub mod WholeAnswers

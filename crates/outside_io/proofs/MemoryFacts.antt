@@ -1,0 +1,84 @@
+-- Worked values of stores and sinks in memory: the name `a` (97) has a file of two bytes in a room of
+-- three, and the name `b` (98) has room for two bytes and no file.
+use Rattle.std.proofs.Common.{◌≡◌, ℕ, List, [], ◌∷◌, Some, None, true, false, refl}
+use Rattle.outside_io.specs.MemSinks.{MemSinkValue, refuses}
+use Rattle.outside_io.specs.MemStores.{EntryValue, file_in, room_in, is_listed, overflows, with_content, with_file, with_room}
+
+pub two : List EntryValue
+two =
+    record { name = 97 ∷ []; content = Some (1 ∷ 2 ∷ []); room = 3 }
+    ∷ record { name = 98 ∷ []; content = None; room = 2 }
+    ∷ []
+
+-- files and rooms, by name
+pub known_file : file_in two (97 ∷ []) ≡ Some (1 ∷ 2 ∷ [])
+unfolding two
+known_file = refl
+
+pub known_no_file : file_in two (98 ∷ []) ≡ None
+unfolding two
+known_no_file = refl
+
+pub known_room : room_in two (98 ∷ []) ≡ Some 2
+unfolding two
+known_room = refl
+
+pub known_no_room : room_in two (99 ∷ []) ≡ None
+unfolding two
+known_no_room = refl
+
+-- one byte more fills the room of `a`, and two pass it
+pub known_fit : overflows two (97 ∷ []) (5 ∷ []) ≡ false
+unfolding two
+known_fit = refl
+
+pub known_overflow : overflows two (97 ∷ []) (5 ∷ 6 ∷ []) ≡ true
+unfolding two
+known_overflow = refl
+
+-- a file that is set anew keeps the larger room, and a longer one raises it
+pub known_kept_room : room_in (with_file two (97 ∷ []) (9 ∷ [])) (97 ∷ []) ≡ Some 3
+unfolding two
+known_kept_room = refl
+
+pub known_raised_room : room_in (with_file two (98 ∷ []) (4 ∷ 5 ∷ 6 ∷ [])) (98 ∷ []) ≡ Some 3
+unfolding two
+known_raised_room = refl
+
+-- a new name stands at the end, with its file and just the room for it
+pub known_new_room : room_in (with_file two (99 ∷ []) (4 ∷ [])) (99 ∷ []) ≡ Some 1
+unfolding two
+known_new_room = refl
+
+-- raising the room of a name leaves its file
+pub known_kept_file : file_in (with_room two (97 ∷ []) 7) (97 ∷ []) ≡ Some (1 ∷ 2 ∷ [])
+unfolding two
+known_kept_file = refl
+
+-- an emptied file keeps its room
+pub known_emptied : room_in (with_content two (97 ∷ []) []) (97 ∷ []) ≡ Some 3
+unfolding two
+known_emptied = refl
+
+-- calls are numbered from 1: after two, the next is the third
+pub known_listed : is_listed (3 ∷ []) 2 ≡ true
+known_listed = refl
+
+pub known_not_listed : is_listed (2 ∷ 4 ∷ []) 2 ≡ false
+known_not_listed = refl
+
+-- a sink of two bytes in a room of three, whose second put is to fail
+pub sink : ℕ → MemSinkValue
+sink calls = record { bytes = 1 ∷ 2 ∷ []; room = 3; failing = 2 ∷ []; calls = calls; faults = 0 }
+
+pub known_taken : refuses (sink 2) (5 ∷ []) ≡ false
+unfolding sink
+known_taken = refl
+
+pub known_full : refuses (sink 2) (5 ∷ 6 ∷ []) ≡ true
+unfolding sink
+known_full = refl
+
+pub known_refused : refuses (sink 1) (5 ∷ []) ≡ true
+unfolding sink
+known_refused = refl

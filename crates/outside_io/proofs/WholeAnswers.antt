@@ -1,0 +1,37 @@
+-- Where no count rises, the file decides what the reading of it answers.
+use Rattle.std.proofs.Common.{◌≡◌, ℕ, ◌≤◌, List, length, Some, None, Ok, Err, Option, Result, true, false, refl, sym, ◌∙◌, ap, arith, inl, inr}
+use Rattle.std.specs.Bool.{nat_le}
+use Rattle.outside_io.specs.declared.whole_files.GetFault.{GetFault}
+use Rattle.outside_io.specs.declared.whole_files.GetFault.TheVariants as fault
+use Rattle.outside_io.specs.Blames.{Blame}
+use Rattle.outside_io.specs.Causes.{ReadsWhole, GivesOrMemory, whole_answer, IsLonger}
+use Rattle.outside_io.specs.Counts.{Rose, IsQuiet}
+use Rattle.outside_io.specs.Files.{Files, WhereTold}
+
+-- a count that is quiet didn't rise
+quiet : (before now : ℕ) → IsQuiet before now → Rose before now → ⊥
+quiet before now still (inl rose) = omega (arith, still.same)
+quiet before now still (inr greatest) = still.below greatest
+
+-- a short file is given whole
+short_answer : (bytes : List ℕ) (limit : ℕ) → length bytes ≤ limit → whole_answer (Some bytes) limit ≡ Ok bytes
+short_answer bytes limit short = let test : nat_le (length bytes) limit ≡ true = grind arith in rw test
+
+-- a longer file is refused
+longer_answer : (file : Option (List ℕ)) (limit : ℕ) → IsLonger file limit → whole_answer file limit ≡ Err fault.TooLong
+longer_answer None limit longer = absurd longer
+longer_answer (Some content) limit longer =
+    let test : nat_le (length content) limit ≡ false = grind arith in rw test
+
+-- each answer that can come then is the file's, or want of memory
+pub decided : (files : Option Files) (name : List ℕ) (limit f g : ℕ) (b c : Option Blame) (result : Result (List ℕ) GetFault) →
+    ReadsWhole files name limit f g b c result → IsQuiet f g →
+    WhereTold files (λ told. GivesOrMemory (whole_answer (told name) limit) result)
+decided files name limit f g b c (Ok bytes) reads still told is =
+    inl (sym (ap (λ file. whole_answer file limit) (reads.1 told is) ∙ short_answer bytes limit reads.0))
+decided files name limit f g b c (Err fault.Missing) reads still told is =
+    inl (sym (ap (λ file. whole_answer file limit) (reads.0.missing told is)))
+decided files name limit f g b c (Err fault.Failed) reads still told is = absurd (quiet f g still reads.rose)
+decided files name limit f g b c (Err fault.TooLong) reads still told is =
+    inl (sym (longer_answer (told name) limit (reads.0 told is)))
+decided files name limit f g b c (Err fault.Memory) reads still told is = inr refl

@@ -1,0 +1,51 @@
+-- What the bytes that were read so far say of a file that is told.
+use Rattle.std.proofs.Common.{◌≡◌, ℕ, ◌+◌, ◌<◌, ◌≤◌, ◌++◌, List, length, take, drop, min, Some, None, Option, refl, sym, ◌∙◌, ap, arith, length-append, length-drop}
+use Rattle.std.proofs.Math.Seq.{take-add}
+use Rattle.std.proofs.lemmas.List.{take_all, length-take, length-take-le}
+use Rattle.outside_io.specs.Blames.{Blame}
+use Rattle.outside_io.specs.Causes.{ReadsFrom, IsLonger, Stays}
+
+-- the bytes are the first ones of the content, where there is one
+abbrev pub Begins : Option (List ℕ) → List ℕ → Type 0
+Begins file bytes = (content : List ℕ) → file ≡ Some content → bytes ≡ take (length bytes) content
+
+-- what stayed twice stayed
+pub stays_on : {f g h : ℕ} {b c d : Option Blame} → Stays f g b c → Stays g h c d → Stays f h b d
+stays_on first next = record { count = next.count ∙ first.count; blame = next.blame ∙ first.blame }
+
+-- the end was met, so the bytes are the whole content
+pub whole_at_end : (file : Option (List ℕ)) (bytes buffer : List ℕ) (offset count : ℕ) → Begins file bytes →
+    offset ≡ length bytes → ReadsFrom file offset buffer count → 0 < length buffer → count ≡ 0 → file ≡ Some bytes
+whole_at_end None bytes buffer offset count begins place reads room none = absurd reads
+whole_at_end (Some content) bytes buffer offset count begins place reads room none =
+    let no_more : offset < length content → ⊥ = λ left. let some : 0 < count = reads.some left room in omega arith in
+    let short : length content ≤ length bytes = omega (arith, no_more) in
+    ap (λ b. Some b) (sym (take_all (length bytes) content short) ∙ sym (begins content refl))
+
+-- what the buffer adds continues the content
+pub begins_more : (file : Option (List ℕ)) (bytes buffer after : List ℕ) (offset count : ℕ) → Begins file bytes →
+    offset ≡ length bytes → ReadsFrom file offset buffer count → count ≤ length buffer →
+    after ≡ bytes ++ take count buffer → Begins file after
+begins_more None bytes buffer after offset count begins place reads within added content is = absurd reads
+begins_more (Some whole) bytes buffer after offset count begins place reads within added content is =
+    let kept : bytes ≡ take (length bytes) content = begins content is in
+    let same : whole ≡ content = cc in
+    let given : take count buffer ≡ take count (drop offset whole) = reads.bytes in
+    let total : length after ≡ length bytes + count =
+    ap length added ∙ length-append bytes (take count buffer)
+    ∙ ap (λ n. length bytes + n) (length-take-le count buffer within) in
+    rw (total, take-add (length bytes) count content) cc
+
+-- more bytes than the limit were read, so the content is longer
+pub longer_than : (file : Option (List ℕ)) (bytes buffer after : List ℕ) (offset count limit : ℕ) → Begins file bytes →
+    offset ≡ length bytes → ReadsFrom file offset buffer count → count ≤ length buffer →
+    after ≡ bytes ++ take count buffer → limit < length after → IsLonger file limit
+longer_than None bytes buffer after offset count limit begins place reads within added over = reads
+longer_than (Some content) bytes buffer after offset count limit begins place reads within added over =
+    let first : length bytes ≡ min (length bytes) (length content) =
+    ap length (begins content refl) ∙ length-take (length bytes) content in
+    let total : length after ≡ length bytes + count =
+    ap length added ∙ length-append bytes (take count buffer)
+    ∙ ap (λ n. length bytes + n) (length-take-le count buffer within) in
+    let left : count ≤ length (drop offset content) = reads.left in
+    omega (arith, length-drop offset content)

@@ -1,0 +1,17 @@
+use Rattle.std.proofs.Common.{◌≡◌, ℕ, ◌≤◌, List, Some, ◌+◌, ◌-◌, length, take}
+use Rattle.outside_io.specs.Causes.{Stays}
+use Rattle.outside_io.specs.Files.{WhereTold}
+use Rattle.outside_io.proofs.whole_files.read_in_order.Given as goal
+
+-- what was read so far are the first bytes of the file, where it is told
+abbrev pub invariant-loop-count : goal.invariant-loop-count
+invariant-loop-count g l = record {
+  same : g.S.Store.files l.store ≡ g.S.Store.files l.fn.store;
+  stays : Stays (g.S.Store.faults l.fn.store) (g.S.Store.faults l.store) (g.S.Store.blame l.fn.store) (g.S.Store.blame l.store);
+  short : length l.bytes ≤ l.limit;
+  room : length l.buffer ≡ 4096;
+  begins : WhereTold (g.S.Store.files l.fn.store) (λ told. (content : List ℕ) → told l.name ≡ Some content → l.bytes ≡ take (length l.bytes) content);
+}
+
+abbrev pub decreases-loop-count : goal.decreases-loop-count
+decreases-loop-count g l = l.limit + 1 - length l.bytes

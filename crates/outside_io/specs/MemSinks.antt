@@ -1,0 +1,32 @@
+-- Sinks in memory: the bytes so far, the room for them, the numbers of the puts that are to fail, the
+-- number of puts so far, and the faults.
+use Rattle.std.specs.Prelude.{◌≡◌, ℕ, ◌+◌, Bool, true, false, ◌||◌, List, [], ◌++◌, length, Result, Ok, Err, nat_lt}
+use Rattle.outside_io.specs.declared.store.Failed.{Failed}
+use Rattle.outside_io.specs.Counts.{counted_on}
+use Rattle.outside_io.specs.MemStores.{is_listed}
+
+-- the bytes and their room, the numbers of the puts that are to fail, the puts and the faults so far
+pub record MemSinkValue : Type 0 where
+  pub bytes : List ℕ
+  pub room : ℕ
+  pub failing : List ℕ
+  pub calls : ℕ
+  pub faults : ℕ
+
+-- no bytes, no faults, and nothing that is to fail
+abbrev pub empty_sink : ℕ → MemSinkValue
+empty_sink room = record { bytes = []; room = room; failing = []; calls = 0; faults = 0 }
+
+-- the put of these bytes is to fail: its number is listed, or they would pass the room
+abbrev pub refuses : MemSinkValue → List ℕ → Bool
+refuses sink bytes =
+    is_listed sink.failing sink.calls || nat_lt sink.room (length sink.bytes + length bytes)
+
+-- what each answer to a put means; a failed put adds nothing
+abbrev pub MemPuts : {T : Type 0} → MemSinkValue → MemSinkValue → List ℕ → Result T Failed → Type 0
+MemPuts old new bytes (Ok _) =
+    (refuses old bytes ≡ false)
+    × (new ≡ record old { bytes = old.bytes ++ bytes; calls = counted_on old.calls })
+MemPuts old new bytes (Err _) =
+    (refuses old bytes ≡ true)
+    × (new ≡ record old { calls = counted_on old.calls; faults = counted_on old.faults })

@@ -1,0 +1,147 @@
+-- Stores in memory: an entry for each name that has a file or room, the numbers of the calls that are
+-- to fail, the number of calls so far, and the faults.
+use Rattle.std.specs.Prelude.{◌≡◌, ℕ, ◌+◌, ◌==◌, Bool, true, false, not, ◌||◌, List, [], ◌∷◌, ◌++◌, length, drop, Option, Some, None, Result, Ok, Err, if◌then◌else◌, is_some, nat_lt, max, min, unwrap_or, option_map, option_and_then, find, bytes_eq}
+use Rattle.std.specs.List.{list_any}
+use Rattle.outside_io.specs.declared.store.Failed.{Failed}
+use Rattle.outside_io.specs.declared.store.ReadStop.{ReadStop}
+use Rattle.outside_io.specs.declared.store.ReadStop.TheVariants as stop
+use Rattle.outside_io.specs.Blames.{Blame, read_of, write_of}
+use Rattle.outside_io.specs.Causes.{ReadCause, WriteCause}
+use Rattle.outside_io.specs.Counts.{counted_on}
+use Rattle.outside_io.specs.Files.{Files}
+
+-- a name, the content of its file, where there is one, and its room in bytes
+pub record EntryValue : Type 0 where
+  pub name : List ℕ
+  pub content : Option (List ℕ)
+  pub room : ℕ
+
+-- the entries, the numbers of the calls that are to fail, the calls and the faults so far
+pub record MemStoreValue : Type 0 where
+  pub entries : List EntryValue
+  pub failing : List ℕ
+  pub calls : ℕ
+  pub faults : ℕ
+  pub blame : Option Blame
+
+-- no files, no room, no faults, and nothing that is to fail
+abbrev pub empty_store : MemStoreValue
+empty_store = record { entries = []; failing = []; calls = 0; faults = 0; blame = None }
+
+-- the entry of a name, where there is one
+abbrev pub entry_in : List EntryValue → List ℕ → Option EntryValue
+entry_in entries name = find (λ e. bytes_eq e.name name) entries
+
+-- the content of the file of that name, where there is one
+abbrev pub file_in : List EntryValue → List ℕ → Option (List ℕ)
+file_in entries name = option_and_then (λ e. e.content) (entry_in entries name)
+
+-- the room of a name, where it has room
+abbrev pub room_in : List EntryValue → List ℕ → Option ℕ
+room_in entries name = option_map (λ e. e.room) (entry_in entries name)
+
+-- the entries with this one in the place of the one of its name, else at the end
+abbrev pub put_in : List EntryValue → EntryValue → List EntryValue
+put_in [] entry = entry ∷ []
+put_in (e ∷ rest) entry = if bytes_eq e.name entry.name then entry ∷ rest else e ∷ put_in rest entry
+
+-- the files of a store
+abbrev pub files_of : MemStoreValue → Files
+files_of store name = file_in store.entries name
+
+-- what the store tells: all its files
+abbrev pub told_by : MemStoreValue → Option Files
+told_by store = Some (files_of store)
+
+-- the room of each name
+abbrev pub rooms_of : MemStoreValue → List ℕ → Option ℕ
+rooms_of store name = room_in store.entries name
+
+-- a room that is at least so large
+abbrev pub raised : Option ℕ → ℕ → ℕ
+raised room least = max (unwrap_or room 0) least
+
+-- the entries where the file of that name has this content, in the room that the name has
+abbrev pub with_content : List EntryValue → List ℕ → List ℕ → List EntryValue
+with_content entries name content =
+    put_in entries (record { name = name; content = Some content; room = unwrap_or (room_in entries name) 0 })
+
+-- the entries where these bytes stand behind the content of the file of that name
+abbrev pub with_added : List EntryValue → List ℕ → List ℕ → List EntryValue
+with_added entries name bytes = with_content entries name (unwrap_or (file_in entries name) [] ++ bytes)
+
+-- the entries where the file of that name has this content, and room for it
+abbrev pub with_file : List EntryValue → List ℕ → List ℕ → List EntryValue
+with_file entries name content =
+    put_in entries (record { name = name; content = Some content; room = raised (room_in entries name) (length content) })
+
+-- the entries where the name has at least that room
+abbrev pub with_room : List EntryValue → List ℕ → ℕ → List EntryValue
+with_room entries name room =
+    put_in entries (record { name = name; content = file_in entries name; room = raised (room_in entries name) room })
+
+-- the number of the next call is one of those that are to fail
+abbrev pub is_listed : List ℕ → ℕ → Bool
+is_listed failing calls = list_any (λ n. n == counted_on calls) failing
+
+-- the bytes don't fit behind the content of the file of that name
+abbrev pub overflows : List EntryValue → List ℕ → List ℕ → Bool
+overflows entries name bytes =
+    nat_lt (unwrap_or (room_in entries name) 0) (length (unwrap_or (file_in entries name) []) + length bytes)
+
+-- the store after the file of that name was set
+abbrev pub file_set : MemStoreValue → List ℕ → List ℕ → MemStoreValue
+file_set store name content = record store { entries = with_file store.entries name content }
+
+-- the store after the room of that name was raised
+abbrev pub room_raised : MemStoreValue → List ℕ → ℕ → MemStoreValue
+room_raised store name room = record store { entries = with_room store.entries name room }
+
+-- the store after a call that didn't fail, and left these entries
+abbrev pub after_call : MemStoreValue → List EntryValue → MemStoreValue
+after_call store entries = record store { entries = entries; calls = counted_on store.calls }
+
+-- the store after that call, which failed
+abbrev pub after_fault : MemStoreValue → Blame → MemStoreValue
+after_fault store call = record store {
+  calls = counted_on store.calls;
+  faults = counted_on store.faults;
+  blame = Some call;
+}
+
+-- what a read does to the faults of a store
+abbrev pub MemReadCause : {T : Type 0} → List ℕ → MemStoreValue → MemStoreValue → Result T ReadStop → Type 0
+MemReadCause name old new result = ReadCause name old.faults new.faults old.blame new.blame result
+
+-- what a write does to the faults of a store
+abbrev pub MemWriteCause : {T : Type 0} → List ℕ → MemStoreValue → MemStoreValue → Result T Failed → Type 0
+MemWriteCause name old new result = WriteCause name old.faults new.faults old.blame new.blame result
+
+-- what each answer to a read means; it fails where its number is listed, and nowhere else
+abbrev pub MemReads : MemStoreValue → MemStoreValue → List ℕ → ℕ → List ℕ → Result ℕ ReadStop → Type 0
+MemReads old new name offset buffer (Ok count) =
+    (is_listed old.failing old.calls ≡ false) × (new ≡ after_call old old.entries)
+    × (is_some (files_of old name) ≡ true)
+    × (count ≡ min (length buffer) (length (drop offset (unwrap_or (files_of old name) []))))
+MemReads old new name offset buffer (Err stop.Missing) =
+    (is_listed old.failing old.calls ≡ false) × (new ≡ after_call old old.entries) × (files_of old name ≡ None)
+MemReads old new name offset buffer (Err stop.Failed) =
+    (is_listed old.failing old.calls ≡ true) × (new ≡ after_fault old (read_of name))
+
+-- what each answer to a create means; it fails where its number is listed or the name has no room
+abbrev pub MemCreates : {T : Type 0} → MemStoreValue → MemStoreValue → List ℕ → Result T Failed → Type 0
+MemCreates old new name (Ok _) =
+    ((is_listed old.failing old.calls || not (is_some (rooms_of old name))) ≡ false)
+    × (new ≡ after_call old (with_content old.entries name []))
+MemCreates old new name (Err _) =
+    ((is_listed old.failing old.calls || not (is_some (rooms_of old name))) ≡ true)
+    × (new ≡ after_fault old (write_of name))
+
+-- what each answer to an append means; it fails where its number is listed or the room is too small
+abbrev pub MemAppends : {T : Type 0} → MemStoreValue → MemStoreValue → List ℕ → List ℕ → Result T Failed → Type 0
+MemAppends old new name bytes (Ok _) =
+    ((is_listed old.failing old.calls || overflows old.entries name bytes) ≡ false)
+    × (new ≡ after_call old (with_added old.entries name bytes))
+MemAppends old new name bytes (Err _) =
+    ((is_listed old.failing old.calls || overflows old.entries name bytes) ≡ true)
+    × (new ≡ after_fault old (write_of name))

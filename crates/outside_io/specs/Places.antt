@@ -1,0 +1,15 @@
+-- Where an entry stands among the entries of a store in memory.
+use Rattle.std.specs.Prelude.{◌≡◌, ℕ, ◌<◌, List, [], ◌∷◌, ◌++◌, length, None, slice_get, slice_set, IfSome}
+use Rattle.outside_io.specs.MemStores.{EntryValue, entry_in, put_in}
+
+-- the entry of that name stands at that index: it is found there, and replaced there
+pub record IsPlace (entries : List EntryValue) (name : List ℕ) (place : ℕ) : Type 0 where
+  pub within : place < length entries
+  pub found : entry_in entries name ≡ slice_get entries place
+  pub named : IfSome (slice_get entries place) (λ entry. entry.name ≡ name)
+  pub replaced : (entry : EntryValue) → entry.name ≡ name → put_in entries entry ≡ slice_set entries place entry
+
+-- no entry has that name: a new one is put at the end
+pub record IsFree (entries : List EntryValue) (name : List ℕ) : Type 0 where
+  pub missing : entry_in entries name ≡ None
+  pub added : (entry : EntryValue) → entry.name ≡ name → put_in entries entry ≡ entries ++ entry ∷ []

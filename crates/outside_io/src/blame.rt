@@ -1,0 +1,60 @@
+ghost use Rattle.std.specs.Prelude.{◌≡◌, ◌≤◌, length};
+ghost use Rattle.outside_io.specs.Blames.{call_of, no_faults, noted};
+ghost use Rattle.outside_io.specs.Causes.{Faults};
+
+use crate::limits::MAX_NAME;
+use arrayvec::ArrayVec;
+use std::marker::Model;
+
+/// The kind of a store's call.
+#[derive(Clone, Copy, Debug, PartialEq, Eq)]
+pub enum Kind {
+    /// A `read_at`.
+    Read,
+    /// A `create` or an `append`.
+    Write,
+}
+
+/// How many calls have failed, up to the greatest count, and the last of them.
+#[derive(Drop)]
+pub(crate) struct FaultLog {
+    count: u64,
+    kind: Option<Kind>,
+    name: ArrayVec<u8, MAX_NAME>,
+}
+
+impl Model for FaultLog {
+    ghost use Rattle.outside_io.specs.Blames.{FaultsSoFar, blame_of};
+
+    ghost Value = { FaultsSoFar };
+
+    ghost view = { λ log. record {
+      count = log.count;
+      last = blame_of log.kind log.name.items;
+    } };
+}
+
+impl FaultLog {
+    /// No call has failed.
+    pub(crate) fn new() -> Self
+        ensures { result ≡ no_faults }
+    {
+        FaultLog {
+            count: 0,
+            kind: None,
+            name: ArrayVec::new(),
+        }
+    }
+
+    /// Notes that a call of that kind on that name failed.
+    pub(crate) fn note(&mut self, kind: Kind, name: &str)
+        requires { length name.now ≤ MAX_NAME }
+        ensures value { self.new ≡ noted self.old (call_of kind name.now) }
+        ensures cause { Faults self.old.count self.new.count self.new.last (call_of kind name.now) }
+    {
+        self.count = self.count.saturating_add(1);
+        self.kind = Some(kind);
+        self.name.clear();
+        self.name.try_extend_from_slice(name.as_bytes()).unwrap();
+    }
+}

@@ -1,0 +1,117 @@
+ghost use Rattle.std.specs.Prelude.{◌≡◌, [], not, IfSome, IfNone, OnOk, OnErr, is_some, IsSome};
+ghost use Rattle.std.specs.Bool.{OnTrue, OnFalse};
+ghost use Rattle.outside_io.specs.MemStores.{file_in, overflows, room_in, with_added, with_content, with_file, with_room};
+ghost use Rattle.outside_io.specs.Places.{IsFree, IsPlace};
+
+use crate::entry::Entry;
+use design_model::Memory;
+use std::alloc::Global;
+
+/// The index of the entry of that name.
+fn place_of(entries: &[Entry], name: &[u8]) -> Option<usize>
+    ensures some { IfSome result (λ place. IsPlace entries.now name.now place) }
+    ensures none { IfNone result (IsFree entries.now name.now) }
+{
+    for (place, entry) in entries.iter().enumerate() {
+        if entry.is_named(name) {
+            return Some(place);
+        }
+    }
+    None
+}
+
+/// The content of the file of that name.
+pub(crate) fn content_of<'a>(entries: &'a [Entry], name: &[u8]) -> Option<&'a [u8]>
+    ensures some { IfSome result (λ content. file_in entries.now name.now ≡ Some content.now) }
+    ensures none { IfNone result (file_in entries.now name.now ≡ None) }
+{
+    match place_of(entries, name) {
+        Some(place) => entries[place].content(),
+        None => None,
+    }
+}
+
+/// Makes the file of that name empty where the name has room, and answers whether it has.
+pub(crate) fn make_file(entries: &mut Vec<Entry>, name: &[u8]) -> bool
+    ensures has_room { result ≡ is_some (room_in entries.old.items name.now) }
+    ensures made { OnTrue result (entries.new.items ≡ with_content entries.old.items name.now []) }
+    ensures kept { OnFalse result (entries.new.items ≡ entries.old.items) }
+{
+    match place_of(entries, name) {
+        Some(place) => {
+            let entry = &mut entries[place];
+            entry.make();
+            true
+        }
+        None => false,
+    }
+}
+
+/// Adds bytes at the end of the file of that name where they fit, and answers whether they do.
+pub(crate) fn add_to_file(entries: &mut Vec<Entry>, name: &[u8], bytes: &[u8]) -> bool
+    requires { IsSome (file_in entries.old.items name.now) }
+    ensures fits { result ≡ not (overflows entries.old.items name.now bytes.now) }
+    ensures added { OnTrue result (entries.new.items ≡ with_added entries.old.items name.now bytes.now) }
+    ensures kept { OnFalse result (entries.new.items ≡ entries.old.items) }
+{
+    match place_of(entries, name) {
+        Some(place) => {
+            let entry = &mut entries[place];
+            if !entry.fits(bytes) {
+                return false;
+            }
+            entry.add(bytes);
+            true
+        }
+        None => unreachable!(),
+    }
+}
+
+/// Raises the room of a name. A refusal leaves the entries as they were.
+pub(crate) fn raise_room(
+    alloc: Global,
+    entries: &mut Vec<Entry>,
+    name: &[u8],
+    room: usize,
+) -> Result<(), Memory>
+    ensures ok { OnOk result (entries.new.items ≡ with_room entries.old.items name.now room) }
+    ensures err { OnErr result (entries.new.items ≡ entries.old.items) }
+{
+    match place_of(entries, name) {
+        Some(place) => {
+            let entry = &mut entries[place];
+            entry.raise(room)
+        }
+        None => {
+            entries.push(Entry::new(alloc, name, room)?)?;
+            Ok(())
+        }
+    }
+}
+
+/// Sets the file of a name, and raises its room. A refusal leaves the entries as they were.
+pub(crate) fn set_file(
+    alloc: Global,
+    entries: &mut Vec<Entry>,
+    name: &[u8],
+    bytes: &[u8],
+) -> Result<(), Memory>
+    ensures ok { OnOk result (entries.new.items ≡ with_file entries.old.items name.now bytes.now) }
+    ensures err { OnErr result (entries.new.items ≡ entries.old.items) }
+{
+    match place_of(entries, name) {
+        Some(place) => {
+            let entry = &mut entries[place];
+            entry.raise(bytes.len())?;
+            entry.make();
+            entry.add(bytes);
+        }
+        None => {
+            let mut entry = Entry::new(alloc, name, bytes.len())?;
+            entry.make();
+            entry.add(bytes);
+            entries.push(entry)?;
+        }
+    }
+    Ok(())
+}

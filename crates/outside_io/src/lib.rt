@@ -1,0 +1,28 @@
+//! The outside of the program: stores of named files and sinks of bytes as traits, in memory and
+//! real, and the reading of a whole file.
+#![tactic(auto)]
+
+mod blame;
+mod dir_store;
+mod entries;
+mod entry;
+mod limits;
+mod mem_sink;
+mod mem_store;
+mod sink;
+mod std_sink;
+mod store;
+#[cfg(test)]
+mod tests;
+mod whole_files;
+mod writing;
+
+pub use blame::Kind;
+pub use dir_store::DirStore;
+pub use limits::{MAX_FILE, MAX_NAME};
+pub use mem_sink::MemSink;
+pub use mem_store::MemStore;
+pub use sink::Sink;
+pub use std_sink::StdSink;
+pub use store::{Failed, ReadStop, Store};
+pub use whole_files::{GetFault, read_whole};

@@ -1,0 +1,101 @@
+ghost use Rattle.std.specs.Prelude.{◌≡◌, ◌∷◌, ◌++◌, [], OnOk, OnErr, IfOk, Some};
+ghost use Rattle.outside_io.specs.Causes.{PutCause, Took};
+ghost use Rattle.outside_io.specs.Counts.{counted_on};
+ghost use Rattle.outside_io.specs.MemSinks.{MemPuts, empty_sink, refuses};
+
+use crate::sink::Sink;
+use crate::store::Failed;
+use design_model::Memory;
+use std::alloc::Global;
+use std::marker::Model;
+
+/// Bytes in memory, which the sink tells. It counts its puts from 1 and fails those whose numbers are
+/// listed. A put takes no memory: the bytes stay within the room. A failed put adds nothing.
+#[derive(Debug, Drop)]
+pub struct MemSink {
+    bytes: Vec<u8>,
+    room: usize,
+    failing: Vec<u64>,
+    calls: u64,
+    faults: u64,
+}
+
+impl Model for MemSink {
+    ghost use Rattle.std.specs.Prelude.{◌≤◌, vec_len, vec_capacity};
+    ghost use Rattle.outside_io.specs.MemSinks.{MemSinkValue};
+
+    ghost Value = { MemSinkValue };
+
+    ghost view = { λ s. record {
+      bytes = s.bytes.items;
+      room = s.room;
+      failing = s.failing.items;
+      calls = s.calls;
+      faults = s.faults;
+    } };
+
+    ghost invariant = { λ s. (vec_len s.bytes ≤ s.room) × (s.room ≤ vec_capacity s.bytes) };
+}
+
+impl MemSink {
+    /// No bytes, no faults, and nothing that is to fail. The memory for the room, a number of bytes,
+    /// is taken at once.
+    pub fn new(alloc: Global, room: u32) -> Result<Self, Memory>
+        ensures { IfOk result (λ sink. sink ≡ empty_sink room) }
+    {
+        Ok(MemSink {
+            bytes: Vec::with_capacity(alloc, room as usize)?,
+            room: room as usize,
+            failing: Vec::new(alloc),
+            calls: 0,
+            faults: 0,
+        })
+    }
+
+    /// The bytes so far.
+    pub fn taken(&self) -> &[u8]
+        ensures { result.now ≡ self.now.bytes }
+    {
+        self.bytes.as_slice()
+    }
+
+    /// Adds a number to those of the puts that are to fail. A refusal changes nothing.
+    pub fn fail_at(&mut self, call: u64) -> Result<(), Memory>
+        ensures ok { OnOk result (self.new ≡ record self.old { failing = self.old.failing ++ call ∷ [] }) }
+        ensures err { OnErr result (self.new ≡ self.old) }
+    {
+        self.failing.push(call)?;
+        Ok(())
+    }
+
+    /// Counts a put, and answers whether it is to fail.
+    fn begins_to_refuse(&mut self, bytes: &[u8]) -> bool
+        ensures refused { result ≡ refuses self.old bytes.now }
+        ensures counted { self.new ≡ record self.old { calls = counted_on self.old.calls } }
+    {
+        self.calls = self.calls.saturating_add(1);
+        self.failing.contains(&self.calls) || bytes.len() > self.room - self.bytes.len()
+    }
+}
+
+impl Sink for MemSink {
+    ghost taken = { λ s. Some s.bytes };
+
+    ghost faults = { λ s. s.faults };
+
+    /// Adds the bytes, which takes no memory.
+    fn put(&mut self, bytes: &[u8]) -> Result<(), Failed>
+        ensures took { Took (Some self.old.bytes) (Some self.new.bytes) bytes.now result }
+        ensures cause { PutCause self.old.faults self.new.faults result }
+        ensures exact { MemPuts self.old self.new bytes.now result }
+    {
+        if self.begins_to_refuse(bytes) {
+            self.faults = self.faults.saturating_add(1);
+            return Err(Failed);
+        }
+        match self.bytes.extend_from_slice(bytes) {
+            Ok(()) => Ok(()),
+            Err(_) => unreachable!(),
+        }
+    }
+}

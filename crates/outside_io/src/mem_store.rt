@@ -1,0 +1,183 @@
+ghost use Rattle.std.specs.Prelude.{◌≡◌, ℕ, ◌≤◌, List, [], ◌∷◌, ◌++◌, length, IfOk, IfSome, IfNone, OnOk, OnErr, min, take, drop};
+ghost use Rattle.outside_io.specs.Causes.{ReadGives};
+ghost use Rattle.outside_io.specs.Counts.{counted_on};
+ghost use Rattle.outside_io.specs.Files.{Adds, ChangesOnly, HoldsNow, IsName, IsThere};
+ghost use Rattle.outside_io.specs.MemStores.{MemAppends, MemCreates, MemReadCause, MemReads, MemWriteCause, empty_store, file_set, files_of, is_listed, room_raised, told_by};
+
+use crate::blame::{FaultLog, Kind};
+use crate::entries::{add_to_file, content_of, make_file, raise_room, set_file};
+use crate::entry::Entry;
+use crate::limits::MAX_FILE;
+use crate::store::{Failed, ReadStop, Store};
+use design_model::Memory;
+use std::alloc::Global;
+use std::marker::Model;
+
+/// Files in memory, which the store tells. It counts its calls of `Store` from 1 and fails those whose
+/// numbers are listed. These calls take no memory: a name has room, which is a number of bytes, and
+/// its file grows within it. A failed call changes no file.
+#[derive(Drop)]
+pub struct MemStore {
+    alloc: Global,
+    entries: Vec<Entry>,
+    failing: Vec<u64>,
+    calls: u64,
+    log: FaultLog,
+}
+
+impl Model for MemStore {
+    ghost use Rattle.outside_io.specs.MemStores.{MemStoreValue};
+
+    ghost Value = { MemStoreValue };
+
+    ghost view = { λ s. record {
+      entries = s.entries.items;
+      failing = s.failing.items;
+      calls = s.calls;
+      faults = s.log.count;
+      blame = s.log.last;
+    } };
+}
+
+impl MemStore {
+    /// No files, no room, no faults, and nothing that is to fail.
+    pub fn new(alloc: Global) -> Self
+        ensures { result ≡ empty_store }
+    {
+        MemStore {
+            alloc,
+            entries: Vec::new(alloc),
+            failing: Vec::new(alloc),
+            calls: 0,
+            log: FaultLog::new(),
+        }
+    }
+
+    /// Sets one file, and raises the room of its name to its length. A refusal changes nothing.
+    pub fn put_file(&mut self, name: &str, bytes: &[u8]) -> Result<(), Memory>
+        ensures ok { OnOk result (self.new ≡ file_set self.old name.now bytes.now) }
+        ensures file { OnOk result (files_of self.new name.now ≡ Some bytes.now) }
+        ensures others { ChangesOnly (told_by self.old) (told_by self.new) name.now }
+        ensures err { OnErr result (self.new ≡ self.old) }
+    {
+        set_file(self.alloc, &mut self.entries, name.as_bytes(), bytes)?;
+        Ok(())
+    }
+
+    /// Raises the room of a name to `room` bytes. Files stay. A refusal changes nothing.
+    pub fn prepare(&mut self, name: &str, room: u32) -> Result<(), Memory>
+        requires { room ≤ MAX_FILE }
+        ensures ok { OnOk result (self.new ≡ room_raised self.old name.now room) }
+        ensures files { (other : List ℕ) → files_of self.new other ≡ files_of self.old other }
+        ensures err { OnErr result (self.new ≡ self.old) }
+    {
+        raise_room(
+            self.alloc,
+            &mut self.entries,
+            name.as_bytes(),
+            room as usize,
+        )?;
+        Ok(())
+    }
+
+    /// The content of the named file.
+    pub fn file(&self, name: &str) -> Option<&[u8]>
+        ensures some { IfSome result (λ content. files_of self.now name.now ≡ Some content.now) }
+        ensures none { IfNone result (files_of self.now name.now ≡ None) }
+    {
+        content_of(self.entries.as_slice(), name.as_bytes())
+    }
+
+    /// Adds a number to those of the calls that are to fail. A refusal changes nothing.
+    pub fn fail_at(&mut self, call: u64) -> Result<(), Memory>
+        ensures ok { OnOk result (self.new ≡ record self.old { failing = self.old.failing ++ call ∷ [] }) }
+        ensures err { OnErr result (self.new ≡ self.old) }
+    {
+        self.failing.push(call)?;
+        Ok(())
+    }
+
+    /// Counts a call, and answers whether its number is listed.
+    fn begins_to_fail(&mut self) -> bool
+        ensures listed { result ≡ is_listed self.old.failing self.old.calls }
+        ensures counted { self.new ≡ record self.old { calls = counted_on self.old.calls } }
+    {
+        self.calls = self.calls.saturating_add(1);
+        self.failing.contains(&self.calls)
+    }
+}
+
+impl Store for MemStore {
+    ghost use Rattle.outside_io.specs.MemStores.{told_by};
+
+    ghost files = { told_by };
+
+    ghost faults = { λ s. s.faults };
+
+    ghost blame = { λ s. s.blame };
+
+    /// Reads as many bytes as the buffer holds or the file has left, whichever is less.
+    fn read_at(&mut self, name: &str, at: u64, buf: &mut [u8]) -> Result<usize, ReadStop>
+        requires name { IsName name.now }
+        requires offset { at ≤ MAX_FILE }
+        ensures same { told_by self.new ≡ told_by self.old }
+        ensures bound { IfOk result (λ count. count ≤ length buf.new) }
+        ensures gives { ReadGives (told_by self.old) name.now at buf.new result }
+        ensures cause { MemReadCause name.now self.old self.new result }
+        ensures exact { MemReads self.old self.new name.now at buf.new result }
+    {
+        if self.begins_to_fail() {
+            self.log.note(Kind::Read, name);
+            return Err(ReadStop::Failed);
+        }
+        match content_of(self.entries.as_slice(), name.as_bytes()) {
+            Some(content) => Ok(copy_from(content, at, buf)),
+            None => Err(ReadStop::Missing),
+        }
+    }
+
+    /// Makes the file empty, where the name has room.
+    fn create(&mut self, name: &str) -> Result<(), Failed>
+        requires name { IsName name.now }
+        ensures empty { OnOk result (HoldsNow (told_by self.new) name.now []) }
+        ensures others { ChangesOnly (told_by self.old) (told_by self.new) name.now }
+        ensures cause { MemWriteCause name.now self.old self.new result }
+        ensures exact { MemCreates self.old self.new name.now result }
+    {
+        if self.begins_to_fail() || !make_file(&mut self.entries, name.as_bytes()) {
+            self.log.note(Kind::Write, name);
+            return Err(Failed);
+        }
+        Ok(())
+    }
+
+    /// Adds the bytes, where they fit into the room of the name.
+    fn append(&mut self, name: &str, bytes: &[u8]) -> Result<(), Failed>
+        requires name { IsName name.now }
+        requires there { IsThere (told_by self.old) name.now }
+        ensures added { OnOk result (Adds (told_by self.old) (told_by self.new) name.now bytes.now) }
+        ensures others { ChangesOnly (told_by self.old) (told_by self.new) name.now }
+        ensures cause { MemWriteCause name.now self.old self.new result }
+        ensures exact { MemAppends self.old self.new name.now bytes.now result }
+    {
+        if self.begins_to_fail() || !add_to_file(&mut self.entries, name.as_bytes(), bytes) {
+            self.log.note(Kind::Write, name);
+            return Err(Failed);
+        }
+        Ok(())
+    }
+}
+
+/// Copies the content's bytes from the offset on, as many as the buffer holds or there are, and
+/// answers how many.
+fn copy_from(content: &[u8], at: u64, buffer: &mut [u8]) -> usize
+    requires { at ≤ MAX_FILE }
+    ensures count { result ≡ min (length buffer.new) (length (drop at content.now)) }
+    ensures bytes { take result buffer.new ≡ take result (drop at content.now) }
+{
+    let from = (at as usize).min(content.len());
+    let rest = &content[from..];
+    let count = rest.len().min(buffer.len());
+    buffer[..count].copy_from_slice(&rest[..count]);
+    count
+}
