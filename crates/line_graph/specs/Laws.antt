@@ -1,0 +1,46 @@
+-- Laws over drawings and walks that the crates above stand on.
+use Rattle.std.specs.Prelude.{◌≡◌, ◌≢◌, ℕ, ◌+◌, ◌<◌, ◌≤◌, false, List, [], ◌∷◌, length, All}
+use Rattle.design_model.specs.declared.point.Point.{Point}
+use Rattle.design_model.specs.Acts.{acts_of}
+use Rattle.line_graph.specs.declared.limits.TheConstants.{MAX_COST}
+use Rattle.line_graph.specs.declared.pass.Pass.{Pass}
+use Rattle.line_graph.specs.Drawings.{DrawingValue, HasNoRepeat, points_of, first_of, last_of}
+use Rattle.line_graph.specs.Loops.{IsLoop}
+use Rattle.line_graph.specs.Sewing.{Sews, sewn_design}
+use Rattle.step_splitter.specs.Chains.{IsNeedlePoint, KeepsClose}
+use Rattle.line_graph.specs.Walks.{IsTour, IsLeast, cost_of_line, cost_of_walk, needles_of, needles_of_walk}
+
+-- neighbouring points lie within the limit of each other, on each axis
+abbrev pub AreClose : ℕ → List Point → Type 0
+AreClose limit [] = Unit {0}
+AreClose limit (p ∷ rest) = KeepsClose limit p rest
+
+-- what holds of the needle points of the line with that index
+pub record AreNeedlesOf (d : DrawingValue) (line : ℕ) (points : List Point) : Type 0 where
+  pub count : length points ≡ cost_of_line d line + 1
+  pub few : cost_of_line d line ≤ MAX_COST
+  pub first : first_of points ≡ first_of (points_of d line)
+  pub last : last_of points ≡ last_of (points_of d line)
+  pub in_range : All IsNeedlePoint points
+  pub close : AreClose d.step points
+  pub moving : HasNoRepeat points
+
+-- the walk along the first line alone, forwards
+abbrev pub along_first : List Pass
+along_first = record { line = 0; back = false } ∷ []
+
+-- the one line of a drawing is a least closed walk over it, with the line's needles and cost
+pub record IsSewnByItsLine (d : DrawingValue) : Type 0 where
+  pub tour : IsTour d (0 ∷ []) along_first
+  pub least : IsLeast d (0 ∷ []) along_first
+  pub cost : cost_of_walk d along_first ≡ cost_of_line d 0
+  pub needles : needles_of_walk d along_first ≡ needles_of d 0
+
+-- a drawing of one closed line is sewn best along that line
+abbrev pub ALoopIsSewnByItsLine : Type 0
+ALoopIsSewnByItsLine = (d : DrawingValue) → IsLoop d → IsSewnByItsLine d
+
+-- the sewn design of walks that each have a needle sews the drawing by them
+abbrev pub TheSewnDesignSews : Type 0
+TheSewnDesignSews = (d : DrawingValue) (walks : List (List Pass)) →
+    All (λ walk. needles_of_walk d walk ≢ []) walks → Sews d walks (acts_of (sewn_design d walks))
