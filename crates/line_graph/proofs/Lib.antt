@@ -1,1 +1,3 @@
-
+mod WalkFacts
+mod NumeralLemmas
+mod PointTextLemmas

@@ -70,7 +70,7 @@ cost_of_walk d walk = cost_of_lines d (lines_of walk)
 
 -- a closed walk over all of these lines and no other line
 pub record IsTour (d : DrawingValue) (lines : List ℕ) (walk : List Pass) : Type 0 where
-  pub walk : IsWalk d walk
+  pub joined : IsWalk d walk
   pub closed : IsClosed d walk
   pub covers : Covers lines walk
   pub keeps_to : KeepsTo lines walk

@@ -1,5 +1,6 @@
 ghost use Rattle.std.specs.Prelude.{◌≡◌, ◌≤◌, ◌↔◌, ℕ, List, length, IsTrue, Some};
 ghost use Rattle.design_model.specs.Points.{origin};
+ghost use Rattle.line_graph.specs.declared.limits.TheConstants.{MAX_POINTS};
 ghost use Rattle.line_graph.specs.Drawings.{HasNoRepeat, IsLine, first_of, last_of};
 ghost use Rattle.line_graph.specs.LoopShapes.{AreReadable, IsLoopLine};
 ghost use Rattle.line_graph.specs.Needles.{line_steps};
@@ -58,6 +59,7 @@ fn cost_of(step: u32, points: &[Point]) -> u64
     requires low { 1 ≤ step }
     requires high { step ≤ MAX_STEP }
     requires line { IsLine points.now }
+    requires few { length points.now ≤ MAX_POINTS }
     ensures { result ≡ line_steps step points.now }
 {
     let [first, after @ ..] = points else {
