@@ -15,15 +15,20 @@ abbrev pub AreClose : ℕ → List Point → Type 0
 AreClose limit [] = Unit {0}
 AreClose limit (p ∷ rest) = KeepsClose limit p rest
 
+-- the points lead along a line: from its first point to its last, by needle points, each within the
+-- step of the one before and none repeating it
+pub record LeadAlong (step : ℕ) (line points : List Point) : Type 0 where
+  pub first : first_of points ≡ first_of line
+  pub last : last_of points ≡ last_of line
+  pub in_range : All IsNeedlePoint points
+  pub close : AreClose step points
+  pub moving : HasNoRepeat points
+
 -- what holds of the needle points of the line with that index
 pub record AreNeedlesOf (d : DrawingValue) (line : ℕ) (points : List Point) : Type 0 where
   pub count : length points ≡ cost_of_line d line + 1
   pub few : cost_of_line d line ≤ MAX_COST
-  pub first : first_of points ≡ first_of (points_of d line)
-  pub last : last_of points ≡ last_of (points_of d line)
-  pub in_range : All IsNeedlePoint points
-  pub close : AreClose d.step points
-  pub moving : HasNoRepeat points
+  pub along : LeadAlong d.step (points_of d line) points
 
 -- the walk along the first line alone, forwards
 abbrev pub along_first : List Pass

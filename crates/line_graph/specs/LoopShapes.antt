@@ -51,9 +51,21 @@ pub record SpellsHead (bytes : List ℕ) (step thread : ℕ) (rest : List ℕ) :
   pub thread_fits : thread < 256
   pub spelled : bytes ≡ head_text step thread ++ rest
 
+-- nothing but this step and thread can be spelled, with this rest behind them
+abbrev pub IsOnlyHead : List ℕ → ℕ → ℕ → List ℕ → Type 0
+IsOnlyHead bytes step thread rest = (s t : ℕ) (r : List ℕ) → SpellsHead bytes s t r →
+    (s ≡ step) × (t ≡ thread) × (r ≡ rest)
+
+-- no step and thread are spelled
+abbrev pub IsNoHead : List ℕ → Type 0
+IsNoHead bytes = (s t : ℕ) (r : List ℕ) → SpellsHead bytes s t r → ⊥
+
+-- no other points are spelled
+abbrev pub AreOnlyPoints : List ℕ → List Point → Type 0
+AreOnlyPoints bytes points = (other : List Point) → SpellsPoints bytes other → other ≡ points
+
 -- these points, or none where the bytes are the end of no line
 abbrev pub ReadsPoints : List ℕ → Result (List Point) LoopFault → Type 0
-ReadsPoints bytes (Ok points) =
-    AreReadable points × ((other : List Point) → SpellsPoints bytes other → other ≡ points)
+ReadsPoints bytes (Ok points) = AreReadable points × AreOnlyPoints bytes points
 ReadsPoints bytes (Err fault.NotPlainLoop) = (other : List Point) → SpellsPoints bytes other → ⊥
 ReadsPoints bytes (Err fault.Memory) = Unit {0}

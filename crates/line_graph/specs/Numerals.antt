@@ -1,24 +1,21 @@
 -- What the beginning of a text spells: numbers and points. No public clause cites this file.
-use Rattle.std.specs.Prelude.{◌≡◌, ℕ, ℤ, ◌+◌, ◌-◌, ◌*◌, ◌^◌, ◌<◌, ◌≤◌, Bool, true, ◌&&◌, not, nat_le, unsigned_abs, if◌then◌else◌, List, [], ◌∷◌, ◌++◌}
+use Rattle.std.specs.Prelude.{◌≡◌, ℕ, ℤ, ◌+◌, ◌-◌, ◌*◌, ◌^◌, ◌<◌, ◌≤◌, Bool, true, not, unsigned_abs, if◌then◌else◌, List, [], ◌∷◌, ◌++◌}
+use Rattle.std.specs.Char.{is_ascii_digit}
 use Rattle.std.specs.Fmt.{signed_decimal}
 use Rattle.design_model.specs.declared.point.Point.{Point}
 use Rattle.design_model.specs.declared.point.TheConstants.{NEEDLE_LIMIT}
 use Rattle.step_splitter.specs.Chains.{IsNeedlePoint}
 use Rattle.line_graph.specs.Spelling.{number_text}
 
--- the byte is a decimal digit
-abbrev pub is_digit : ℕ → Bool
-is_digit byte = nat_le 48 byte && nat_le byte 57
-
 -- the number that the digits at the beginning write after those of n, and what stands behind them
 abbrev pub digits_on : ℕ → List ℕ → ℕ × List ℕ
 digits_on n [] = (n, [])
-digits_on n (c ∷ rest) = if is_digit c then digits_on (10 * n + (c - 48)) rest else (n, c ∷ rest)
+digits_on n (c ∷ rest) = if is_ascii_digit c then digits_on (10 * n + (c - 48)) rest else (n, c ∷ rest)
 
 -- no digit stands at the beginning
 abbrev pub is_apart : List ℕ → Bool
 is_apart [] = true
-is_apart (c ∷ rest) = not (is_digit c)
+is_apart (c ∷ rest) = not (is_ascii_digit c)
 
 -- nothing but this value can be spelled, with this rest behind it
 abbrev pub IsOnly : {A : Type 0} → (A → List ℕ → Type 0) → A → List ℕ → Type 0

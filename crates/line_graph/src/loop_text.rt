@@ -1,6 +1,6 @@
-ghost use Rattle.std.specs.Prelude.{◌≡◌, ◌≤◌, ℕ, List, length, IfSome, IfNone};
+ghost use Rattle.std.specs.Prelude.{◌≤◌, length, IfSome, IfNone};
 ghost use Rattle.line_graph.specs.Loops.{ReadsLoop};
-ghost use Rattle.line_graph.specs.LoopShapes.{SpellsHead};
+ghost use Rattle.line_graph.specs.LoopShapes.{IsNoHead, IsOnlyHead};
 
 use crate::drawing::Drawing;
 use crate::limits::MAX_TEXT;
@@ -21,7 +21,10 @@ pub fn read_loop(alloc: Global, bytes: &[u8]) -> Result<Drawing, LoopFault>
     let Some(head) = head_of(bytes) else {
         return Err(LoopFault::NotPlainLoop);
     };
-    let points = read_points(alloc, head.rest)?;
+    let points = match read_points(alloc, head.rest) {
+        Ok(points) => points,
+        Err(fault) => return Err(fault),
+    };
     if !is_loop_line(head.step, points.as_slice()) {
         return Err(LoopFault::NotPlainLoop);
     }
@@ -43,11 +46,8 @@ struct Head<'a> {
 }
 
 fn head_of(bytes: &[u8]) -> Option<Head<'_>>
-    ensures only { IfSome result (λ head. (step thread : ℕ) (rest : List ℕ) →
-        SpellsHead bytes.now step thread rest →
-        (step ≡ head.step) × (thread ≡ head.thread) × (rest ≡ head.rest.now)) }
-    ensures never { IfNone result ((step thread : ℕ) (rest : List ℕ) →
-        SpellsHead bytes.now step thread rest → ⊥) }
+    ensures only { IfSome result (λ h. IsOnlyHead bytes.now h.step h.thread h.rest.now) }
+    ensures never { IfNone result (IsNoHead bytes.now) }
 {
     let after = after_word(bytes, b"redwork 1\n")?;
     let (step, after_step) = number_after(after, b"step ")?;

@@ -1,7 +1,7 @@
-ghost use Rattle.std.specs.Prelude.{◌≡◌, ◌<◌, ◌≤◌, length, IfOk};
+ghost use Rattle.std.specs.Prelude.{◌≡◌, ◌<◌, ◌≤◌, ◌∷◌, [], length, IfOk, IfSome, IfNone};
 ghost use Rattle.step_splitter.specs.declared.segment.TheConstants.{MAX_STEP as max_step};
 ghost use Rattle.line_graph.specs.Drawings.{IsLine};
-ghost use Rattle.line_graph.specs.Laws.{AreNeedlesOf};
+ghost use Rattle.line_graph.specs.Laws.{AreNeedlesOf, LeadAlong};
 ghost use Rattle.line_graph.specs.Needles.{needle_points};
 ghost use Rattle.line_graph.specs.Walks.{needles_of};
 
@@ -26,20 +26,32 @@ fn needles_along(alloc: Global, points: &[Point], step: u32) -> Result<Points, M
     requires low { 1 ≤ step }
     requires high { step ≤ max_step }
     requires line { IsLine points.now }
-    ensures { IfOk result (λ needles. needles ≡ needle_points step points.now) }
+    ensures value { IfOk result (λ needles. needles ≡ needle_points step points.now) }
+    ensures along { IfOk result (LeadAlong step points.now) }
 {
     let mut needles = Points::new(alloc);
-    let [first, after @ ..] = points else {
+    let Some((first, after)) = first_point(points) else {
         return Ok(needles);
     };
-    needles.push(*first)?;
-    let mut before = *first;
+    needles.push(first)?;
+    let mut before = first;
     let mut rest = after;
-    while let [next, after @ ..] = rest {
-        let ends = split(alloc, before, *next, step)?;
+    while let Some((next, after)) = first_point(rest) {
+        let ends = split(alloc, before, next, step)?;
         needles.append(ends.as_slice())?;
-        before = *next;
+        before = next;
         rest = after;
     }
     Ok(needles)
+}
+
+/// The first point, and the points behind it.
+fn first_point(points: &[Point]) -> Option<(Point, &[Point])>
+    ensures some { IfSome result (λ r. points.now ≡ r.0 ∷ r.1.now) }
+    ensures none { IfNone result (points.now ≡ []) }
+{
+    match points {
+        [first, after @ ..] => Some((*first, after)),
+        [] => None,
+    }
 }

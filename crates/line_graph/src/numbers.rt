@@ -1,6 +1,8 @@
-ghost use Rattle.std.specs.Prelude.{◌≡◌, ◌^◌, ◌≤◌, ◌<◌, ◌∷◌, ℕ, List, length, unsigned_abs, IfSome, IfNone};
+ghost use Rattle.std.specs.Prelude.{◌≡◌, ◌+◌, ◌-◌, ◌*◌, ◌^◌, ◌≤◌, ◌<◌, ◌∷◌, ℕ, List, true, length, unsigned_abs, IfSome, IfNone};
+ghost use Rattle.std.specs.Char.{is_ascii_digit};
+ghost use Rattle.std.specs.Option.{SomeIff};
 ghost use Rattle.design_model.specs.declared.point.TheConstants.{NEEDLE_LIMIT as needle_limit};
-ghost use Rattle.line_graph.specs.Numerals.{IsNone, IsOnly, SpellsCoordinate, SpellsNumber, digits_on, is_digit as byte_is_digit};
+ghost use Rattle.line_graph.specs.Numerals.{IsNone, IsOnly, SpellsCoordinate, SpellsNumber, digits_on, is_apart};
 
 use crate::words::after_word;
 use design_model::NEEDLE_LIMIT;
@@ -16,12 +18,6 @@ pub fn after_byte(bytes: &[u8], byte: u8) -> Option<&[u8]>
     }
 }
 
-fn is_digit(byte: u8) -> bool
-    ensures { result ≡ byte_is_digit byte }
-{
-    48 <= byte && byte <= 57
-}
-
 /// The number that the digits at the beginning write, and what stands behind them. None where it
 /// passes what a `u32` holds.
 fn digits(bytes: &[u8]) -> Option<(u32, &[u8])>
@@ -31,14 +27,34 @@ fn digits(bytes: &[u8]) -> Option<(u32, &[u8])>
 {
     let mut number: u32 = 0;
     let mut rest = bytes;
-    while let [byte, after @ ..] = rest {
-        if !is_digit(*byte) {
-            break;
-        }
-        number = number.checked_mul(10)?.checked_add((*byte - 48) as u32)?;
+    while let Some((digit, after)) = first_digit(rest) {
+        let Some(next) = with_digit(number, digit) else {
+            return None;
+        };
+        number = next;
         rest = after;
     }
     Some((number, rest))
+}
+
+/// The digit at the beginning, and what stands behind it.
+fn first_digit(bytes: &[u8]) -> Option<(u8, &[u8])>
+    ensures some { IfSome result (λ r. bytes.now ≡ r.0 ∷ r.1.now) }
+    ensures digit { IfSome result (λ r. is_ascii_digit r.0 ≡ true) }
+    ensures none { IfNone result (is_apart bytes.now ≡ true) }
+{
+    match bytes {
+        [byte, after @ ..] if byte.is_ascii_digit() => Some((*byte, after)),
+        _ => None,
+    }
+}
+
+/// The number with one digit more at its end. None where it passes what a `u32` holds.
+fn with_digit(number: u32, digit: u8) -> Option<u32>
+    requires { is_ascii_digit digit ≡ true }
+    ensures { SomeIff result (10 * number + (digit - 48) < 2 ^ 32) (10 * number + (digit - 48)) }
+{
+    number.checked_mul(10)?.checked_add((digit - b'0') as u32)
 }
 
 /// The coordinate at the beginning, and what stands behind it.

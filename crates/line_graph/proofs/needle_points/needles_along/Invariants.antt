@@ -1,16 +1,10 @@
-use Rattle.std.proofs.Common.{◌≡◌, ◌++◌, All, length}
-use Rattle.step_splitter.specs.Chains.{IsNeedlePoint, KeepsMoving}
-use Rattle.line_graph.specs.Needles.{needle_points, segment_points}
+use Rattle.std.proofs.Common.{length}
+use Rattle.line_graph.proofs.NeedleLemmas.{IsSewn}
 use Rattle.line_graph.proofs.needle_points.needles_along.Given as goal
 
--- the needles so far and those that are left are those of the line; the points that are left can be sewn
-abbrev pub invariant-loop-rest : goal.invariant-loop-rest
-invariant-loop-rest l = record {
-  in_range : IsNeedlePoint l.before;
-  rest_in_range : All IsNeedlePoint l.rest;
-  moving : KeepsMoving l.before l.rest;
-  sewn : l.needles ++ segment_points l.step l.before l.rest ≡ needle_points l.step l.points;
-}
+-- the needle points so far come along the line to the point before those that are left
+abbrev pub invariant-loop-next : goal.invariant-loop-next
+invariant-loop-next l = IsSewn l.step l.points l.before l.rest l.needles
 
-abbrev pub decreases-loop-rest : goal.decreases-loop-rest
-decreases-loop-rest l = length l.rest
+abbrev pub decreases-loop-next : goal.decreases-loop-next
+decreases-loop-next l = length l.rest
