@@ -6,3 +6,5 @@ mod PointLemmas
 mod NeedleLemmas
 mod LoopLemmas
 mod PointLists
+mod LoopSewing
+mod SpellingFacts

@@ -1,5 +1,5 @@
 -- Drawings of one closed line, taken apart and put together.
-use Rattle.std.proofs.Common.{◌≡◌, ℕ, zero, suc, ◌<◌, ◌≤◌, List, [], ◌∷◌, ◌++◌, Some, Ok, Err, length, ap, sym, subst, ◌∙◌, refl, arith}
+use Rattle.std.proofs.Common.{◌≡◌, ℕ, zero, suc, ◌<◌, List, [], ◌∷◌, ◌++◌, Err, ap, subst, ◌∙◌, refl, arith}
 use Rattle.std.proofs.lemmas.List.{append_assoc, append-nil}
 use Rattle.std.proofs.lemmas.List.Elements.{All-head}
 use Rattle.design_model.specs.declared.point.Point.{Point}
@@ -7,7 +7,7 @@ use Rattle.line_graph.specs.declared.loop_fault.LoopFault.{LoopFault}
 use Rattle.line_graph.specs.declared.loop_fault.LoopFault.TheVariants as fault
 use Rattle.line_graph.specs.Drawings.{DrawingValue, IsLine, KeepsDrawing, LineValue}
 use Rattle.line_graph.specs.Loops.{IsLoop, ReadsLoop, SpellsLoop}
-use Rattle.line_graph.specs.LoopShapes.{AreOnlyPoints, AreReadable, IsLoopLine, IsNoHead, IsOnlyHead, ReadsPoints, SpellsHead, SpellsPoints, head_text, loop_drawing}
+use Rattle.line_graph.specs.LoopShapes.{AreOnlyPoints, IsLoopLine, IsNoHead, IsOnlyHead, ReadsPoints, SpellsHead, SpellsPoints, head_text, loop_drawing}
 use Rattle.line_graph.specs.Spelling.{plain_spelling, points_text}
 
 -- a drawing of one closed line is that of its step, a thread and points
@@ -57,7 +57,7 @@ shape_of_lists [] step (t ∷ []) [] keeps loop = absurd (omega (arith, loop.one
 shape_of_lists [] step (t ∷ []) (line ∷ more ∷ others) keeps loop = absurd (omega (arith, loop.one_line))
 shape_of_lists [] step (t ∷ []) (line ∷ []) keeps loop = shape_of_line step t line.block line.points keeps loop
 
-shape : (d : DrawingValue) → KeepsDrawing d → IsLoop d → Shape d
+pub shape : (d : DrawingValue) → KeepsDrawing d → IsLoop d → Shape d
 shape d keeps loop = shape_of_lists d.label d.step d.threads d.lines keeps loop
 
 -- the spelling of such a drawing is its head and its points
@@ -95,10 +95,11 @@ agrees bytes rest step thread points d only_head only_points spells =
     let Spells : List ℕ → Type 0 = λ text. SpellsPoints text s.points in
     let same : s.points ≡ points = only_points s.points (subst Spells head.2 (points_spelled d s)) in
     let Line : ℕ → Type 0 = λ number. IsLoopLine number s.points in
-    let Points : List Point → Type 0 = λ list. IsLoopLine step list in
-    (s.is ∙ (ap (λ number. loop_drawing number s.thread s.points) head.0
-    ∙ (ap (λ number. loop_drawing step number s.points) head.1 ∙ ap (loop_drawing step thread) same)),
-    subst Points same (subst Line head.0 s.line))
+    let Points : List Point → Type 0 = λ list. IsLoopLine step list in (
+      s.is ∙ (ap (λ number. loop_drawing number s.thread s.points) head.0
+          ∙ (ap (λ number. loop_drawing step number s.points) head.1 ∙ ap (loop_drawing step thread) same)),
+      subst Points same (subst Line head.0 s.line),
+    )
 
 -- a text whose points can't be read spells no loop
 pub not_read : (bytes rest : List ℕ) (step thread : ℕ) (why : LoopFault)

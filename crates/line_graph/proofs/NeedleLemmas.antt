@@ -1,6 +1,5 @@
 -- Needle points that come along a line, segment by segment.
-use Rattle.std.proofs.Common.{◌≡◌, ◌≢◌, ℕ, ◌+◌, ◌-◌, ◌<◌, ◌≤◌, List, [], ◌∷◌, ◌++◌, Option, Some, None, length, get_or, map, All, sum_by, IsTrue, ap, sym, subst, ◌∙◌, refl, arith}
-use Rattle.std.specs.List.{range_with_len, slice_get}
+use Rattle.std.proofs.Common.{◌≡◌, ◌≢◌, ℕ, ◌+◌, ◌<◌, ◌≤◌, List, [], ◌∷◌, ◌++◌, Option, Some, None, length, get_or, All, ap, sym, subst, ◌∙◌, refl, arith}
 use Rattle.std.proofs.lemmas.List.{append_assoc, append-nil, length-append}
 use Rattle.std.proofs.lemmas.List.Elements.{All-append, All-cons, All-head, All-nil, All-tail}
 use Rattle.std.proofs.lemmas.List.FromFn.{length-map-range_with_len}
@@ -11,7 +10,7 @@ use Rattle.step_splitter.specs.Steps.{point_at, split_points, steps_of}
 use Rattle.std.proofs.lemmas.Option.{slice_get-get_or}
 use Rattle.line_graph.specs.Drawings.{DrawingValue, HasNoRepeat, IsLine, KeepsDrawing, LineValue, first_of, last_of, points_in, points_of}
 use Rattle.line_graph.specs.Laws.{AreClose, AreNeedlesOf, LeadAlong}
-use Rattle.line_graph.specs.Walks.{cost_of_line, needles_of}
+use Rattle.line_graph.specs.Walks.{needles_of}
 use Rattle.line_graph.specs.Needles.{line_steps, needle_points, segment_points, segment_steps}
 
 -- the points come from the first one to that point by steps that are no longer than said
@@ -123,15 +122,16 @@ pub all_sewn : (step : ℕ) (line : List Point) (before : Point) (rest needles :
     → (needles ≡ needle_points step line) × LeadAlong step line needles
 all_sewn step line before rest needles sewn is =
     let Sewn : List Point → Type 0 = λ r. IsSewn step line before r needles in
-    let whole : IsSewn step line before [] needles = subst Sewn is sewn in
-    (sym (append-nil needles) ∙ whole.sewn,
-    record {
-      first = whole.comes.first_is;
-      last = whole.comes.last ∙ sym whole.ends;
-      in_range = whole.comes.in_range;
-      close = whole.comes.close;
-      moving = whole.comes.moving;
-    })
+    let whole : IsSewn step line before [] needles = subst Sewn is sewn in (
+      sym (append-nil needles) ∙ whole.sewn,
+      record {
+        first = whole.comes.first_is;
+        last = whole.comes.last ∙ sym whole.ends;
+        in_range = whole.comes.in_range;
+        close = whole.comes.close;
+        moving = whole.comes.moving;
+      },
+    )
 
 -- the needle points of segments are as many as their steps
 segment_count : (step : ℕ) (p : Point) (points : List Point)
@@ -140,8 +140,12 @@ segment_count step p [] = refl
 segment_count step p (q ∷ rest) =
     let n : ℕ = steps_of p q step in
     let one : length (split_points p q step) ≡ n = length-map-range_with_len (λ i. point_at p q n i) 1 n in
-    omega (arith, length-append (split_points p q step) (segment_points step q rest),
-    one, segment_count step q rest)
+    omega (
+      arith,
+      length-append (split_points p q step) (segment_points step q rest),
+      one,
+      segment_count step q rest,
+    )
 
 -- those of a line are one more
 pub needle_count : (step : ℕ) (points : List Point) → 1 ≤ length points
@@ -151,7 +155,6 @@ needle_count step (p ∷ rest) some = omega (arith, segment_count step p rest)
 
 -- a line of a drawing can be sewn, and costs no more than the whole drawing may
 module _ (d : DrawingValue) (line : ℕ) (there : line < length d.lines) (keeps : KeepsDrawing d) where
-
   none : LineValue
   none = record { block = 0; points = [] }
 
@@ -169,7 +172,7 @@ module _ (d : DrawingValue) (line : ℕ) (there : line < length d.lines) (keeps 
   cost_few =
       let part = get_or-le-sum_by (λ l. line_steps d.step l.points) d.lines line none there in
       let same : line_steps d.step (points_of d line) ≡ line_steps d.step ((get_or d.lines line none).points) =
-          ap (line_steps d.step) points_are in
+      ap (line_steps d.step) points_are in
       omega (arith, keeps.cost)
 
 -- what holds of a line's needle points

@@ -1,14 +1,14 @@
 -- Numbers that are read at the beginning of a text.
-use Rattle.std.proofs.Common.{◌≡◌, ℕ, ℤ, pos, negsuc, zero, suc, ◌+◌, ◌-◌, ◌*◌, ◌≤◌, ◌<◌, ◌^◌, Bool, true, false, not, if◌then◌else◌, List, [], ◌∷◌, ◌++◌, length, get_or, ap, sym, subst, ◌∙◌, refl, unsigned_abs, rules, arith}
+use Rattle.std.proofs.Common.{◌≡◌, ℕ, ℤ, pos, negsuc, suc, ◌+◌, ◌-◌, ◌*◌, ◌≤◌, ◌<◌, ◌^◌, Bool, true, false, List, [], ◌∷◌, ◌++◌, length, ap, sym, subst, ◌∙◌, refl, unsigned_abs, rules, arith}
 use Rattle.std.specs.Char.{is_ascii_digit}
-use Rattle.std.specs.Fmt.{decimal, signed_decimal}
+use Rattle.std.specs.Fmt.{decimal}
 use Rattle.std.specs.Str.{all_ascii_digits}
 use Rattle.std.proofs.Math.IntN.{neg_ℤ}
 use Rattle.std.proofs.lemmas.Bool.{and_parts}
 use Rattle.std.proofs.lemmas.Fmt.{decimal_nonempty, digits_decimal, digits_value-decimal}
 use Rattle.std.proofs.lemmas.Int.{ints}
 use Rattle.std.proofs.lemmas.List.{append_assoc, append_cancel_left}
-use Rattle.std.proofs.lemmas.Str.Parse.{IsNumeralModel, numerals_by_fold, tells_all_ascii_digits}
+use Rattle.std.proofs.lemmas.Str.Parse.{IsNumeralModel, numerals_by_fold}
 use Rattle.design_model.specs.declared.point.TheConstants.{NEEDLE_LIMIT}
 use Rattle.line_graph.specs.Numerals.{IsNone, IsOnly, SpellsCoordinate, SpellsNumber, digits_on, is_apart}
 
@@ -92,7 +92,7 @@ pub too_large : (bytes rest after : List ℕ) (n c limit : ℕ) → rest ≡ c �
 too_large bytes rest after n c limit is digit read large =
     let next : digits_on n (c ∷ after) ≡ digits_on (10 * n + (c - 48)) after = rw digit in
     let whole : digits_on (10 * n + (c - 48)) after ≡ digits_on 0 bytes =
-        sym next ∙ (ap (digits_on n) (sym is) ∙ read) in
+    sym next ∙ (ap (digits_on n) (sym is) ∙ read) in
     rw (← whole) (omega (arith, digits_on-rises (10 * n + (c - 48)) after))
 
 -- a negated number that is too large is out of range
@@ -132,7 +132,7 @@ after_number : (word bytes after : List ℕ) (n : ℕ) (rest : List ℕ) → byt
     → SpellsNumber word bytes n rest → digits_on 0 after ≡ (n, 10 ∷ rest)
 after_number word bytes after n rest is spells =
     let whole : word ++ after ≡ word ++ (decimal n ++ (10 ∷ rest)) =
-        sym is ∙ (spells.spelled ∙ simp append_assoc) in
+    sym is ∙ (spells.spelled ∙ simp append_assoc) in
     let same : after ≡ decimal n ++ (10 ∷ rest) = append_cancel_left word after _ whole in
     ap (digits_on 0) same ∙ digits_on-decimal n (10 ∷ rest) (omega (arith, spells.fits)) refl
 

@@ -1,5 +1,5 @@
 -- The first and the last point of a list, by their places.
-use Rattle.std.proofs.Common.{◌≡◌, ℕ, ◌-◌, ◌≤◌, List, [], ◌∷◌, Some, length, get_or, ap, ◌∙◌, refl, arith}
+use Rattle.std.proofs.Common.{◌≡◌, ◌-◌, ◌≤◌, List, [], ◌∷◌, Some, length, get_or, ap, ◌∙◌, refl, arith}
 use Rattle.design_model.specs.declared.point.Point.{Point}
 use Rattle.step_splitter.specs.Chains.{last_from}
 use Rattle.line_graph.specs.Drawings.{first_of, last_of}

@@ -1,5 +1,5 @@
 -- The points at the end of a line, read one after the other.
-use Rattle.std.proofs.Common.{◌≡◌, ℕ, ℤ, ◌+◌, ◌≤◌, ◌<◌, true, List, [], ◌∷◌, ◌++◌, length, All, unsigned_abs, ap, sym, subst, ◌∙◌, refl, arith}
+use Rattle.std.proofs.Common.{◌≡◌, ℕ, ℤ, ◌<◌, true, List, [], ◌∷◌, ◌++◌, length, ap, sym, subst, ◌∙◌, refl, arith}
 use Rattle.std.specs.Fmt.{signed_decimal}
 use Rattle.std.proofs.lemmas.List.{append_assoc, append-nil, length-append}
 use Rattle.std.proofs.lemmas.List.Elements.{All-append, All-cons, All-head, All-nil, All-tail}
@@ -8,7 +8,7 @@ use Rattle.step_splitter.specs.Chains.{IsNeedlePoint}
 use Rattle.line_graph.proofs.PointLemmas.{same_point, within_parts}
 use Rattle.line_graph.specs.LoopShapes.{AreReadable, SpellsPoints}
 use Rattle.line_graph.specs.Numerals.{IsNone, IsOnly, SpellsCoordinate, SpellsPoint, is_apart}
-use Rattle.line_graph.specs.Spelling.{point_text, points_text}
+use Rattle.line_graph.specs.Spelling.{points_text}
 
 -- a spelled point is two spelled coordinates
 first_half : (bytes : List ℕ) (p : Point) (rest : List ℕ) → SpellsPoint bytes p rest
@@ -41,7 +41,7 @@ behind_first : (bytes behind after : List ℕ) (x : ℤ) → IsOnly (SpellsCoord
     → SpellsCoordinate after p.y rest
 behind_first bytes behind after x only spaced p rest spells =
     let found : 32 ∷ (signed_decimal p.y ++ rest) ≡ 32 ∷ after =
-        (only p.x _ (first_half bytes p rest spells)).1 ∙ spaced in
+    (only p.x _ (first_half bytes p rest spells)).1 ∙ spaced in
     let same : signed_decimal p.y ++ rest ≡ after = cc in
     let Spells : List ℕ → Type 0 = λ text. SpellsCoordinate text p.y rest in
     subst Spells same (second_half bytes p rest spells)
@@ -85,8 +85,8 @@ parts : (after : List ℕ) (points : List Point) → SpellsPoints (32 ∷ after)
 parts after [] spells = absurd (not_ended after (sym spells.spelled))
 parts after (p ∷ others) spells =
     let whole : 32 ∷ after ≡ 32 ∷ (signed_decimal p.x ++ (32 ∷ (signed_decimal p.y ++ points_text others))) =
-        spells.spelled ∙ ap (λ text. 32 ∷ text)
-        (append_assoc (signed_decimal p.x) (32 ∷ signed_decimal p.y) (points_text others)) in
+    spells.spelled ∙ ap (λ text. 32 ∷ text)
+    (append_assoc (signed_decimal p.x) (32 ∷ signed_decimal p.y) (points_text others)) in
     let same : after ≡ signed_decimal p.x ++ (32 ∷ (signed_decimal p.y ++ points_text others)) = cc in
     record {
       first = p;
@@ -127,8 +127,13 @@ pub too_many : (bytes rest after : List ℕ) (points all : List Point) → GoesO
     → rest ≡ 32 ∷ after → length points ≡ 65536 → SpellsPoints bytes all → ⊥
 too_many bytes rest after points all goes_on spaced full spells =
     let found = left_parts bytes rest after points all goes_on spaced spells in
-    omega (arith, spells.readable.few, ap length (found.1 ∙ ap (λ more. points ++ more) found.2.are),
-    length-append points (found.2.first ∷ found.2.others), full)
+    omega (
+      arith,
+      spells.readable.few,
+      ap length (found.1 ∙ ap (λ more. points ++ more) found.2.are),
+      length-append points (found.2.first ∷ found.2.others),
+      full,
+    )
 
 -- with the point that was read the text goes on
 pub one_more : (bytes rest after more : List ℕ) (points : List Point) (p : Point) → GoesOn bytes points rest
@@ -140,7 +145,7 @@ one_more bytes rest after more points p goes_on spaced only all spells =
     let Spells : List ℕ → Type 0 = λ text. SpellsPoints text others in
     let first : found.2.first ∷ others ≡ p ∷ others = ap (λ q. q ∷ others) read.0 in
     let whole : all ≡ (points ++ p ∷ []) ++ others =
-        found.1 ∙ (ap (λ list. points ++ list) (found.2.are ∙ first) ∙ sym (append_assoc points (p ∷ []) others)) in
+    found.1 ∙ (ap (λ list. points ++ list) (found.2.are ∙ first) ∙ sym (append_assoc points (p ∷ []) others)) in
     (others, whole, subst Spells read.1 found.2.more)
 
 -- where no space follows, no points follow

@@ -1,6 +1,6 @@
 -- Drawings as contracts see them, in whole tenths of a millimetre: lines of straight segments, in
 -- blocks of one thread each. Indexes of blocks and lines count from 0. Costs count steps.
-use Rattle.std.specs.Prelude.{◌≡◌, ◌≢◌, ℕ, ◌-◌, ◌<◌, ◌≤◌, List, [], ◌∷◌, Option, Some, None, length, map, All, Contains, sum_by, slice_get}
+use Rattle.std.specs.Prelude.{◌≢◌, ℕ, ◌<◌, ◌≤◌, List, [], ◌∷◌, Option, Some, None, length, map, All, Contains, sum_by, slice_get}
 use Rattle.std.specs.List.Sorted.{IsNonDecreasing}
 use Rattle.design_model.specs.declared.point.Point.{Point}
 use Rattle.design_model.specs.Labels.{IsLabel}

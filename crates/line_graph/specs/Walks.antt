@@ -1,6 +1,6 @@
 -- Walks over the lines of a drawing, after J. Edmonds and E. L. Johnson, "Matching, Euler tours and
 -- the Chinese postman", Mathematical Programming 5 (1973). Costs count steps.
-use Rattle.std.specs.Prelude.{◌≡◌, ℕ, ◌-◌, ◌<◌, ◌≤◌, if◌then◌else◌, not, List, [], ◌∷◌, ◌++◌, Option, length, map, reverse, drop, All, Contains, sum_by}
+use Rattle.std.specs.Prelude.{◌≡◌, ℕ, ◌-◌, ◌<◌, ◌≤◌, if◌then◌else◌, List, [], ◌∷◌, ◌++◌, Option, length, map, reverse, drop, All, Contains, sum_by}
 use Rattle.std.specs.List.{flat_map}
 use Rattle.design_model.specs.declared.point.Point.{Point}
 use Rattle.line_graph.specs.declared.pass.Pass.{Pass}

@@ -46,7 +46,7 @@ impl Drawing {
     ghost use Rattle.line_graph.specs.LoopShapes.{IsLoopLine, loop_drawing};
 
     /// The drawing of one closed line, in a block of that thread, without a label.
-    pub fn of_loop(alloc: Global, step: u32, thread: u8, points: Points) -> Result<Drawing, Memory>
+    pub(crate) fn of_loop(alloc: Global, step: u32, thread: u8, points: Points) -> Result<Drawing, Memory>
         requires { IsLoopLine step points }
         ensures { IfOk result (λ d. d ≡ loop_drawing step thread points) }
     {
@@ -79,7 +79,7 @@ impl Drawing {
     }
 
     /// The thread numbers of the blocks.
-    pub fn threads(&self) -> &[u8]
+    pub(crate) fn threads(&self) -> &[u8]
         ensures value { result.now ≡ self.now.threads }
         ensures most { length result.now ≤ MAX_BLOCKS }
     {
@@ -87,12 +87,13 @@ impl Drawing {
     }
 
     /// The lines in order.
-    pub fn lines(&self) -> &[Line]
+    pub(crate) fn lines(&self) -> &[Line]
         ensures { result.now ≡ self.now.lines }
     {
         self.lines.as_slice()
     }
 
+    /// The number of lines.
     pub fn line_count(&self) -> u32
         ensures value { result ≡ length self.now.lines }
         ensures most { result ≤ MAX_LINES }
@@ -100,6 +101,7 @@ impl Drawing {
         self.lines.len() as u32
     }
 
+    /// The number of blocks.
     pub fn block_count(&self) -> u32
         ensures value { result ≡ length self.now.threads }
         ensures least { 1 ≤ result }

@@ -1,5 +1,5 @@
 -- The numbers on the way from one number to another.
-use Rattle.std.proofs.Common.{◌≡◌, ◌≢◌, ℕ, ℤ, pos, negsuc, ◌+◌, ◌-◌, ◌*◌, ◌/◌, ◌<◌, ◌≤◌, ◌+ℤ◌, ◌-ℤ◌, ◌*ℤ◌, ◌<ℤ◌, ◌≤ℤ◌, unsigned_abs, zero, suc, refl, ap, sym, ◌∙◌, add-one, add-zero, arith}
+use Rattle.std.proofs.Common.{◌≡◌, ◌≢◌, ℕ, ℤ, pos, negsuc, ◌+◌, ◌-◌, ◌*◌, ◌/◌, ◌≤◌, ◌+ℤ◌, ◌-ℤ◌, ◌*ℤ◌, ◌<ℤ◌, ◌≤ℤ◌, unsigned_abs, zero, suc, refl, ap, sym, ◌∙◌, add-one, add-zero, arith}
 use Rattle.std.proofs.Math.IntN.{neg_ℤ}
 use Rattle.std.proofs.lemmas.Int.{ints, by_lt_z}
 use Rattle.std.proofs.Math.Nat.{div-eq_of_lt, zero-div}
@@ -20,7 +20,7 @@ floor_negated zero n some =
 floor_negated (suc m) n some =
     let same : suc m + (n - 1) ≡ m + n * 1 = omega arith in
     let one_more : (suc m + (n - 1)) / n ≡ suc (m / n) =
-        ap (λ x. x / n) same ∙ (div-more m 1 n some ∙ add-one (m / n)) in
+    ap (λ x. x / n) same ∙ (div-more m 1 n some ∙ add-one (m / n)) in
     rw one_more
 
 -- a product with a negative number, over n

@@ -1,5 +1,5 @@
 -- The points on the way from p to q as a chain.
-use Rattle.std.proofs.Common.{◌≡◌, ◌≢◌, ℕ, zero, suc, ◌+◌, ◌*◌, ◌<◌, ◌≤◌, ◌-ℤ◌, List, map, length, All, max, unsigned_abs, IsTrue, ap, ◌∙◌, subst, refl, arith}
+use Rattle.std.proofs.Common.{◌≡◌, ◌≢◌, ℕ, zero, suc, ◌+◌, ◌*◌, ◌<◌, ◌≤◌, ◌-ℤ◌, map, All, unsigned_abs, IsTrue, ap, ◌∙◌, subst, arith}
 use Rattle.std.specs.List.{range_with_len}
 use Rattle.std.proofs.Math.Nat.{le-max_left, le-max_right}
 use Rattle.std.proofs.lemmas.List.FromFn.{get_or-map-range_with_len, length-map-range_with_len}
@@ -40,7 +40,6 @@ all_along P f n each k d h =
 
 -- the way from p to q in that many steps
 module _ (p q : Point) (step n : ℕ) (some : 1 ≤ n) where
-
   first_point : point_at p q n 0 ≡ p
   first_point = same_point _ p (axis_first p.x q.x n some) (axis_first p.y q.y n some)
 
@@ -59,9 +58,9 @@ module _ (p q : Point) (step n : ℕ) (some : 1 ≤ n) where
   each_moves : n ≤ size_of (move_between p q) → (i : ℕ) → point_at p q n i ≢ point_at p q n (i + 1)
   each_moves far i same =
       let across : n ≤ unsigned_abs (q.x -ℤ p.x) → ⊥ =
-          λ there. axis_moves p.x q.x n i some there (ap (λ r. r.x) same) in
+      λ there. axis_moves p.x q.x n i some there (ap (λ r. r.x) same) in
       let down : n ≤ unsigned_abs (q.y -ℤ p.y) → ⊥ =
-          λ there. axis_moves p.y q.y n i some there (ap (λ r. r.y) same) in
+      λ there. axis_moves p.y q.y n i some there (ap (λ r. r.y) same) in
       omega (arith, across, down)
 
   each_within : IsNeedlePoint p → IsNeedlePoint q → (i : ℕ) → i ≤ n → IsNeedlePoint (point_at p q n i)

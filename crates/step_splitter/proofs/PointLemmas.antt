@@ -1,5 +1,5 @@
 -- Sizes of moves, and needle points as limits on each axis.
-use Rattle.std.proofs.Common.{◌≡◌, ◌≢◌, ℕ, ℤ, ◌+◌, ◌<◌, ◌≤◌, ◌-ℤ◌, max, unsigned_abs, IsTrue, ap, arith}
+use Rattle.std.proofs.Common.{◌≡◌, ◌≢◌, ℕ, ℤ, ◌+◌, ◌≤◌, ◌-ℤ◌, unsigned_abs, IsTrue, arith}
 use Rattle.std.proofs.Math.Nat.{le-max_left, le-max_right, max-le}
 use Rattle.std.proofs.Math.Path.{ap₂}
 use Rattle.std.proofs.lemmas.Bool.Decides.{nat_tests}
@@ -37,7 +37,7 @@ size_some p q differ =
     let across = le-max_left (unsigned_abs (q.x -ℤ p.x)) (unsigned_abs (q.y -ℤ p.y)) in
     let down = le-max_right (unsigned_abs (q.x -ℤ p.x)) (unsigned_abs (q.y -ℤ p.y)) in
     let not_none : size_of (move_between p q) ≤ 0 → ⊥ =
-        λ none. differ (same_point p q (no_difference p.x q.x (omega arith)) (no_difference p.y q.y (omega arith))) in
+    λ none. differ (same_point p q (no_difference p.x q.x (omega arith)) (no_difference p.y q.y (omega arith))) in
     omega (arith, not_none)
 
 -- the move between two needle points has a limited size

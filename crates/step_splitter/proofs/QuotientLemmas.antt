@@ -1,8 +1,8 @@
 -- Quotients of equal parts, as natural numbers: (i * d + c) / n for i from 0 to n.
-use Rattle.std.proofs.Common.{◌≡◌, ℕ, ◌+◌, ◌-◌, ◌*◌, ◌/◌, ◌<◌, ◌≤◌, ap, sym, ◌∙◌, arith}
+use Rattle.std.proofs.Common.{◌≡◌, ℕ, ◌+◌, ◌*◌, ◌/◌, ◌<◌, ◌≤◌, arith}
 use Rattle.std.proofs.lemmas.Grind.{div_ceil_times}
 use Rattle.std.proofs.lemmas.Nat.{le-div}
-use Rattle.std.proofs.Math.Nat.{add-mul-div_left, div-mul-le_self, div-eq_of_lt, mul-le-mul_left, mul-le-mul_right}
+use Rattle.std.proofs.Math.Nat.{add-mul-div_left, div-mul-le_self, div-eq_of_lt, mul-le-mul_right}
 use Rattle.std.specs.Int.{div_ceil}
 
 -- a number of at least 1 over another one, rounded up, is at least 1
@@ -34,8 +34,11 @@ pub part_rises_little : (i d c n step : ℕ) → 1 ≤ n → d ≤ n * step
     → ((i + 1) * d + c) / n ≤ (i * d + c) / n + step
 part_rises_little i d c n step some covers =
     rw (next_part i d c)
-    (omega (arith, div-mono ((i * d + c) + d) ((i * d + c) + n * step) n some (omega arith),
-    div-more (i * d + c) step n some))
+    (omega (
+      arith,
+      div-mono ((i * d + c) + d) ((i * d + c) + n * step) n some (omega arith),
+      div-more (i * d + c) step n some,
+    ))
 
 -- the parts do not fall
 pub part_rises : (i d c n : ℕ) → 1 ≤ n → (i * d + c) / n ≤ ((i + 1) * d + c) / n
@@ -46,8 +49,11 @@ part_rises i d c n some =
 pub part_moves : (i d c n : ℕ) → 1 ≤ n → n ≤ d → (i * d + c) / n + 1 ≤ ((i + 1) * d + c) / n
 part_moves i d c n some far =
     rw (next_part i d c)
-    (omega (arith, div-mono ((i * d + c) + n * 1) ((i * d + c) + d) n some (omega arith),
-    div-more (i * d + c) 1 n some))
+    (omega (
+      arith,
+      div-mono ((i * d + c) + n * 1) ((i * d + c) + d) n some (omega arith),
+      div-more (i * d + c) 1 n some,
+    ))
 
 -- the last part is the distance
 pub part_last : (d c n : ℕ) → c < n → (n * d + c) / n ≡ d
@@ -58,5 +64,8 @@ part_last d c n small =
 -- no part passes the distance
 pub part_within : (i d c n : ℕ) → c < n → i ≤ n → (i * d + c) / n ≤ d
 part_within i d c n small there =
-    omega (arith, div-mono (i * d + c) (n * d + c) n (omega arith) (omega (arith, mul-le-mul_right d there)),
-    part_last d c n small)
+    omega (
+      arith,
+      div-mono (i * d + c) (n * d + c) n (omega arith) (omega (arith, mul-le-mul_right d there)),
+      part_last d c n small,
+    )

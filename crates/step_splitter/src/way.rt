@@ -20,14 +20,8 @@ pub fn point_at(p: Point, q: Point, count: u32, index: u32) -> Point
     requires there { index ≤ count }
     ensures { result ≡ point_on_the_way p q count index }
 {
-    let across = Span {
-        from: p.x,
-        to: q.x,
-    };
-    let down = Span {
-        from: p.y,
-        to: q.y,
-    };
+    let across = Span { from: p.x, to: q.x };
+    let down = Span { from: p.y, to: q.y };
     Point {
         x: number_on(across, count, index),
         y: number_on(down, count, index),

@@ -17,7 +17,7 @@ returns-in-Err c =
 pub returns-then-not-is_loop_line : goal.returns-then-not-is_loop_line
 returns-then-not-is_loop_line c d spells =
     let agreed = agrees c.args.bytes.now c.in-Some.head.rest.now c.in-Some.head.step c.in-Some.head.thread c.in-Ok.points d
-        c.in-Some.ensures.only c.in-Ok.ensures.1 spells in
+    c.in-Some.ensures.only c.in-Ok.ensures.1 spells in
     let line : IsLoopLine c.in-Some.head.step c.as_slice.result.now = rw c.as_slice.ensures agreed.1 in
     let yes = c.if-not-is_loop_line.ensures.1 line in
     search rules
@@ -25,10 +25,10 @@ returns-then-not-is_loop_line c d spells =
 pub returns-else-eq : goal.returns-else-eq
 returns-else-eq c d spells =
     let agreed = agrees c.args.bytes.now c.in-Some.head.rest.now c.in-Some.head.step c.in-Some.head.thread c.in-Ok.points d
-        c.in-Some.ensures.only c.in-Ok.ensures.1 spells in
+    c.in-Some.ensures.only c.in-Ok.ensures.1 spells in
     let drawn : d ≡ c.in_ok-d.d = agreed.0 ∙ sym c.in_ok-d.ensures in
     let printed : c.in_ok-text.text ≡ c.args.bytes.now =
-        c.in_ok-text.ensures ∙ (ap plain_spelling (sym drawn) ∙ sym spells.spelled) in
+    c.in_ok-text.ensures ∙ (ap plain_spelling (sym drawn) ∙ sym spells.spelled) in
     let same = slice_eq-Decides Decides-eqb c.as_slice-2.result.now c.args.bytes.now c.eq.result c.eq.ensures in
     let equal : c.eq.result ≡ true = same.1 (c.as_slice-2.ensures ∙ printed) in
     cc

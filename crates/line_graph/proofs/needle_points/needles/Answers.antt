@@ -9,5 +9,5 @@ pub returns-clause-sound : goal.returns-clause-sound
 returns-clause-sound c =
     let is : c.in_ok-points.points ≡ needles_of c.args.d.now c.args.line = search rules in
     let along : LeadAlong c.args.d.now.step (points_of c.args.d.now c.args.line) c.in_ok-points.points =
-        rw (← c.step-step.ensures.value, ← c.line_points.ensures) c.in_ok-points.ensures.along in
+    rw (← c.step-step.ensures.value, ← c.line_points.ensures) c.in_ok-points.ensures.along in
     needles_sound c.args.d.now c.args.line c.in_ok-points.points c.requires.there c.step-step.ensures.limits is along

@@ -17,7 +17,8 @@ loop-after-preserved c = rw c.in_ok-push.ensures.ok (record {
 })
 
 pub returns : goal.returns
-returns c =
-    (c.loop-after.invariant.readable,
-    λ other spells. all_read c.args.bytes.now c.loop-after.rest.now c.loop-after.points other
-    c.loop-after.invariant.goes_on c.in_default.ensures.none spells)
+returns c = (
+  c.loop-after.invariant.readable,
+  λ other spells. all_read c.args.bytes.now c.loop-after.rest.now c.loop-after.points other
+      c.loop-after.invariant.goes_on c.in_default.ensures.none spells,
+)

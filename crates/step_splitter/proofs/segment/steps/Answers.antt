@@ -1,4 +1,4 @@
-use Rattle.std.proofs.Common.{◌≡◌, ◌≤◌, rules, arith}
+use Rattle.std.proofs.Common.{◌≡◌, rules, arith}
 use Rattle.step_splitter.proofs.PointLemmas.{size_some, size_few}
 use Rattle.step_splitter.proofs.QuotientLemmas.{div_ceil_some, div_ceil_few}
 use Rattle.design_model.specs.Points.{move_between, size_of}
