@@ -2,6 +2,7 @@ mod WalkFacts
 mod NumeralLemmas
 mod PointTextLemmas
 mod SewingLemmas
+mod StepLemmas
 mod PointLemmas
 mod NeedleLemmas
 mod LoopLemmas

@@ -34,12 +34,11 @@ covered_cost : (d : DrawingValue) (line : ℕ) (walk : List Pass) → Contains (
 covered_cost d line walk holds =
     let part = get_or-le-sum_by (cost_of_line d) (lines_of walk) holds.0 line holds.1 in
     let same : cost_of_line d (get_or (lines_of walk) holds.0 line) ≡ cost_of_line d line =
-        ap (cost_of_line d) holds.2 in
+    ap (cost_of_line d) holds.2 in
     omega arith
 
 -- the line's block is the first, and its walk has its needles
 module _ (d : DrawingValue) (keeps : KeepsDrawing d) (loop : IsLoop d) where
-
   needles_are : needles_of_walk d along_first ≡ needles_of d 0
   needles_are = append-nil (needles_of d 0)
 

@@ -5,10 +5,11 @@ use Rattle.design_model.specs.declared.point.Point.{Point}
 use Rattle.design_model.specs.Acts.{acts_of}
 use Rattle.line_graph.specs.declared.limits.TheConstants.{MAX_COST}
 use Rattle.line_graph.specs.declared.pass.Pass.{Pass}
-use Rattle.line_graph.specs.Drawings.{DrawingValue, HasNoRepeat, KeepsDrawing, points_of, first_of, last_of}
+use Rattle.line_graph.specs.Drawings.{DrawingValue, KeepsDrawing, HasNoRepeat, KeepsDrawing, points_of, first_of, last_of}
 use Rattle.line_graph.specs.Loops.{IsLoop}
 use Rattle.line_graph.specs.Sewing.{Sews, sewn_design}
 use Rattle.step_splitter.specs.Chains.{IsNeedlePoint, KeepsClose}
+use Rattle.line_graph.specs.Spelling.{plain_spelling}
 use Rattle.line_graph.specs.Walks.{IsTour, IsLeast, cost_of_line, cost_of_walk, needles_of, needles_of_walk}
 
 -- neighbouring points lie within the limit of each other, on each axis
@@ -54,3 +55,8 @@ ALoopIsSewnByItsLine = (d : DrawingValue) → KeepsDrawing d → IsLoop d → Is
 abbrev pub TheSewnDesignSews : Type 0
 TheSewnDesignSews = (d : DrawingValue) (walks : List (List Pass)) →
     All (λ walk. needles_of_walk d walk ≢ []) walks → Sews d walks (acts_of (sewn_design d walks))
+
+-- two drawings of one closed line with the same plain text have the same longest step
+abbrev pub PlainTextsShareSteps : Type 0
+PlainTextsShareSteps = (a b : DrawingValue) → KeepsDrawing a → KeepsDrawing b → IsLoop a → IsLoop b
+    → plain_spelling a ≡ plain_spelling b → a.step ≡ b.step

@@ -1,4 +1,4 @@
-ghost use Rattle.line_graph.specs.Laws.{ALoopIsSewnByItsLine, TheSewnDesignSews};
+ghost use Rattle.line_graph.specs.Laws.{ALoopIsSewnByItsLine, PlainTextsShareSteps, TheSewnDesignSews};
 
 /// A drawing of one closed line is sewn by the walk along that line, which is closed and least.
 pub fn a_loop_is_sewn_by_its_line()
@@ -8,4 +8,9 @@ pub fn a_loop_is_sewn_by_its_line()
 /// The sewn design of walks that each have a needle sews the drawing by these walks.
 pub fn the_sewn_design_sews()
     ensures { TheSewnDesignSews }
+{}
+
+/// Two drawings of one closed line with the same plain text have the same longest step.
+pub fn plain_texts_share_steps()
+    ensures { PlainTextsShareSteps }
 {}
