@@ -1,0 +1,11 @@
+mod WalkFacts
+mod NumeralLemmas
+mod PointTextLemmas
+mod SewingLemmas
+mod StepLemmas
+mod PointLemmas
+mod NeedleLemmas
+mod LoopLemmas
+mod PointLists
+mod LoopSewing
+mod SpellingFacts

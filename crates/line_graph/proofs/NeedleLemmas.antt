@@ -1,0 +1,186 @@
+-- Needle points that come along a line, segment by segment.
+use Rattle.std.proofs.Common.{◌≡◌, ◌≢◌, ℕ, ◌+◌, ◌<◌, ◌≤◌, List, [], ◌∷◌, ◌++◌, Option, Some, None, length, get_or, All, ap, sym, subst, ◌∙◌, refl, arith}
+use Rattle.std.proofs.lemmas.List.{append_assoc, append-nil, length-append}
+use Rattle.std.proofs.lemmas.List.Elements.{All-append, All-cons, All-head, All-nil, All-tail}
+use Rattle.std.proofs.lemmas.List.FromFn.{length-map-range_with_len}
+use Rattle.std.proofs.lemmas.List.Sums.{get_or-le-sum_by}
+use Rattle.design_model.specs.declared.point.Point.{Point}
+use Rattle.step_splitter.specs.Chains.{IsNeedlePoint, KeepsClose, KeepsMoving, LeadsTo, last_from}
+use Rattle.step_splitter.specs.Steps.{point_at, split_points, steps_of}
+use Rattle.std.proofs.lemmas.Option.{slice_get-get_or}
+use Rattle.line_graph.specs.Drawings.{DrawingValue, HasNoRepeat, IsLine, KeepsDrawing, LineValue, first_of, last_of, points_in, points_of}
+use Rattle.line_graph.specs.Laws.{AreClose, AreNeedlesOf, LeadAlong}
+use Rattle.line_graph.specs.Walks.{needles_of}
+use Rattle.line_graph.specs.Needles.{line_steps, needle_points, segment_points, segment_steps}
+
+-- the points come from the first one to that point by steps that are no longer than said
+pub record ComesTo (step : ℕ) (first : Option Point) (before : Point) (points : List Point) : Type 0 where
+  pub first_is : first_of points ≡ first
+  pub last : last_of points ≡ Some before
+  pub in_range : All IsNeedlePoint points
+  pub close : AreClose step points
+  pub moving : HasNoRepeat points
+
+-- a chain goes on where another one begins at its last point
+last_from-append : (p : Point) (xs ys : List Point) → last_from p (xs ++ ys) ≡ last_from (last_from p xs) ys
+last_from-append p [] ys = refl
+last_from-append p (x ∷ xs) ys = last_from-append x xs ys
+
+close_on : (step : ℕ) (p : Point) (xs ys : List Point) → KeepsClose step p xs
+    → KeepsClose step (last_from p xs) ys → KeepsClose step p (xs ++ ys)
+close_on step p [] ys near more = more
+close_on step p (x ∷ xs) ys near more = (near.0, close_on step x xs ys near.1 more)
+
+moving_on : (p : Point) (xs ys : List Point) → KeepsMoving p xs → KeepsMoving (last_from p xs) ys
+    → KeepsMoving p (xs ++ ys)
+moving_on p [] ys apart more = more
+moving_on p (x ∷ xs) ys apart more = (apart.0, moving_on x xs ys apart.1 more)
+
+-- there is a last point, and only one
+nothing_comes : {p : Point} → None ≡ Some p → ⊥
+nothing_comes is = cc
+
+some_same : {p q : Point} → Some p ≡ Some q → p ≡ q
+some_same is = cc
+
+-- the ends of a segment's steps bring the points to the segment's end
+pub segment_comes : (step : ℕ) (first : Option Point) (before next : Point) (points ends : List Point)
+    → ComesTo step first before points → LeadsTo before next step ends
+    → ComesTo step first next (points ++ ends)
+segment_comes step first before next [] ends comes leads = absurd (nothing_comes comes.last)
+segment_comes step first before next (p ∷ points) ends comes leads =
+    let at : last_from p points ≡ before = some_same comes.last in
+    let Close : Point → Type 0 = λ q. KeepsClose step q ends in
+    let Moving : Point → Type 0 = λ q. KeepsMoving q ends in
+    record {
+      first_is = comes.first_is;
+      last = ap (λ q. Some q) (last_from-append p points ends ∙ (ap (λ q. last_from q ends) at ∙ leads.last));
+      in_range = All-append IsNeedlePoint (p ∷ points) ends comes.in_range leads.in_range;
+      close = close_on step p points ends comes.close (subst Close (sym at) leads.close);
+      moving = moving_on p points ends comes.moving (subst Moving (sym at) leads.moving);
+    }
+
+-- the needle points so far come along the line to a point of it; the points that are left can be sewn
+pub record IsSewn (step : ℕ) (line : List Point) (before : Point) (rest needles : List Point) : Type 0 where
+  pub in_range : IsNeedlePoint before
+  pub rest_in_range : All IsNeedlePoint rest
+  pub moving : KeepsMoving before rest
+  pub ends : last_of line ≡ Some (last_from before rest)
+  pub comes : ComesTo step (first_of line) before needles
+  pub sewn : needles ++ segment_points step before rest ≡ needle_points step line
+
+-- at the first point
+pub first_sewn : (step : ℕ) (line : List Point) (first : Point) (rest : List Point) → line ≡ first ∷ rest
+    → IsLine line → IsSewn step line first rest (first ∷ [])
+first_sewn step line first rest is able =
+    let Sewn : List Point → Type 0 = λ l. IsSewn step l first rest (first ∷ []) in
+    let Able : List Point → Type 0 = λ l. IsLine l in
+    let whole : IsLine (first ∷ rest) = subst Able is able in
+    subst Sewn (sym is) (record {
+      in_range = All-head IsNeedlePoint first rest whole.in_range;
+      rest_in_range = All-tail IsNeedlePoint first rest whole.in_range;
+      moving = whole.moving;
+      ends = refl;
+      comes = record {
+        first_is = refl;
+        last = refl;
+        in_range = All-cons IsNeedlePoint first [] (All-head IsNeedlePoint first rest whole.in_range) (All-nil IsNeedlePoint);
+        close = tt;
+        moving = tt;
+      };
+      sewn = refl;
+    })
+
+-- one segment on
+pub segment_sewn : (step : ℕ) (line : List Point) (before next : Point) (rest after needles ends : List Point)
+    → IsSewn step line before rest needles → rest ≡ next ∷ after → ends ≡ split_points before next step
+    → LeadsTo before next step ends → IsSewn step line next after (needles ++ ends)
+segment_sewn step line before next rest after needles ends sewn is split leads =
+    let Sewn : List Point → Type 0 = λ r. IsSewn step line before r needles in
+    let whole : IsSewn step line before (next ∷ after) needles = subst Sewn is sewn in
+    record {
+      in_range = All-head IsNeedlePoint next after whole.rest_in_range;
+      rest_in_range = All-tail IsNeedlePoint next after whole.rest_in_range;
+      moving = whole.moving.1;
+      ends = whole.ends;
+      comes = segment_comes step (first_of line) before next needles ends sewn.comes leads;
+      sewn = append_assoc needles ends (segment_points step next after)
+          ∙ (ap (λ e. needles ++ (e ++ segment_points step next after)) split ∙ whole.sewn);
+    }
+
+-- what the next segment needs
+pub next_segment : (step : ℕ) (line : List Point) (before next : Point) (rest after needles : List Point)
+    → IsSewn step line before rest needles → rest ≡ next ∷ after → (before ≢ next) × IsNeedlePoint next
+next_segment step line before next rest after needles sewn is =
+    let Moving : List Point → Type 0 = λ r. KeepsMoving before r in
+    let Able : List Point → Type 0 = λ r. All IsNeedlePoint r in
+    ((subst Moving is sewn.moving).0, All-head IsNeedlePoint next after (subst Able is sewn.rest_in_range))
+
+-- with no segment left the needle points are those of the line
+pub all_sewn : (step : ℕ) (line : List Point) (before : Point) (rest needles : List Point)
+    → IsSewn step line before rest needles → rest ≡ []
+    → (needles ≡ needle_points step line) × LeadAlong step line needles
+all_sewn step line before rest needles sewn is =
+    let Sewn : List Point → Type 0 = λ r. IsSewn step line before r needles in
+    let whole : IsSewn step line before [] needles = subst Sewn is sewn in (
+      sym (append-nil needles) ∙ whole.sewn,
+      record {
+        first = whole.comes.first_is;
+        last = whole.comes.last ∙ sym whole.ends;
+        in_range = whole.comes.in_range;
+        close = whole.comes.close;
+        moving = whole.comes.moving;
+      },
+    )
+
+-- the needle points of segments are as many as their steps
+segment_count : (step : ℕ) (p : Point) (points : List Point)
+    → length (segment_points step p points) ≡ segment_steps step p points
+segment_count step p [] = refl
+segment_count step p (q ∷ rest) =
+    let n : ℕ = steps_of p q step in
+    let one : length (split_points p q step) ≡ n = length-map-range_with_len (λ i. point_at p q n i) 1 n in
+    omega (
+      arith,
+      length-append (split_points p q step) (segment_points step q rest),
+      one,
+      segment_count step q rest,
+    )
+
+-- those of a line are one more
+pub needle_count : (step : ℕ) (points : List Point) → 1 ≤ length points
+    → length (needle_points step points) ≡ line_steps step points + 1
+needle_count step [] some = omega arith
+needle_count step (p ∷ rest) some = omega (arith, segment_count step p rest)
+
+-- a line of a drawing can be sewn, and costs no more than the whole drawing may
+module _ (d : DrawingValue) (line : ℕ) (there : line < length d.lines) (keeps : KeepsDrawing d) where
+  none : LineValue
+  none = record { block = 0; points = [] }
+
+  points_are : points_of d line ≡ (get_or d.lines line none).points
+  points_are = ap points_in (slice_get-get_or d.lines line none there)
+
+  pub line_there : IsLine (points_of d line)
+  line_there = let Line : List Point → Type 0 = λ points. IsLine points in
+      subst Line (sym points_are) (keeps.lines line none there)
+
+  pub cost_is : length (needles_of d line) ≡ line_steps d.step (points_of d line) + 1
+  cost_is = needle_count d.step (points_of d line) (omega (arith, line_there.long))
+
+  pub cost_few : line_steps d.step (points_of d line) ≤ 200000
+  cost_few =
+      let part = get_or-le-sum_by (λ l. line_steps d.step l.points) d.lines line none there in
+      let same : line_steps d.step (points_of d line) ≡ line_steps d.step ((get_or d.lines line none).points) =
+      ap (line_steps d.step) points_are in
+      omega (arith, keeps.cost)
+
+-- what holds of a line's needle points
+pub needles_sound : (d : DrawingValue) (line : ℕ) (points : List Point) → line < length d.lines
+    → KeepsDrawing d → points ≡ needles_of d line → LeadAlong d.step (points_of d line) points
+    → AreNeedlesOf d line points
+needles_sound d line points there keeps is along = record {
+  count = omega (arith, cost_is d line there keeps, ap length is);
+  few = omega (arith, cost_is d line there keeps, cost_few d line there keeps);
+  along = along;
+}

@@ -1,0 +1,53 @@
+-- Worked values of needles, walks and their sewing.
+use Rattle.std.proofs.Common.{◌≡◌, ℕ, pos, true, false, List, [], ◌∷◌, refl}
+use Rattle.design_model.specs.declared.command.Command.TheVariants.{Stitch, Trim}
+use Rattle.design_model.specs.declared.point.Point.{Point}
+use Rattle.line_graph.specs.declared.pass.Pass.{Pass}
+use Rattle.line_graph.specs.Drawings.{DrawingValue}
+use Rattle.line_graph.specs.Sewing.{commands_after}
+use Rattle.line_graph.specs.Walks.{cost_of_line, cost_of_walk, needles_of, needles_of_walk}
+
+abbrev pub at : ℕ → ℕ → Point
+at x y = record { x = pos x; y = pos y }
+
+-- a drawing of one line, in one block
+abbrev pub drawn : ℕ → List Point → DrawingValue
+drawn step points = record {
+  label = [];
+  step = step;
+  threads = 5 ∷ [];
+  lines = record { block = 0; points = points } ∷ [];
+}
+
+-- a square of sides 30 at the longest step 30, and a stroke of 40 at the longest step 10
+abbrev pub square : DrawingValue
+square = drawn 30 (at 0 0 ∷ at 30 0 ∷ at 30 30 ∷ at 0 30 ∷ at 0 0 ∷ [])
+
+abbrev pub stroke : DrawingValue
+stroke = drawn 10 (at 0 0 ∷ at 40 0 ∷ [])
+
+abbrev pub forth : Pass
+forth = record { line = 0; back = false }
+
+abbrev pub back : Pass
+back = record { line = 0; back = true }
+
+-- a side of the square is one step
+pub known_square : needles_of square 0 ≡ at 0 0 ∷ at 30 0 ∷ at 30 30 ∷ at 0 30 ∷ at 0 0 ∷ []
+known_square = refl
+
+pub known_square_cost : cost_of_line square 0 ≡ 4
+known_square_cost = refl
+
+-- a stroke forth and back takes its far end once
+pub known_retrace : needles_of_walk stroke (forth ∷ back ∷ [])
+    ≡ at 0 0 ∷ at 10 0 ∷ at 20 0 ∷ at 30 0 ∷ at 40 0 ∷ at 30 0 ∷ at 20 0 ∷ at 10 0 ∷ at 0 0 ∷ []
+known_retrace = refl
+
+pub known_retrace_cost : cost_of_walk stroke (forth ∷ back ∷ []) ≡ 8
+known_retrace_cost = refl
+
+-- the square is sewn by five stitches and a trim
+pub known_sewing : commands_after square 0 ((forth ∷ []) ∷ [])
+    ≡ Stitch (at 0 0) ∷ Stitch (at 30 0) ∷ Stitch (at 30 30) ∷ Stitch (at 0 30) ∷ Stitch (at 0 0) ∷ Trim ∷ []
+known_sewing = refl

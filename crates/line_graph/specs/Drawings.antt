@@ -1,0 +1,78 @@
+-- Drawings as contracts see them, in whole tenths of a millimetre: lines of straight segments, in
+-- blocks of one thread each. Indexes of blocks and lines count from 0. Costs count steps.
+use Rattle.std.specs.Prelude.{◌≢◌, ℕ, ◌<◌, ◌≤◌, List, [], ◌∷◌, Option, Some, None, length, map, All, Contains, sum_by, slice_get}
+use Rattle.std.specs.List.Sorted.{IsNonDecreasing}
+use Rattle.design_model.specs.declared.point.Point.{Point}
+use Rattle.design_model.specs.Labels.{IsLabel}
+use Rattle.step_splitter.specs.declared.segment.TheConstants.{MAX_STEP}
+use Rattle.step_splitter.specs.Chains.{IsNeedlePoint, KeepsMoving, last_from}
+use Rattle.line_graph.specs.declared.limits.TheConstants.{MAX_BLOCKS, MAX_COST, MAX_LINES, MAX_POINTS}
+use Rattle.line_graph.specs.Needles.{line_steps}
+
+-- a line: the block that it belongs to, and its points
+pub record LineValue : Type 0 where
+  pub block : ℕ
+  pub points : List Point
+
+-- a label, the longest step, the thread number of each block, and the lines
+pub record DrawingValue : Type 0 where
+  pub label : List ℕ
+  pub step : ℕ
+  pub threads : List ℕ
+  pub lines : List LineValue
+
+-- the points of a line, if there is one
+abbrev pub points_in : Option LineValue → List Point
+points_in (Some line) = line.points
+points_in None = []
+
+-- the block of a line, if there is one
+abbrev pub block_in : Option LineValue → ℕ
+block_in (Some line) = line.block
+block_in None = 0
+
+-- the points of the line with that index
+abbrev pub points_of : DrawingValue → ℕ → List Point
+points_of d line = points_in (slice_get d.lines line)
+
+-- the block of the line with that index
+abbrev pub block_of : DrawingValue → ℕ → ℕ
+block_of d line = block_in (slice_get d.lines line)
+
+-- the first point of a list
+abbrev pub first_of : List Point → Option Point
+first_of [] = None
+first_of (p ∷ rest) = Some p
+
+-- the last point of a list
+abbrev pub last_of : List Point → Option Point
+last_of [] = None
+last_of (p ∷ rest) = Some (last_from p rest)
+
+-- each point differs from the one before
+abbrev pub HasNoRepeat : List Point → Type 0
+HasNoRepeat [] = Unit {0}
+HasNoRepeat (p ∷ rest) = KeepsMoving p rest
+
+-- a line can be sewn: it has a segment, no point repeats the one before, and needles may go down there
+pub record IsLine (points : List Point) : Type 0 where
+  pub long : 2 ≤ length points
+  pub moving : HasNoRepeat points
+  pub in_range : All IsNeedlePoint points
+
+-- the limits of a drawing, and that its blocks and lines fit together
+pub record KeepsDrawing (d : DrawingValue) : Type 0 where
+  pub label : IsLabel d.label
+  pub one_word : All (λ byte. byte ≢ 32) d.label
+  pub step_from : 1 ≤ d.step
+  pub step_to : d.step ≤ MAX_STEP
+  pub blocks_from : 1 ≤ length d.threads
+  pub blocks_to : length d.threads ≤ MAX_BLOCKS
+  pub threads : All (λ thread. thread < 256) d.threads
+  pub used : (block : ℕ) → block < length d.threads → Contains (map (λ line. line.block) d.lines) block
+  pub there : All (λ line. line.block < length d.threads) d.lines
+  pub ordered : IsNonDecreasing (map (λ line. line.block) d.lines)
+  pub lines : All (λ line. IsLine line.points) d.lines
+  pub line_count : length d.lines ≤ MAX_LINES
+  pub point_count : sum_by (λ line. length line.points) d.lines ≤ MAX_POINTS
+  pub cost : sum_by (λ line. line_steps d.step line.points) d.lines ≤ MAX_COST

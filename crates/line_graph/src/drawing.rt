@@ -1,0 +1,142 @@
+ghost use Rattle.std.specs.Prelude.{◌≡◌, ◌<◌, ◌≤◌, length, slice_index, IfOk};
+ghost use Rattle.line_graph.specs.declared.limits.TheConstants.{MAX_LINES};
+
+use crate::limits::MAX_BLOCKS;
+use crate::line::Line;
+use arrayvec::ArrayVec;
+use design_model::{MAX_LABEL, Memory, Point, Points};
+use std::alloc::Global;
+use std::marker::Model;
+
+/// A line drawing: a label, the longest step, blocks of one thread each, and lines in the blocks.
+///
+/// Blocks and lines count from 0. Each block has a line, and the lines stand in the order of their
+/// blocks.
+#[derive(Debug, Drop)]
+pub struct Drawing {
+    label: ArrayVec<u8, MAX_LABEL>,
+    step: u32,
+    threads: ArrayVec<u8, MAX_BLOCKS>,
+    lines: Vec<Line>,
+}
+
+impl Model for Drawing {
+    ghost use Rattle.line_graph.specs.Drawings.{DrawingValue, KeepsDrawing};
+
+    ghost Value = { DrawingValue };
+
+    ghost view = { λ d. record {
+      label = d.label.items;
+      step = d.step;
+      threads = d.threads.items;
+      lines = d.lines.items;
+    } };
+
+    ghost invariant = { λ d. KeepsDrawing (record {
+      label = d.label.items;
+      step = d.step;
+      threads = d.threads.items;
+      lines = d.lines.items;
+    }) };
+}
+
+impl Drawing {
+    ghost use Rattle.design_model.specs.Labels.{IsLabel};
+    ghost use Rattle.line_graph.specs.Drawings.{KeepsDrawing, points_of, block_of};
+    ghost use Rattle.line_graph.specs.LoopShapes.{IsLoopLine, loop_drawing};
+
+    /// The drawing of one closed line, in a block of that thread, without a label.
+    pub(crate) fn of_loop(
+        alloc: Global,
+        step: u32,
+        thread: u8,
+        points: Points,
+    ) -> Result<Drawing, Memory>
+        requires { IsLoopLine step points }
+        ensures { IfOk result (λ d. d ≡ loop_drawing step thread points) }
+    {
+        let mut lines = Vec::new(alloc);
+        lines.push(Line::new(0, points))?;
+        let mut threads = ArrayVec::new();
+        threads.push(thread);
+        Ok(Drawing {
+            label: ArrayVec::new(),
+            step,
+            threads,
+            lines,
+        })
+    }
+
+    /// The longest step on each axis, in tenths of a millimetre.
+    pub fn step(&self) -> u32
+        ensures value { result ≡ self.now.step }
+        ensures limits { KeepsDrawing self.now }
+    {
+        self.step
+    }
+
+    /// The label, which may be empty.
+    pub fn label(&self) -> &[u8]
+        ensures value { result.now ≡ self.now.label }
+        ensures limits { IsLabel result.now }
+    {
+        self.label.as_slice()
+    }
+
+    /// The thread numbers of the blocks.
+    pub(crate) fn threads(&self) -> &[u8]
+        ensures value { result.now ≡ self.now.threads }
+        ensures most { length result.now ≤ MAX_BLOCKS }
+    {
+        self.threads.as_slice()
+    }
+
+    /// The lines in order.
+    pub(crate) fn lines(&self) -> &[Line]
+        ensures { result.now ≡ self.now.lines }
+    {
+        self.lines.as_slice()
+    }
+
+    /// The number of lines.
+    pub fn line_count(&self) -> u32
+        ensures value { result ≡ length self.now.lines }
+        ensures most { result ≤ MAX_LINES }
+    {
+        self.lines.len() as u32
+    }
+
+    /// The number of blocks.
+    pub fn block_count(&self) -> u32
+        ensures value { result ≡ length self.now.threads }
+        ensures least { 1 ≤ result }
+        ensures most { result ≤ MAX_BLOCKS }
+    {
+        self.threads.len() as u32
+    }
+
+    /// The thread number of a block.
+    pub fn block_thread(&self, block: u32) -> u8
+        requires { block < length self.now.threads }
+        ensures { result ≡ slice_index self.now.threads block }
+    {
+        self.threads.as_slice()[block as usize]
+    }
+
+    /// The points of a line, in tenths of a millimetre.
+    pub fn line_points(&self, line: u32) -> &[Point]
+        requires { line < length self.now.lines }
+        ensures { result.now ≡ points_of self.now line }
+    {
+        self.lines[line as usize].points()
+    }
+
+    /// The index of a line's block.
+    pub fn line_block(&self, line: u32) -> u32
+        requires { line < length self.now.lines }
+        ensures value { result ≡ block_of self.now line }
+        ensures there { result < length self.now.threads }
+    {
+        self.lines[line as usize].block()
+    }
+}

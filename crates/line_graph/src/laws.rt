@@ -1,0 +1,16 @@
+ghost use Rattle.line_graph.specs.Laws.{ALoopIsSewnByItsLine, PlainTextsShareSteps, TheSewnDesignSews};
+
+/// A drawing of one closed line is sewn by the walk along that line, which is closed and least.
+pub fn a_loop_is_sewn_by_its_line()
+    ensures { ALoopIsSewnByItsLine }
+{}
+
+/// The sewn design of walks that each have a needle sews the drawing by these walks.
+pub fn the_sewn_design_sews()
+    ensures { TheSewnDesignSews }
+{}
+
+/// Two drawings of one closed line with the same plain text have the same longest step.
+pub fn plain_texts_share_steps()
+    ensures { PlainTextsShareSteps }
+{}

@@ -1,0 +1,29 @@
+//! Drawings of lines in blocks of one thread each, the needles of their lines, and the plain text of
+//! a drawing of one closed line.
+#![tactic(auto)]
+
+mod drawing;
+mod laws;
+mod limits;
+mod line;
+mod loop_fault;
+mod loop_shape;
+mod loop_text;
+mod needle_points;
+mod numbers;
+mod pass;
+mod point_text;
+mod spelling;
+#[cfg(test)]
+mod tests;
+mod words;
+
+pub use drawing::Drawing;
+pub use laws::{a_loop_is_sewn_by_its_line, plain_texts_share_steps, the_sewn_design_sews};
+pub use limits::{MAX_BLOCKS, MAX_COST, MAX_LINES, MAX_POINTS, MAX_TEXT};
+pub use loop_fault::LoopFault;
+pub use loop_text::read_loop;
+pub use needle_points::needles;
+pub use pass::Pass;
+pub use spelling::print_drawing;
+pub use step_splitter::MAX_STEP;

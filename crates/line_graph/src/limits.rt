@@ -1,0 +1,14 @@
+/// The most blocks of a drawing.
+pub const MAX_BLOCKS: usize = 255;
+
+/// The most lines of a drawing.
+pub const MAX_LINES: usize = 1_024;
+
+/// The most points of a drawing, over all its lines.
+pub const MAX_POINTS: usize = 65_536;
+
+/// The greatest cost of a drawing, over all its lines, in steps.
+pub const MAX_COST: u32 = 200_000;
+
+/// The most bytes of a drawing's text.
+pub const MAX_TEXT: usize = 67_108_864;

@@ -1,0 +1,57 @@
+ghost use Rattle.std.specs.Prelude.{◌≡◌, ◌<◌, ◌≤◌, ◌∷◌, [], length, IfOk, IfSome, IfNone};
+ghost use Rattle.step_splitter.specs.declared.segment.TheConstants.{MAX_STEP as max_step};
+ghost use Rattle.line_graph.specs.Drawings.{IsLine};
+ghost use Rattle.line_graph.specs.Laws.{AreNeedlesOf, LeadAlong};
+ghost use Rattle.line_graph.specs.Needles.{needle_points};
+ghost use Rattle.line_graph.specs.Walks.{needles_of};
+
+use crate::drawing::Drawing;
+use design_model::{Memory, Point, Points};
+use std::alloc::Global;
+use step_splitter::split;
+
+/// The needle points of a line at the drawing's step: its first point, and then the points that its
+/// segments are split at.
+pub fn needles(alloc: Global, d: &Drawing, line: u32) -> Result<Points, Memory>
+    requires there { line < length d.now.lines }
+    ensures value { IfOk result (λ points. points ≡ needles_of d.now line) }
+    ensures sound { IfOk result (AreNeedlesOf d.now line) }
+{
+    let step = d.step();
+    let points = needles_along(alloc, d.line_points(line), step)?;
+    Ok(points)
+}
+
+fn needles_along(alloc: Global, points: &[Point], step: u32) -> Result<Points, Memory>
+    requires low { 1 ≤ step }
+    requires high { step ≤ max_step }
+    requires line { IsLine points.now }
+    ensures value { IfOk result (λ needles. needles ≡ needle_points step points.now) }
+    ensures along { IfOk result (LeadAlong step points.now) }
+{
+    let mut needles = Points::new(alloc);
+    let Some((first, after)) = first_point(points) else {
+        return Ok(needles);
+    };
+    needles.push(first)?;
+    let mut before = first;
+    let mut rest = after;
+    while let Some((next, after)) = first_point(rest) {
+        let ends = split(alloc, before, next, step)?;
+        needles.append(ends.as_slice())?;
+        before = next;
+        rest = after;
+    }
+    Ok(needles)
+}
+
+/// The first point, and the points behind it.
+fn first_point(points: &[Point]) -> Option<(Point, &[Point])>
+    ensures some { IfSome result (λ r. points.now ≡ r.0 ∷ r.1.now) }
+    ensures none { IfNone result (points.now ≡ []) }
+{
+    match points {
+        [first, after @ ..] => Some((*first, after)),
+        [] => None,
+    }
+}

@@ -1,0 +1,5 @@
+mod SplitFacts
+mod QuotientLemmas
+mod AxisLemmas
+mod PointLemmas
+mod ChainLemmas

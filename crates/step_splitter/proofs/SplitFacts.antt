@@ -1,0 +1,28 @@
+-- Worked values of the steps.
+use Rattle.std.proofs.Common.{◌≡◌, ℤ, pos, negsuc, [], ◌∷◌, refl}
+use Rattle.design_model.specs.declared.point.Point.{Point}
+use Rattle.design_model.specs.Points.{origin}
+use Rattle.step_splitter.specs.Steps.{floor_quotient, split_points, steps_of}
+
+-- the point at those numbers
+abbrev pub at : ℤ → ℤ → Point
+at x y = record { x = x; y = y }
+
+-- -7 / 3 is -3, and -6 / 3 is -2
+pub known_floor : floor_quotient (negsuc 6) 3 ≡ negsuc 2
+known_floor = refl
+
+pub known_floor_whole : floor_quotient (negsuc 5) 3 ≡ negsuc 1
+known_floor_whole = refl
+
+-- a move of 30 is one step of at most 30, and a move of 31 is two
+pub known_one_step : steps_of origin (at (pos 30) (pos 0)) 30 ≡ 1
+known_one_step = refl
+
+pub known_two_steps : steps_of origin (at (pos 31) (pos 0)) 30 ≡ 2
+known_two_steps = refl
+
+-- from the origin to (-7, 3) in three steps: -14 / 3 is rounded to -5
+pub known_split : split_points origin (at (negsuc 6) (pos 3)) 3
+    ≡ at (negsuc 2) (pos 1) ∷ at (negsuc 4) (pos 2) ∷ at (negsuc 6) (pos 3) ∷ []
+known_split = refl

@@ -1,0 +1,3 @@
+-- read this one first: how many steps a segment has, and where they end
+pub mod Steps
+pub mod Chains

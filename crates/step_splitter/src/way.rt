@@ -1,0 +1,65 @@
+ghost use Rattle.std.specs.Prelude.{◌≡◌, ◌+◌, ◌-◌, ◌*◌, ◌/◌, ◌≤◌, unsigned_abs};
+ghost use Rattle.design_model.specs.declared.point.TheConstants.{NEEDLE_LIMIT};
+ghost use Rattle.step_splitter.specs.Chains.{IsNeedlePoint};
+ghost use Rattle.step_splitter.specs.Steps.{number_at, point_at as point_on_the_way};
+
+use design_model::Point;
+
+/// Two numbers, and the way from one to the other.
+#[derive(Clone, Copy)]
+struct Span {
+    from: i32,
+    to: i32,
+}
+
+/// The point that lies `index` parts of `count` on the way from `p` to `q`.
+pub fn point_at(p: Point, q: Point, count: u32, index: u32) -> Point
+    requires from { IsNeedlePoint p }
+    requires to { IsNeedlePoint q }
+    requires some { 1 ≤ count }
+    requires there { index ≤ count }
+    ensures { result ≡ point_on_the_way p q count index }
+{
+    let across = Span { from: p.x, to: q.x };
+    let down = Span { from: p.y, to: q.y };
+    Point {
+        x: number_on(across, count, index),
+        y: number_on(down, count, index),
+    }
+}
+
+/// The number that lies `index` parts of `count` on the way.
+fn number_on(span: Span, count: u32, index: u32) -> i32
+    requires from { unsigned_abs span.from ≤ NEEDLE_LIMIT }
+    requires to { unsigned_abs span.to ≤ NEEDLE_LIMIT }
+    requires some { 1 ≤ count }
+    requires there { index ≤ count }
+    ensures { result ≡ number_at span.from span.to count index }
+{
+    let distance = span.to.abs_diff(span.from);
+    if span.from <= span.to {
+        span.from + part(distance, count, index) as i32
+    } else {
+        span.from - part_up(distance, count, index) as i32
+    }
+}
+
+/// The distance covered after `index` parts of `count`, rounded down.
+fn part(distance: u32, count: u32, index: u32) -> u32
+    requires some { 1 ≤ count }
+    requires there { index ≤ count }
+    ensures value { result ≡ index * distance / count }
+    ensures within { result ≤ distance }
+{
+    (index as u64 * distance as u64 / count as u64) as u32
+}
+
+/// The distance covered after `index` parts of `count`, rounded up.
+fn part_up(distance: u32, count: u32, index: u32) -> u32
+    requires some { 1 ≤ count }
+    requires there { index ≤ count }
+    ensures value { result ≡ (index * distance + (count - 1)) / count }
+    ensures within { result ≤ distance }
+{
+    ((index as u64 * distance as u64 + (count as u64 - 1)) / count as u64) as u32
+}
