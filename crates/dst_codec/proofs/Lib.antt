@@ -1,0 +1,3 @@
+mod SpellingFacts
+mod ReadingFacts
+mod WritingFacts

@@ -1,0 +1,2 @@
+/// The bytes of a header.
+pub const HEADER_LENGTH: usize = 512;

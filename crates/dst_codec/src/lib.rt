@@ -1,0 +1,11 @@
+//! The DST format: records of three bytes behind a header of 512 bytes. The file's y points
+//! upwards, a design's downwards.
+#![tactic(auto)]
+
+mod dst;
+mod header;
+mod record_kind;
+#[cfg(test)]
+mod tests;
+
+pub use dst::{LIMIT, MAX_FLOAT_HOPS, MAX_STOPS};
