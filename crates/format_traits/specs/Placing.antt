@@ -5,7 +5,8 @@ use Rattle.design_model.specs.declared.act.Act.{Act}
 use Rattle.design_model.specs.declared.act.Act.TheVariants.{Needle, Trim, Stop}
 use Rattle.design_model.specs.declared.act.NumberedAct.{NumberedAct}
 use Rattle.design_model.specs.declared.point.Point.{Point}
-use Rattle.design_model.specs.Points.{move_between, size_of}
+use Rattle.design_model.specs.declared.point.TheConstants.{NEEDLE_LIMIT}
+use Rattle.design_model.specs.Points.{is_within, move_between, size_of}
 
 -- the place after a move
 abbrev pub moved : Point → Point → Point
@@ -22,6 +23,12 @@ abbrev pub is_loose_after : Act → Bool
 is_loose_after (Needle p float) = false
 is_loose_after Trim = true
 is_loose_after Stop = true
+
+-- the point of an act, where it has one, is in a needle's range
+abbrev pub is_act_in_range : Act → Bool
+is_act_in_range (Needle p float) = is_within NEEDLE_LIMIT p
+is_act_in_range Trim = true
+is_act_in_range Stop = true
 
 -- the place after all of the acts
 abbrev pub place_along : Point → List NumberedAct → Point

@@ -7,6 +7,7 @@ mod fault;
 mod format_object;
 mod loaded;
 mod lookup;
+mod placing;
 mod standing;
 #[cfg(test)]
 mod tests;
@@ -16,4 +17,5 @@ pub use fault::{ReadFault, WriteFault};
 pub use format_object::{Format, GREATEST_LIMIT, LEAST_LIMIT};
 pub use loaded::Loaded;
 pub use lookup::find;
+pub use placing::{GREATEST_MOVE, hops, move_between, size_of};
 pub use standing::{Reach, Standing};
