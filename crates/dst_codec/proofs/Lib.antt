@@ -1,3 +1,4 @@
-mod SpellingFacts
 mod ReadingFacts
+mod SpellingFacts
+pub mod SurveyLemmas
 mod WritingFacts

@@ -9,6 +9,8 @@ use Rattle.design_model.specs.Points.{origin}
 use Rattle.format_traits.specs.LabelFields.{filled_left, filled_right, label_field}
 use Rattle.format_traits.specs.Placing.{place_along}
 use Rattle.format_traits.specs.Refusals.{stops_of}
+use Rattle.dst_codec.specs.declared.header.Extents.{Extents}
+use Rattle.dst_codec.specs.declared.header.HeaderNumbers.{HeaderNumbers}
 use Rattle.dst_codec.specs.declared.header.TheConstants.{HEADER_LENGTH}
 
 -- a number above 0, or 0
@@ -49,21 +51,47 @@ sign_of (negsuc n) = 45
 abbrev pub signed_field : List ℕ → ℤ → List ℕ
 signed_field name z = field name (sign_of z ∷ filled_left 5 (decimal (unsigned_abs z)))
 
--- the fields of a label, acts and a number of records
-abbrev pub header_fields : List ℕ → List NumberedAct → ℕ → List ℕ
-header_fields label acts count = field (codes "LA:") (label_field label)
-    ++ number_field (codes "ST:") 7 count
-    ++ number_field (codes "CO:") 3 (stops_of acts)
-    ++ number_field (codes "+X:") 5 (greatest (λ p. above p.x) acts)
-    ++ number_field (codes "-X:") 5 (greatest (λ p. below p.x) acts)
-    ++ number_field (codes "+Y:") 5 (greatest (λ p. below p.y) acts)
-    ++ number_field (codes "-Y:") 5 (greatest (λ p. above p.y) acts)
-    ++ signed_field (codes "AX:") (place_along origin acts).x
-    ++ signed_field (codes "AY:") (neg_ℤ (place_along origin acts).y)
+-- how far needles reach from the origin
+abbrev pub extents_of : List NumberedAct → Extents
+extents_of acts = record {
+    right = greatest (λ p. above p.x) acts;
+    left = greatest (λ p. below p.x) acts;
+    up = greatest (λ p. below p.y) acts;
+    down = greatest (λ p. above p.y) acts;
+  }
+
+-- the numbers of a header: that of the records, and those of the acts
+abbrev pub numbers_of : List NumberedAct → ℕ → HeaderNumbers
+numbers_of acts count = record {
+    records = count;
+    stops = stops_of acts;
+    extents = extents_of acts;
+    last = place_along origin acts;
+  }
+
+-- the fields of a label and numbers
+abbrev pub fields_of : List ℕ → HeaderNumbers → List ℕ
+fields_of label numbers = field (codes "LA:") (label_field label)
+    ++ number_field (codes "ST:") 7 numbers.records
+    ++ number_field (codes "CO:") 3 numbers.stops
+    ++ number_field (codes "+X:") 5 numbers.extents.right
+    ++ number_field (codes "-X:") 5 numbers.extents.left
+    ++ number_field (codes "+Y:") 5 numbers.extents.up
+    ++ number_field (codes "-Y:") 5 numbers.extents.down
+    ++ signed_field (codes "AX:") numbers.last.x
+    ++ signed_field (codes "AY:") (neg_ℤ numbers.last.y)
     ++ signed_field (codes "MX:") (pos 0)
     ++ signed_field (codes "MY:") (pos 0)
     ++ field (codes "PD:") (codes "******")
 
--- the header
+-- the fields of a label, acts and a number of records
+abbrev pub header_fields : List ℕ → List NumberedAct → ℕ → List ℕ
+header_fields label acts count = fields_of label (numbers_of acts count)
+
+-- the header of a label and numbers
+abbrev pub header_of : List ℕ → HeaderNumbers → List ℕ
+header_of label numbers = filled_right HEADER_LENGTH (fields_of label numbers ++ 26 ∷ [])
+
+-- the header of a label, acts and a number of records
 abbrev pub header : List ℕ → List NumberedAct → ℕ → List ℕ
-header label acts count = filled_right HEADER_LENGTH (header_fields label acts count ++ 26 ∷ [])
+header label acts count = header_of label (numbers_of acts count)

@@ -5,7 +5,11 @@
 mod dst;
 mod header;
 mod record_kind;
+mod records;
+mod spelling;
+mod survey;
 #[cfg(test)]
 mod tests;
 
 pub use dst::{LIMIT, MAX_FLOAT_HOPS, MAX_STOPS};
+pub use spelling::encode_move;
