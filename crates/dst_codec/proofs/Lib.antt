@@ -1,4 +1,5 @@
 mod ReadingFacts
 mod SpellingFacts
+pub mod SpellingLemmas
 pub mod SurveyLemmas
 mod WritingFacts
