@@ -1,3 +1,5 @@
+pub mod HeaderLemmas
+pub mod LineLemmas
 mod ReadingFacts
 mod SpellingFacts
 pub mod SpellingLemmas

@@ -122,7 +122,7 @@ within_parts limit m within =
     (leb-true _ _ both.0, leb-true _ _ both.1)
 
 -- points are equal where their coordinates are
-same_point : {x x' y y' : ℤ} → x ≡ x' → y ≡ y'
+pub same_point : {x x' y y' : ℤ} → x ≡ x' → y ≡ y'
     → (let p : Point = record { x = x; y = y } in p) ≡ (let q : Point = record { x = x'; y = y' } in q)
 same_point x y = cc
 
