@@ -1,5 +1,5 @@
 -- A plain line is written, and reads as its stitches and a trim.
-use Rattle.std.proofs.Common.{◌≡◌, ℕ, ◌+◌, ◌<◌, ◌≤◌, ℤ, pos, negsuc, ◌+ℤ◌, ◌-ℤ◌, Bool, true, false, IsTrue, List, [], ◌∷◌, ◌++◌, length, None, Ok, Result, refl, ap, sym, ◌∙◌, subst, arith}
+use Rattle.std.proofs.Common.{◌≡◌, ℕ, ◌+◌, ◌<◌, ◌≤◌, ℤ, pos, negsuc, ◌+ℤ◌, ◌-ℤ◌, Bool, true, false, IsTrue, List, [], ◌∷◌, ◌++◌, length, None, Ok, Result, refl, ap, sym, ◌∙◌, subst, arith, unsigned_abs, nat_le, lit≤}
 use Rattle.std.proofs.lemmas.Bool.{and_parts, and_from, le-ltb, lt-leb, le-leb}
 use Rattle.std.proofs.lemmas.Bool.Decides.{Decides-int_eq}
 use Rattle.std.proofs.lemmas.Int.{ints}
@@ -18,7 +18,7 @@ use Rattle.format_traits.specs.declared.fault.ReadFault.{ReadFault}
 use Rattle.format_traits.specs.declared.standing.Standing.{Standing}
 use Rattle.format_traits.specs.Placing.{moved}
 use Rattle.format_traits.specs.PlainDesigns.{is_line, is_line_from, is_same_point}
-use Rattle.format_traits.specs.Readings.{Course, after_commands}
+use Rattle.format_traits.specs.Readings.{Course, after_commands, tried}
 use Rattle.format_traits.specs.Refusals.{refusal_from, first_refusal, beginning}
 use Rattle.format_traits.specs.Rooms.{room_from, room_of}
 use Rattle.dst_codec.specs.declared.dst.TheConstants.{LIMIT}
@@ -26,7 +26,7 @@ use Rattle.dst_codec.specs.declared.record_kind.RecordKind.{RecordKind}
 use Rattle.dst_codec.specs.declared.record_kind.RecordKind.TheVariants as kind
 use Rattle.dst_codec.specs.Bits.{move_of, kind_of}
 use Rattle.dst_codec.specs.Lines.{line_bytes, are_near}
-use Rattle.dst_codec.specs.Reading.{reads_from, read_record, commands_of, run_after, record_moves}
+use Rattle.dst_codec.specs.Reading.{reads_from, read_record, commands_of, run_after, unless_end, record_moves}
 use Rattle.dst_codec.specs.Spelling.{stitch_record, trim_records, end_record}
 use Rattle.dst_codec.specs.Writing.{reach, records_of, records_from}
 use Rattle.dst_codec.proofs.SpellingLemmas.{same_point, byte_of, third_of, move_of-record, kind_of-stitch, within_parts}
@@ -153,3 +153,114 @@ acts-line_read n n' place (Jump p ∷ rest) line = cc
 acts-line_read n n' place (Trim ∷ []) line = refl
 acts-line_read n n' place (Trim ∷ more ∷ rest) line = cc
 acts-line_read n n' place (Stop ∷ rest) line = cc
+
+-- a command in range, with fewer commands before than a design may have, is kept
+pub tried-kept : (at count : ℕ) (command : Command) (rest : Result Course ReadFault)
+    → IsTrue (is_in_range command) → count < MAX_COMMANDS
+    → tried at count command rest ≡ after_commands (command ∷ []) rest
+tried-kept at count command rest here few = rw (here, lt-leb MAX_COMMANDS count few) refl
+
+abs-moved : (x y : ℤ) (a b : ℕ) → unsigned_abs x ≤ a → unsigned_abs y ≤ b → unsigned_abs (x +ℤ y) ≤ a + b
+abs-moved x y a b hx hy = omega (arith, ints)
+
+-- a place not far from one in range is in the range of a jump
+jump_in_range : (place m : Point) (far near : ℕ) → (unsigned_abs place.x ≤ far) × (unsigned_abs place.y ≤ far)
+    → (unsigned_abs m.x ≤ near) × (unsigned_abs m.y ≤ near) → far + near ≤ JUMP_LIMIT
+    → IsTrue (is_in_range (Jump (moved place m)))
+jump_in_range place m far near here small fits =
+    let x = abs-moved place.x m.x far near here.0 small.0 in
+    let y = abs-moved place.y m.y far near here.1 small.1 in
+    and_from (nat_le (unsigned_abs (place.x +ℤ m.x)) JUMP_LIMIT) (nat_le (unsigned_abs (place.y +ℤ m.y)) JUMP_LIMIT)
+      (le-leb _ _ (omega (arith, x, fits))) (le-leb _ _ (omega (arith, y, fits)))
+
+far-moved : (place m : Point) (far near : ℕ) → (unsigned_abs place.x ≤ far) × (unsigned_abs place.y ≤ far)
+    → (unsigned_abs m.x ≤ near) × (unsigned_abs m.y ≤ near)
+    → (unsigned_abs (moved place m).x ≤ far + near) × (unsigned_abs (moved place m).y ≤ far + near)
+far-moved place m far near here small =
+    (abs-moved place.x m.x far near here.0 small.0, abs-moved place.y m.y far near here.1 small.1)
+
+abbrev forth : Point
+forth = record { x = pos 2; y = pos 2 }
+
+abbrev back : Point
+back = record { x = negsuc 3; y = negsuc 3 }
+
+-- the three jumps of a trim are in range
+trim_in_range : (place : Point) → IsTrue (is_within NEEDLE_LIMIT place)
+    → IsTrue (is_in_range (Jump (moved place forth)))
+      × IsTrue (is_in_range (Jump (moved (moved place forth) back)))
+      × IsTrue (is_in_range (Jump (moved (moved (moved place forth) back) forth)))
+trim_in_range place here =
+    let at = within_parts NEEDLE_LIMIT place here in
+    let one = far-moved place forth NEEDLE_LIMIT 2 at (lit≤ tt, lit≤ tt) in
+    let two = far-moved (moved place forth) back (NEEDLE_LIMIT + 2) 4 one (lit≤ tt, lit≤ tt) in
+    (jump_in_range place forth NEEDLE_LIMIT 2 at (lit≤ tt, lit≤ tt) (lit≤ tt),
+    jump_in_range (moved place forth) back (NEEDLE_LIMIT + 2) 4 one (lit≤ tt, lit≤ tt) (lit≤ tt),
+    jump_in_range (moved (moved place forth) back) forth (NEEDLE_LIMIT + 2 + 4) 2 two (lit≤ tt, lit≤ tt) (lit≤ tt))
+
+-- the records of a trim and the end read as three jumps and a trim
+pub reads-trim : (at count : ℕ) (place : Point) → IsTrue (is_within NEEDLE_LIMIT place)
+    → count + 4 ≤ MAX_COMMANDS
+    → reads_from at count 0 place (concat trim_records ++ end_record)
+      ≡ Ok (record { commands = line_read place (Trim ∷ []); ended = true })
+reads-trim at count place here few =
+    let jumps = trim_in_range place here in
+    let one : count < MAX_COMMANDS = omega (arith, few) in
+    let two : count + 1 < MAX_COMMANDS = omega (arith, few) in
+    let three : count + 1 + 1 < MAX_COMMANDS = omega (arith, few) in
+    let four : count + 1 + 1 + 1 < MAX_COMMANDS = omega (arith, few) in
+    rw (jumps.0, jumps.1, jumps.2, lt-leb MAX_COMMANDS count one, lt-leb MAX_COMMANDS (count + 1) two,
+      lt-leb MAX_COMMANDS (count + 1 + 1) three, lt-leb MAX_COMMANDS (count + 1 + 1 + 1) four) refl
+
+-- a line reads as its stitches and a trim
+pub reads-line : (at count : ℕ) (place : Point) (rest : List Command)
+    → IsTrue (is_line_from LIMIT place rest) → IsTrue (list_all is_in_range rest)
+    → IsTrue (is_within NEEDLE_LIMIT place)
+    → count + room_from LIMIT false place (acts_from 0 false false rest) ≤ MAX_COMMANDS
+    → reads_from at count 0 place (line_bytes place rest ++ end_record)
+      ≡ Ok (record { commands = line_read place rest; ended = true })
+reads-line at count place [] line all here small = cc
+reads-line at count place (Stitch p ∷ rest) line all here small =
+    let both = and_parts (is_within LIMIT (move_between place p)) (is_line_from LIMIT p rest) line in
+    let ranges = and_parts (is_within NEEDLE_LIMIT p) (list_all is_in_range rest) all in
+    let few : count < MAX_COMMANDS = omega (arith, small) in
+    let left : (count + 1) + room_from LIMIT false p (acts_from 0 false false rest) ≤ MAX_COMMANDS =
+      omega (arith, small, room_numbers (0 + 1) 0 p rest both.1) in
+    reads-stitch at count 0 place p (line_bytes p rest ++ end_record) both.0 ranges.0 few
+    ∙ ap (after_commands (Stitch p ∷ [])) (reads-line (at + 3) (count + 1) p rest both.1 ranges.1 ranges.0 left)
+  where
+  room_numbers : (n n' : ℕ) (place : Point) (rest : List Command) → IsTrue (is_line_from LIMIT place rest)
+      → room_from LIMIT false place (acts_from n false false rest) ≡ room_from LIMIT false place (acts_from n' false false rest)
+  room_numbers n n' place [] line = refl
+  room_numbers n n' place (Stitch p ∷ rest) line =
+      let both = and_parts (is_within LIMIT (move_between place p)) (is_line_from LIMIT p rest) line in
+      ap (λ room. 1 + room) (room_numbers (n + 1) (n' + 1) p rest both.1)
+  room_numbers n n' place (Jump p ∷ rest) line = cc
+  room_numbers n n' place (Trim ∷ []) line = refl
+  room_numbers n n' place (Trim ∷ more ∷ rest) line = cc
+  room_numbers n n' place (Stop ∷ rest) line = cc
+reads-line at count place (Jump p ∷ rest) line all here small = cc
+reads-line at count place (Trim ∷ []) line all here small =
+    reads-trim at count place here (omega (arith, small))
+reads-line at count place (Trim ∷ more ∷ rest) line all here small = cc
+reads-line at count place (Stop ∷ rest) line all here small = cc
+
+-- each move of a line's records is within the limit
+pub moves-line : (place : Point) (rest : List Command) → IsTrue (is_line_from LIMIT place rest)
+    → IsTrue (list_all (λ move. is_within LIMIT move) (record_moves (line_bytes place rest ++ end_record)))
+moves-line place [] line = cc
+moves-line place (Stitch p ∷ rest) line =
+    let m = move_between place p in
+    let both = and_parts (is_within LIMIT m) (is_line_from LIMIT p rest) line in
+    let first : record_moves (stitch_record m ++ (line_bytes p rest ++ end_record))
+        ≡ m ∷ record_moves (line_bytes p rest ++ end_record) =
+      ap (λ k. unless_end k (move_of (byte_of 1 9 m) (byte_of 3 27 m) (third_of 0 m))
+        (record_moves (line_bytes p rest ++ end_record))) (kind_of-stitch m)
+      ∙ ap (λ move. move ∷ record_moves (line_bytes p rest ++ end_record)) (move_of-record 0 0 m refl both.0) in
+    subst (λ ms. IsTrue (list_all (λ move. is_within LIMIT move) ms)) (sym first)
+      (and_from (is_within LIMIT m) (list_all (λ move. is_within LIMIT move) (record_moves (line_bytes p rest ++ end_record)))
+        both.0 (moves-line p rest both.1))
+moves-line place (Jump p ∷ rest) line = cc
+moves-line place (Trim ∷ []) line = refl
+moves-line place (Trim ∷ more ∷ rest) line = cc
+moves-line place (Stop ∷ rest) line = cc
