@@ -1,4 +1,6 @@
+pub mod FileLemmas
 pub mod HeaderLemmas
+pub mod LineLaws
 pub mod LineLemmas
 mod ReadingFacts
 mod SpellingFacts

@@ -212,6 +212,18 @@ reads-trim at count place here few =
     rw (jumps.0, jumps.1, jumps.2, lt-leb MAX_COMMANDS count one, lt-leb MAX_COMMANDS (count + 1) two,
       lt-leb MAX_COMMANDS (count + 1 + 1) three, lt-leb MAX_COMMANDS (count + 1 + 1 + 1) four) refl
 
+-- the room of a line does not depend on the numbers of its commands
+pub room_numbers : (n n' : ℕ) (place : Point) (rest : List Command) → IsTrue (is_line_from LIMIT place rest)
+    → room_from LIMIT false place (acts_from n false false rest) ≡ room_from LIMIT false place (acts_from n' false false rest)
+room_numbers n n' place [] line = refl
+room_numbers n n' place (Stitch p ∷ rest) line =
+    let both = and_parts (is_within LIMIT (move_between place p)) (is_line_from LIMIT p rest) line in
+    ap (λ room. 1 + room) (room_numbers (n + 1) (n' + 1) p rest both.1)
+room_numbers n n' place (Jump p ∷ rest) line = cc
+room_numbers n n' place (Trim ∷ []) line = refl
+room_numbers n n' place (Trim ∷ more ∷ rest) line = cc
+room_numbers n n' place (Stop ∷ rest) line = cc
+
 -- a line reads as its stitches and a trim
 pub reads-line : (at count : ℕ) (place : Point) (rest : List Command)
     → IsTrue (is_line_from LIMIT place rest) → IsTrue (list_all is_in_range rest)
@@ -228,17 +240,6 @@ reads-line at count place (Stitch p ∷ rest) line all here small =
       omega (arith, small, room_numbers (0 + 1) 0 p rest both.1) in
     reads-stitch at count 0 place p (line_bytes p rest ++ end_record) both.0 ranges.0 few
     ∙ ap (after_commands (Stitch p ∷ [])) (reads-line (at + 3) (count + 1) p rest both.1 ranges.1 ranges.0 left)
-  where
-  room_numbers : (n n' : ℕ) (place : Point) (rest : List Command) → IsTrue (is_line_from LIMIT place rest)
-      → room_from LIMIT false place (acts_from n false false rest) ≡ room_from LIMIT false place (acts_from n' false false rest)
-  room_numbers n n' place [] line = refl
-  room_numbers n n' place (Stitch p ∷ rest) line =
-      let both = and_parts (is_within LIMIT (move_between place p)) (is_line_from LIMIT p rest) line in
-      ap (λ room. 1 + room) (room_numbers (n + 1) (n' + 1) p rest both.1)
-  room_numbers n n' place (Jump p ∷ rest) line = cc
-  room_numbers n n' place (Trim ∷ []) line = refl
-  room_numbers n n' place (Trim ∷ more ∷ rest) line = cc
-  room_numbers n n' place (Stop ∷ rest) line = cc
 reads-line at count place (Jump p ∷ rest) line all here small = cc
 reads-line at count place (Trim ∷ []) line all here small =
     reads-trim at count place here (omega (arith, small))

@@ -1,7 +1,7 @@
 -- A survey of acts, one after the other, comes to the numbers of all of them.
-use Rattle.std.proofs.Common.{◌≡◌, ℕ, zero, suc, ◌+◌, ◌<◌, ◌≤◌, get_or, max, Option, Some, None, IfSome, sym, Bool, true, false, List, [], ◌∷◌, ◌++◌, length, map, take, IsTrue, ◌==◌, refl, ap, ◌∙◌, arith, length-append, zero-add, if◌then◌else◌}
+use Rattle.std.proofs.Common.{◌≡◌, ℕ, zero, suc, ◌+◌, ◌<◌, ◌≤◌, get_or, max, Option, Some, None, IfSome, sym, Bool, true, false, List, [], ◌∷◌, ◌++◌, length, map, take, IsTrue, ◌==◌, refl, ap, ◌∙◌, arith, length-append, zero-add, if◌then◌else◌, nat_le}
 use Rattle.std.proofs.Math.Nat.{zero-max, max-zero}
-use Rattle.std.proofs.lemmas.Bool.{and_parts, and_from}
+use Rattle.std.proofs.lemmas.Bool.{and_parts, and_from, eqb-true}
 use Rattle.std.proofs.lemmas.List.{length-map}
 use Rattle.std.specs.List.{list_all}
 use Rattle.design_model.specs.declared.act.Act.{Act}
@@ -16,6 +16,7 @@ use Rattle.design_model.specs.Points.{origin, move_between}
 use Rattle.format_traits.specs.declared.fault.WriteFault.{WriteFault}
 use Rattle.format_traits.specs.Placing.{is_act_in_range, hops, parts, parts_from, part_of, place_along, place_after, is_loose_after}
 use Rattle.format_traits.specs.Refusals.{stops_of, stops_in, refusal_at, refusal_from, first_refusal}
+use Rattle.format_traits.specs.Rooms.{act_room, needle_room, room_from}
 use Rattle.dst_codec.specs.declared.dst.TheConstants.{LIMIT}
 use Rattle.dst_codec.specs.declared.header.Extents.{Extents}
 use Rattle.dst_codec.specs.declared.header.HeaderNumbers.{HeaderNumbers}
@@ -175,3 +176,35 @@ refused [] d n loose jumped loose_new jumped_new r a f s acts there steps is her
     absurd (let no : ⊥ = omega (arith, there) in no)
 refused (command ∷ rest) d n loose jumped loose_new jumped_new r a f s acts there steps is here refusal =
     sym refusal ∙ rw (steps n rest, is, here) refl
+
+loose_small : (few : Bool) (jumps : ℕ) → jumps + 1 ≤ (if few then jumps + 1 else jumps + 2)
+loose_small true jumps = omega arith
+loose_small false jumps = omega arith
+
+float_small : (three : Bool) (jumps : ℕ) → (jumps == 3) ≡ three → (if three then 3 else jumps + 1) ≤ jumps + 1
+float_small true jumps is = let same : jumps ≡ 3 = eqb-true jumps 3 is in omega (arith, same)
+float_small false jumps is = omega arith
+
+needle_small : (loose float : Bool) (m : Point) → needle_count loose float m ≤ needle_room LIMIT loose float m
+needle_small true float m = loose_small (nat_le (hops LIMIT m) 2) (hops LIMIT m)
+needle_small false true m = float_small (max 1 (hops LIMIT m) == 3) (max 1 (hops LIMIT m)) refl
+needle_small false false m = omega arith
+
+-- an act has at most as many records as its room
+pub record_count_small : (loose : Bool) (place : Point) (a : Act)
+    → record_count loose place a ≤ act_room LIMIT loose place a
+record_count_small loose place (act.Needle p float) = needle_small loose float (move_between place p)
+record_count_small loose place act.Trim = omega arith
+record_count_small loose place act.Stop = omega arith
+
+-- acts have at most as many records as their room
+pub records_small : (loose : Bool) (place : Point) (acts : List NumberedAct)
+    → length (records_from loose place acts) ≤ room_from LIMIT loose place acts
+records_small loose place [] = omega arith
+records_small loose place (a ∷ rest) =
+    let one = record_count_small loose place a.act in
+    let is = length-records_of_act loose place a.act in
+    let more = records_small (is_loose_after a.act) (place_after place a.act) rest in
+    let joined = length-append (records_of_act loose place a.act)
+      (records_from (is_loose_after a.act) (place_after place a.act) rest) in
+    omega (arith, one, is, more, joined)

@@ -11,5 +11,5 @@ mod survey;
 #[cfg(test)]
 mod tests;
 
-pub use dst::{LIMIT, MAX_FLOAT_HOPS, MAX_STOPS};
+pub use dst::{Dst, LIMIT, MAX_FLOAT_HOPS, MAX_STOPS};
 pub use spelling::encode_move;

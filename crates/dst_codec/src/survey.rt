@@ -1,4 +1,4 @@
-ghost use Rattle.std.specs.Prelude.{◌≡◌, ◌≤◌, ◌+◌, ◌∷◌, ◌++◌, ℕ, List, length, IsTrue, OnOk, IfSome};
+ghost use Rattle.std.specs.Prelude.{◌≡◌, ◌≤◌, ◌+◌, ◌∷◌, ◌++◌, ℕ, List, length, IsTrue, OnOk, IfOk, IfSome};
 ghost use Rattle.std.specs.List.{list_all};
 ghost use Rattle.design_model.specs.declared.design.TheConstants.{MAX_COMMANDS};
 ghost use Rattle.design_model.specs.declared.point.TheConstants.{NEEDLE_LIMIT};
@@ -35,7 +35,8 @@ pub struct Survey {
 pub fn header_numbers(commands: &[Command]) -> Result<HeaderNumbers, WriteFault>
     requires count { length commands.now ≤ MAX_COMMANDS }
     requires in_range { IsTrue (list_all is_in_range commands.now) }
-    ensures { SurveysActs (acts_along commands.now) result }
+    ensures value { SurveysActs (acts_along commands.now) result }
+    ensures last { IfOk result (λ numbers. IsTrue (is_within NEEDLE_LIMIT numbers.last)) }
 {
     let mut survey = Survey::new();
     let mut thread = ThreadState::new();
