@@ -28,6 +28,7 @@ use Rattle.dst_codec.specs.Header.{header, header_of, numbers_of}
 use Rattle.dst_codec.specs.Lines.{line_bytes, are_near}
 use Rattle.dst_codec.specs.Reading.{reads, moves, label_of, record_moves}
 use Rattle.dst_codec.specs.Spelling.{end_record, stitch_record}
+use Rattle.dst_codec.specs.Surveys.{SurveysActs}
 use Rattle.dst_codec.specs.Writing.{reach, records_of, writes, file_of}
 use Rattle.dst_codec.proofs.FileLemmas.{reads-file, moves-file}
 use Rattle.dst_codec.proofs.HeaderLemmas.{length-header_of, numbers_fit}
@@ -160,3 +161,19 @@ line_facts d limits plain =
       within = subst (λ cs. MovesWithin dst (file_of d.label (acts_along cs))) back
         (within_line d.label rest limits.label.short start.2 all small);
     }
+
+-- what the parts of a line's file come to
+pub written-line : (d : DesignValue) (commands others : List Command) (label start middle bytes : List ℕ)
+    (numbers : HeaderNumbers) → LineFacts d → commands ≡ d.commands → label ≡ d.label
+    → SurveysActs (acts_along commands) (Ok numbers) → start ≡ header_of label numbers
+    → others ≡ d.commands → middle ≡ start ++ line_bytes origin others → bytes ≡ middle ++ end_record
+    → bytes ≡ file_of d.label (acts_of d)
+written-line d commands others label start middle bytes numbers facts of_commands of_label surveyed of_start
+    of_others of_middle of_bytes =
+    let known : numbers ≡ numbers_of (acts_of d) (length (records_of (acts_of d)) + 1) =
+      subst (λ cs. numbers ≡ numbers_of (acts_along cs) (length (records_of (acts_along cs)) + 1)) of_commands surveyed.1 in
+    rw (of_bytes, of_middle, of_start, of_others, of_label, known, facts.bytes) refl
+
+-- a line's design is written as its file
+pub writes-line : (d : DesignValue) → LineFacts d → writes d ≡ Ok (file_of d.label (acts_of d))
+writes-line d facts = ap (λ refusal. unless_refused refusal (file_of d.label (acts_of d))) facts.accepted
