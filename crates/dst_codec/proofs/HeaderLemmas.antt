@@ -1,5 +1,5 @@
 -- The fields of a header take 124 bytes and the header 512, where its numbers fit their places.
-use Rattle.std.proofs.Common.{◌≡◌, ℕ, ◌+◌, ◌-◌, ◌^◌, ◌<◌, ◌≤◌, max, ℤ, pos, negsuc, neg_ℤ, zero, suc, unsigned_abs, Bool, IsTrue, List, [], ◌∷◌, ◌++◌, length, decimal, codes, replicate, refl, ap, sym, ◌∙◌, arith, length-append, lit<}
+use Rattle.std.proofs.Common.{◌≡◌, ℕ, ◌+◌, ◌-◌, ◌^◌, ◌<◌, ◌≤◌, ℤ, pos, negsuc, neg_ℤ, zero, suc, unsigned_abs, IsTrue, List, [], ◌∷◌, ◌++◌, length, decimal, codes, replicate, refl, ap, arith, length-append, lit<}
 use Rattle.std.proofs.lemmas.Bool.{and_parts}
 use Rattle.std.proofs.lemmas.Fmt.{length-decimal-le}
 use Rattle.std.proofs.lemmas.List.{length-replicate}
@@ -15,7 +15,7 @@ use Rattle.format_traits.specs.Placing.{is_act_in_range, place_along, place_afte
 use Rattle.format_traits.specs.Refusals.{stops_of}
 use Rattle.dst_codec.specs.declared.header.HeaderNumbers.{HeaderNumbers}
 use Rattle.dst_codec.specs.declared.header.TheConstants.{HEADER_LENGTH}
-use Rattle.dst_codec.specs.Header.{above, below, greatest, measured, field, number_field, signed_field, sign_of, fields_of, header_of, header, numbers_of}
+use Rattle.dst_codec.specs.Header.{above, below, greatest, measured, field, number_field, signed_field, sign_of, fields_of, header_of, numbers_of}
 use Rattle.dst_codec.proofs.SpellingLemmas.{within_parts}
 use Rattle.dst_codec.proofs.SurveyLemmas.{are_in_range}
 
@@ -58,7 +58,7 @@ length-signed_field : (name : List ℕ) (z : ℤ) → length name ≡ 3 → unsi
     → length (signed_field name z) ≡ 10
 length-signed_field name z is fits =
     let digits = length-filled_left 5 (decimal (unsigned_abs z))
-      (length-decimal-le 5 (unsigned_abs z) (lit< tt) fits (omega (arith, fits))) in
+    (length-decimal-le 5 (unsigned_abs z) (lit< tt) fits (omega (arith, fits))) in
     length-field name (sign_of z ∷ filled_left 5 (decimal (unsigned_abs z))) 3 6 is (ap suc digits)
 
 size_of_opposite : (z : ℤ) → unsigned_abs (neg_ℤ z) ≡ unsigned_abs z
@@ -119,12 +119,12 @@ greatest_small measure small (a ∷ rest) all =
     let more = greatest_small measure small rest both.1 in
     omega (arith, one, more)
   where
-  measured_small : (measure : Point → ℕ)
-      → ((p : Point) → IsTrue (is_within NEEDLE_LIMIT p) → measure p ≤ NEEDLE_LIMIT)
-      → (a : Act) → IsTrue (is_act_in_range a) → measured measure a ≤ NEEDLE_LIMIT
-  measured_small measure small (act.Needle p float) here = small p here
-  measured_small measure small act.Trim here = omega arith
-  measured_small measure small act.Stop here = omega arith
+    measured_small : (measure : Point → ℕ)
+        → ((p : Point) → IsTrue (is_within NEEDLE_LIMIT p) → measure p ≤ NEEDLE_LIMIT)
+        → (a : Act) → IsTrue (is_act_in_range a) → measured measure a ≤ NEEDLE_LIMIT
+    measured_small measure small (act.Needle p float) here = small p here
+    measured_small measure small act.Trim here = omega arith
+    measured_small measure small act.Stop here = omega arith
 
 above_small : (z : ℤ) (limit : ℕ) → unsigned_abs z ≤ limit → above z ≤ limit
 above_small (pos n) limit small = small
@@ -142,11 +142,11 @@ place_in_range place (a ∷ rest) here all =
     let both = and_parts (is_act_in_range a.act) (are_in_range rest) all in
     place_in_range (place_after place a.act) rest (after place a.act here both.0) both.1
   where
-  after : (place : Point) (a : Act) → IsTrue (is_within NEEDLE_LIMIT place) → IsTrue (is_act_in_range a)
-      → IsTrue (is_within NEEDLE_LIMIT (place_after place a))
-  after place (act.Needle p float) here there = there
-  after place act.Trim here there = here
-  after place act.Stop here there = here
+    after : (place : Point) (a : Act) → IsTrue (is_within NEEDLE_LIMIT place) → IsTrue (is_act_in_range a)
+        → IsTrue (is_within NEEDLE_LIMIT (place_after place a))
+    after place (act.Needle p float) here there = there
+    after place act.Trim here there = here
+    after place act.Stop here there = here
 
 -- the numbers of acts in range fit, where there are not too many records and stops
 pub numbers_fit : (acts : List NumberedAct) (count : ℕ) → IsTrue (are_in_range acts)

@@ -1,5 +1,5 @@
 -- A plain line is written, and reads as its stitches and a trim.
-use Rattle.std.proofs.Common.{◌≡◌, ℕ, ◌+◌, ◌<◌, ◌≤◌, ℤ, pos, negsuc, ◌+ℤ◌, ◌-ℤ◌, Bool, true, false, IsTrue, List, [], ◌∷◌, ◌++◌, length, None, Ok, Result, refl, ap, sym, ◌∙◌, subst, arith, unsigned_abs, nat_le, lit≤}
+use Rattle.std.proofs.Common.{◌≡◌, ℕ, ◌+◌, ◌<◌, ◌≤◌, ℤ, pos, negsuc, ◌+ℤ◌, ◌-ℤ◌, true, false, IsTrue, List, [], ◌∷◌, ◌++◌, length, None, Ok, Result, refl, ap, sym, ◌∙◌, subst, arith, unsigned_abs, nat_le, lit≤}
 use Rattle.std.proofs.lemmas.Bool.{and_parts, and_from, le-ltb, lt-leb, le-leb}
 use Rattle.std.proofs.lemmas.Bool.Decides.{Decides-int_eq}
 use Rattle.std.proofs.lemmas.Int.{ints}
@@ -11,7 +11,7 @@ use Rattle.design_model.specs.declared.command.Command.TheVariants.{Stitch, Jump
 use Rattle.design_model.specs.declared.design.TheConstants.{MAX_COMMANDS}
 use Rattle.design_model.specs.declared.point.Point.{Point}
 use Rattle.design_model.specs.declared.point.TheConstants.{NEEDLE_LIMIT, JUMP_LIMIT}
-use Rattle.design_model.specs.Acts.{acts_from, acts_along, bare}
+use Rattle.design_model.specs.Acts.{acts_from, bare}
 use Rattle.design_model.specs.Commands.{is_in_range}
 use Rattle.design_model.specs.Points.{is_within, origin, move_between, size_of}
 use Rattle.format_traits.specs.declared.fault.ReadFault.{ReadFault}
@@ -19,8 +19,8 @@ use Rattle.format_traits.specs.declared.standing.Standing.{Standing}
 use Rattle.format_traits.specs.Placing.{moved}
 use Rattle.format_traits.specs.PlainDesigns.{is_line, is_line_from, is_same_point}
 use Rattle.format_traits.specs.Readings.{Course, after_commands, tried}
-use Rattle.format_traits.specs.Refusals.{refusal_from, first_refusal, beginning}
-use Rattle.format_traits.specs.Rooms.{room_from, room_of}
+use Rattle.format_traits.specs.Refusals.{refusal_from}
+use Rattle.format_traits.specs.Rooms.{room_from}
 use Rattle.dst_codec.specs.declared.dst.TheConstants.{LIMIT}
 use Rattle.dst_codec.specs.declared.record_kind.RecordKind.{RecordKind}
 use Rattle.dst_codec.specs.declared.record_kind.RecordKind.TheVariants as kind
@@ -28,7 +28,7 @@ use Rattle.dst_codec.specs.Bits.{move_of, kind_of}
 use Rattle.dst_codec.specs.Lines.{line_bytes, are_near}
 use Rattle.dst_codec.specs.Reading.{reads_from, read_record, commands_of, run_after, unless_end, record_moves}
 use Rattle.dst_codec.specs.Spelling.{stitch_record, trim_records, end_record}
-use Rattle.dst_codec.specs.Writing.{reach, records_of, records_from}
+use Rattle.dst_codec.specs.Writing.{reach, records_from}
 use Rattle.dst_codec.proofs.SpellingLemmas.{same_point, byte_of, third_of, move_of-record, kind_of-stitch, within_parts}
 
 -- points whose coordinates are equal are equal
@@ -80,7 +80,7 @@ pub refusal-line : (n stops room : ℕ) (place : Point) (rest : List Command)
     → IsTrue (is_line_from LIMIT place rest)
     → room + room_from LIMIT false place (acts_from n false false rest) ≤ MAX_COMMANDS
     → refusal_from reach (let s : Standing = record { loose = false; place = place; stops = stops; room = room } in s)
-      (acts_from n false false rest) ≡ None
+    (acts_from n false false rest) ≡ None
 refusal-line n stops room place [] line small = refl
 refusal-line n stops room place (Stitch p ∷ rest) line small =
     let both = and_parts (is_within LIMIT (move_between place p)) (is_line_from LIMIT p rest) line in
@@ -88,9 +88,9 @@ refusal-line n stops room place (Stitch p ∷ rest) line small =
     let short : size_of (move_between place p) ≤ LIMIT = omega (arith, near.0, near.1) in
     let fits : room + 1 ≤ MAX_COMMANDS = omega (arith, small) in
     let left : (room + 1) + room_from LIMIT false p (acts_from (n + 1) false false rest) ≤ MAX_COMMANDS =
-      omega (arith, small) in
+    omega (arith, small) in
     rw (le-ltb LIMIT (size_of (move_between place p)) short, le-ltb MAX_COMMANDS (room + 1) fits)
-      (refusal-line (n + 1) (stops + 0) (room + 1) p rest both.1 left)
+    (refusal-line (n + 1) (stops + 0) (room + 1) p rest both.1 left)
 refusal-line n stops room place (Jump p ∷ rest) line small = cc
 refusal-line n stops room place (Trim ∷ []) line small =
     let fits : room + 4 ≤ MAX_COMMANDS = omega (arith, small) in
@@ -114,20 +114,20 @@ reads-record at count run place a b c rest k m of_kind of_move =
 moved-between : (place p : Point) → moved place (move_between place p) ≡ p
 moved-between place p = same_point (forth place.x p.x) (forth place.y p.y)
   where
-  forth : (x y : ℤ) → x +ℤ (y -ℤ x) ≡ y
-  forth x y = omega (arith, ints)
+    forth : (x y : ℤ) → x +ℤ (y -ℤ x) ≡ y
+    forth x y = omega (arith, ints)
 
 -- a stitch within the limit reads as itself
 pub reads-stitch : (at count run : ℕ) (place p : Point) (rest : List ℕ)
     → IsTrue (is_within LIMIT (move_between place p)) → IsTrue (is_within NEEDLE_LIMIT p) → count < MAX_COMMANDS
     → reads_from at count run place (stitch_record (move_between place p) ++ rest)
-      ≡ after_commands (Stitch p ∷ []) (reads_from (at + 3) (count + 1) 0 p rest)
+    ≡ after_commands (Stitch p ∷ []) (reads_from (at + 3) (count + 1) 0 p rest)
 reads-stitch at count run place p rest near here few =
     reads-record at count run place (byte_of 1 9 (move_between place p)) (byte_of 3 27 (move_between place p))
-      (third_of 0 (move_between place p)) rest kind.Stitch (move_between place p)
-      (kind_of-stitch (move_between place p)) (move_of-record 0 0 (move_between place p) refl near)
+    (third_of 0 (move_between place p)) rest kind.Stitch (move_between place p)
+    (kind_of-stitch (move_between place p)) (move_of-record 0 0 (move_between place p) refl near)
     ∙ ap (λ there. read_record kind.Stitch at count (Stitch there ∷ []) (reads_from (at + 3) (count + 1) 0 there rest))
-      (moved-between place p)
+    (moved-between place p)
     ∙ rw (here, lt-leb MAX_COMMANDS count few) refl
 
 -- what a line from a place on reads as
@@ -171,7 +171,7 @@ jump_in_range place m far near here small fits =
     let x = abs-moved place.x m.x far near here.0 small.0 in
     let y = abs-moved place.y m.y far near here.1 small.1 in
     and_from (nat_le (unsigned_abs (place.x +ℤ m.x)) JUMP_LIMIT) (nat_le (unsigned_abs (place.y +ℤ m.y)) JUMP_LIMIT)
-      (le-leb _ _ (omega (arith, x, fits))) (le-leb _ _ (omega (arith, y, fits)))
+    (le-leb _ _ (omega (arith, x, fits))) (le-leb _ _ (omega (arith, y, fits)))
 
 far-moved : (place m : Point) (far near : ℕ) → (unsigned_abs place.x ≤ far) × (unsigned_abs place.y ≤ far)
     → (unsigned_abs m.x ≤ near) × (unsigned_abs m.y ≤ near)
@@ -188,29 +188,37 @@ back = record { x = negsuc 3; y = negsuc 3 }
 -- the three jumps of a trim are in range
 trim_in_range : (place : Point) → IsTrue (is_within NEEDLE_LIMIT place)
     → IsTrue (is_in_range (Jump (moved place forth)))
-      × IsTrue (is_in_range (Jump (moved (moved place forth) back)))
-      × IsTrue (is_in_range (Jump (moved (moved (moved place forth) back) forth)))
+    × IsTrue (is_in_range (Jump (moved (moved place forth) back)))
+    × IsTrue (is_in_range (Jump (moved (moved (moved place forth) back) forth)))
 trim_in_range place here =
     let at = within_parts NEEDLE_LIMIT place here in
     let one = far-moved place forth NEEDLE_LIMIT 2 at (lit≤ tt, lit≤ tt) in
-    let two = far-moved (moved place forth) back (NEEDLE_LIMIT + 2) 4 one (lit≤ tt, lit≤ tt) in
-    (jump_in_range place forth NEEDLE_LIMIT 2 at (lit≤ tt, lit≤ tt) (lit≤ tt),
-    jump_in_range (moved place forth) back (NEEDLE_LIMIT + 2) 4 one (lit≤ tt, lit≤ tt) (lit≤ tt),
-    jump_in_range (moved (moved place forth) back) forth (NEEDLE_LIMIT + 2 + 4) 2 two (lit≤ tt, lit≤ tt) (lit≤ tt))
+    let two = far-moved (moved place forth) back (NEEDLE_LIMIT + 2) 4 one (lit≤ tt, lit≤ tt) in (
+      jump_in_range place forth NEEDLE_LIMIT 2 at (lit≤ tt, lit≤ tt) (lit≤ tt),
+      jump_in_range (moved place forth) back (NEEDLE_LIMIT + 2) 4 one (lit≤ tt, lit≤ tt) (lit≤ tt),
+      jump_in_range (moved (moved place forth) back) forth (NEEDLE_LIMIT + 2 + 4) 2 two (lit≤ tt, lit≤ tt) (lit≤ tt),
+    )
 
 -- the records of a trim and the end read as three jumps and a trim
 pub reads-trim : (at count : ℕ) (place : Point) → IsTrue (is_within NEEDLE_LIMIT place)
     → count + 4 ≤ MAX_COMMANDS
     → reads_from at count 0 place (concat trim_records ++ end_record)
-      ≡ Ok (record { commands = line_read place (Trim ∷ []); ended = true })
+    ≡ Ok (record { commands = line_read place (Trim ∷ []); ended = true })
 reads-trim at count place here few =
     let jumps = trim_in_range place here in
     let one : count < MAX_COMMANDS = omega (arith, few) in
     let two : count + 1 < MAX_COMMANDS = omega (arith, few) in
     let three : count + 1 + 1 < MAX_COMMANDS = omega (arith, few) in
     let four : count + 1 + 1 + 1 < MAX_COMMANDS = omega (arith, few) in
-    rw (jumps.0, jumps.1, jumps.2, lt-leb MAX_COMMANDS count one, lt-leb MAX_COMMANDS (count + 1) two,
-      lt-leb MAX_COMMANDS (count + 1 + 1) three, lt-leb MAX_COMMANDS (count + 1 + 1 + 1) four) refl
+    rw (
+      jumps.0,
+      jumps.1,
+      jumps.2,
+      lt-leb MAX_COMMANDS count one,
+      lt-leb MAX_COMMANDS (count + 1) two,
+      lt-leb MAX_COMMANDS (count + 1 + 1) three,
+      lt-leb MAX_COMMANDS (count + 1 + 1 + 1) four,
+    ) refl
 
 -- the room of a line does not depend on the numbers of its commands
 pub room_numbers : (n n' : ℕ) (place : Point) (rest : List Command) → IsTrue (is_line_from LIMIT place rest)
@@ -230,14 +238,14 @@ pub reads-line : (at count : ℕ) (place : Point) (rest : List Command)
     → IsTrue (is_within NEEDLE_LIMIT place)
     → count + room_from LIMIT false place (acts_from 0 false false rest) ≤ MAX_COMMANDS
     → reads_from at count 0 place (line_bytes place rest ++ end_record)
-      ≡ Ok (record { commands = line_read place rest; ended = true })
+    ≡ Ok (record { commands = line_read place rest; ended = true })
 reads-line at count place [] line all here small = cc
 reads-line at count place (Stitch p ∷ rest) line all here small =
     let both = and_parts (is_within LIMIT (move_between place p)) (is_line_from LIMIT p rest) line in
     let ranges = and_parts (is_within NEEDLE_LIMIT p) (list_all is_in_range rest) all in
     let few : count < MAX_COMMANDS = omega (arith, small) in
     let left : (count + 1) + room_from LIMIT false p (acts_from 0 false false rest) ≤ MAX_COMMANDS =
-      omega (arith, small, room_numbers (0 + 1) 0 p rest both.1) in
+    omega (arith, small, room_numbers (0 + 1) 0 p rest both.1) in
     reads-stitch at count 0 place p (line_bytes p rest ++ end_record) both.0 ranges.0 few
     ∙ ap (after_commands (Stitch p ∷ [])) (reads-line (at + 3) (count + 1) p rest both.1 ranges.1 ranges.0 left)
 reads-line at count place (Jump p ∷ rest) line all here small = cc
@@ -254,13 +262,13 @@ moves-line place (Stitch p ∷ rest) line =
     let m = move_between place p in
     let both = and_parts (is_within LIMIT m) (is_line_from LIMIT p rest) line in
     let first : record_moves (stitch_record m ++ (line_bytes p rest ++ end_record))
-        ≡ m ∷ record_moves (line_bytes p rest ++ end_record) =
-      ap (λ k. unless_end k (move_of (byte_of 1 9 m) (byte_of 3 27 m) (third_of 0 m))
-        (record_moves (line_bytes p rest ++ end_record))) (kind_of-stitch m)
-      ∙ ap (λ move. move ∷ record_moves (line_bytes p rest ++ end_record)) (move_of-record 0 0 m refl both.0) in
+    ≡ m ∷ record_moves (line_bytes p rest ++ end_record) =
+    ap (λ k. unless_end k (move_of (byte_of 1 9 m) (byte_of 3 27 m) (third_of 0 m))
+    (record_moves (line_bytes p rest ++ end_record))) (kind_of-stitch m)
+    ∙ ap (λ move. move ∷ record_moves (line_bytes p rest ++ end_record)) (move_of-record 0 0 m refl both.0) in
     subst (λ ms. IsTrue (list_all (λ move. is_within LIMIT move) ms)) (sym first)
-      (and_from (is_within LIMIT m) (list_all (λ move. is_within LIMIT move) (record_moves (line_bytes p rest ++ end_record)))
-        both.0 (moves-line p rest both.1))
+    (and_from (is_within LIMIT m) (list_all (λ move. is_within LIMIT move) (record_moves (line_bytes p rest ++ end_record)))
+    both.0 (moves-line p rest both.1))
 moves-line place (Jump p ∷ rest) line = cc
 moves-line place (Trim ∷ []) line = refl
 moves-line place (Trim ∷ more ∷ rest) line = cc

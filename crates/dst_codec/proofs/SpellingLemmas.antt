@@ -1,5 +1,5 @@
 -- The record of a move has that move, and its kind is that of its flags.
-use Rattle.std.proofs.Common.{◌≡◌, ℕ, ◌+◌, ◌-◌, ◌*◌, ◌/◌, ◌%◌, ◌<◌, ◌≤◌, ℤ, pos, negsuc, ◌-ℤ◌, unsigned_abs, IsTrue, nat_le, List, [], ◌∷◌, refl, ap, sym, ◌∙◌, arith}
+use Rattle.std.proofs.Common.{◌≡◌, ℕ, ◌+◌, ◌-◌, ◌*◌, ◌/◌, ◌%◌, ◌<◌, ◌≤◌, ℤ, pos, negsuc, ◌-ℤ◌, unsigned_abs, IsTrue, nat_le, refl, arith}
 use Rattle.std.proofs.lemmas.Bool.{and_parts, leb-true, eq-eqb, ne_eqb}
 use Rattle.std.proofs.lemmas.Int.{ints}
 use Rattle.design_model.specs.declared.point.Point.{Point}
@@ -7,7 +7,7 @@ use Rattle.design_model.specs.Points.{is_within}
 use Rattle.dst_codec.specs.declared.dst.TheConstants.{LIMIT}
 use Rattle.dst_codec.specs.declared.record_kind.RecordKind.TheVariants as kind
 use Rattle.dst_codec.specs.Bits.{bit, move_of, kind_of, rightwards, leftwards, upwards, downwards}
-use Rattle.dst_codec.specs.Spelling.{shifted, taken, plus, minus, x_signs, y_signs, record_of}
+use Rattle.dst_codec.specs.Spelling.{shifted, taken, plus, minus, x_signs, y_signs}
 
 -- the third byte of a record with flags
 abbrev pub third_of : ℕ → Point → ℕ
@@ -26,17 +26,17 @@ minus_small part z = omega arith
 -- the bits of a byte whose bits are given, those of x and those of y
 x_bits : (p q r s t : ℕ) → p ≤ 1 → q ≤ 1 → r ≤ 1 → s ≤ 1
     → let byte = p + 2 * q + 4 * r + 8 * s + 16 * t in
-      (bit byte 1 ≡ p) × (bit byte 2 ≡ q) × (bit byte 4 ≡ r) × (bit byte 8 ≡ s)
+    (bit byte 1 ≡ p) × (bit byte 2 ≡ q) × (bit byte 4 ≡ r) × (bit byte 8 ≡ s)
 x_bits p q r s t hp hq hr hs = (omega arith, omega arith, omega arith, omega arith)
 
 y_bits : (t p q r s : ℕ) → t < 16 → p ≤ 1 → q ≤ 1 → r ≤ 1 → s ≤ 1
     → let byte = t + 16 * (p + 2 * q + 4 * r + 8 * s) in
-      (bit byte 16 ≡ p) × (bit byte 32 ≡ q) × (bit byte 64 ≡ r) × (bit byte 128 ≡ s)
+    (bit byte 16 ≡ p) × (bit byte 32 ≡ q) × (bit byte 64 ≡ r) × (bit byte 128 ≡ s)
 y_bits t p q r s ht hp hq hr hs = (omega arith, omega arith, omega arith, omega arith)
 
 third_bits : (p q r s k : ℕ) → p ≤ 1 → q ≤ 1 → r ≤ 1 → s ≤ 1
     → let byte = 3 + 4 * p + 8 * q + 16 * r + 32 * s + 64 * k in
-      (bit byte 4 ≡ p) × (bit byte 8 ≡ q) × (bit byte 16 ≡ r) × (bit byte 32 ≡ s)
+    (bit byte 4 ≡ p) × (bit byte 8 ≡ q) × (bit byte 16 ≡ r) × (bit byte 32 ≡ s)
 third_bits p q r s k hp hq hr hs = (omega arith, omega arith, omega arith, omega arith)
 
 -- a number below 243 by its five digits
@@ -67,8 +67,15 @@ minus_sum z = minus 1 z + 3 * minus 3 z + 9 * minus 9 z + 27 * minus 27 z + 81 *
 sums : (n : ℕ) → n < 243 → let t = λ (part : ℕ). n / part % 3 in
     t 1 / 2 + 3 * (t 3 / 2) + 9 * (t 9 / 2) + 27 * (t 27 / 2) + 81 * (t 81 / 2) + 121
     ≡ (2 - t 1) / 2 + 3 * ((2 - t 3) / 2) + 9 * ((2 - t 9) / 2) + 27 * ((2 - t 27) / 2) + 81 * ((2 - t 81) / 2) + n
-sums n small = omega (arith, digits_sum n small, digit (n / 1 % 3) (omega arith), digit (n / 3 % 3) (omega arith),
-    digit (n / 9 % 3) (omega arith), digit (n / 27 % 3) (omega arith), digit (n / 81 % 3) (omega arith))
+sums n small = omega (
+  arith,
+  digits_sum n small,
+  digit (n / 1 % 3) (omega arith),
+  digit (n / 3 % 3) (omega arith),
+  digit (n / 9 % 3) (omega arith),
+  digit (n / 27 % 3) (omega arith),
+  digit (n / 81 % 3) (omega arith),
+)
 
 x_move : (x : ℤ) (a b c : ℕ) → unsigned_abs x ≤ 121
     → bit a 1 ≡ plus 1 x → bit a 2 ≡ minus 1 x → bit a 4 ≡ plus 9 x → bit a 8 ≡ minus 9 x
@@ -77,7 +84,7 @@ x_move : (x : ℤ) (a b c : ℕ) → unsigned_abs x ≤ 121
     → pos (rightwards a b c) -ℤ pos (leftwards a b c) ≡ x
 x_move x a b c small a1 a2 a4 a8 b1 b2 b4 b8 c4 c8 =
     rw (a1, a2, a4, a8, b1, b2, b4, b8, c4, c8)
-      (difference x _ _ small (sums (shifted x) (shifted_small x small)))
+    (difference x _ _ small (sums (shifted x) (shifted_small x small)))
 
 y_move : (y : ℤ) (a b c : ℕ) → unsigned_abs y ≤ 121
     → bit a 64 ≡ plus 1 y → bit a 128 ≡ minus 1 y → bit a 16 ≡ plus 9 y → bit a 32 ≡ minus 9 y
@@ -86,7 +93,7 @@ y_move : (y : ℤ) (a b c : ℕ) → unsigned_abs y ≤ 121
     → pos (downwards a b c) -ℤ pos (upwards a b c) ≡ y
 y_move y a b c small a64 a128 a16 a32 b64 b128 b16 b32 c16 c32 =
     rw (a64, a128, a16, a32, b64, b128, b16, b32, c16, c32)
-      (difference y _ _ small (sums (shifted y) (shifted_small y small)))
+    (difference y _ _ small (sums (shifted y) (shifted_small y small)))
 
 -- the half byte of x is below 16
 x_signs_small : (lesser greater : ℕ) (x : ℤ) → x_signs lesser greater x < 16
@@ -135,13 +142,13 @@ move_of-record flags k m is within =
     let bx = byte_x 3 27 m in let by = byte_y 3 27 m in
     let c = byte_third flags k m is in
     let x : pos (rightwards (byte_of 1 9 m) (byte_of 3 27 m) (third_of flags m))
-        -ℤ pos (leftwards (byte_of 1 9 m) (byte_of 3 27 m) (third_of flags m)) ≡ m.x =
-      x_move m.x (byte_of 1 9 m) (byte_of 3 27 m) (third_of flags m) small.0
-        ax.0 ax.1 ax.2 ax.3 bx.0 bx.1 bx.2 bx.3 c.0 c.1 in
+    -ℤ pos (leftwards (byte_of 1 9 m) (byte_of 3 27 m) (third_of flags m)) ≡ m.x =
+    x_move m.x (byte_of 1 9 m) (byte_of 3 27 m) (third_of flags m) small.0
+    ax.0 ax.1 ax.2 ax.3 bx.0 bx.1 bx.2 bx.3 c.0 c.1 in
     let y : pos (downwards (byte_of 1 9 m) (byte_of 3 27 m) (third_of flags m))
-        -ℤ pos (upwards (byte_of 1 9 m) (byte_of 3 27 m) (third_of flags m)) ≡ m.y =
-      y_move m.y (byte_of 1 9 m) (byte_of 3 27 m) (third_of flags m) small.1
-        ay.2 ay.3 ay.0 ay.1 by.2 by.3 by.0 by.1 c.2 c.3 in
+    -ℤ pos (upwards (byte_of 1 9 m) (byte_of 3 27 m) (third_of flags m)) ≡ m.y =
+    y_move m.y (byte_of 1 9 m) (byte_of 3 27 m) (third_of flags m) small.1
+    ay.2 ay.3 ay.0 ay.1 by.2 by.3 by.0 by.1 c.2 c.3 in
     same_point x y
 
 -- the kinds of stitches and jumps
@@ -151,15 +158,24 @@ kind_without_flags third low small =
     let stop : third / 64 ≡ 3 → ⊥ = λ is. omega (arith, is, small) in
     let jump : third / 64 ≡ 2 → ⊥ = λ is. omega (arith, is, small) in
     let sequin : third / 64 ≡ 1 → ⊥ = λ is. omega (arith, is, small) in
-    rw (eq-eqb (third % 4) 3 low, ne_eqb (third / 16) 15 first, ne_eqb (third / 64) 3 stop,
-      ne_eqb (third / 64) 2 jump, ne_eqb (third / 64) 1 sequin) refl
+    rw (
+      eq-eqb (third % 4) 3 low,
+      ne_eqb (third / 16) 15 first,
+      ne_eqb (third / 64) 3 stop,
+      ne_eqb (third / 64) 2 jump,
+      ne_eqb (third / 64) 1 sequin,
+    ) refl
 
 kind_with_jump : (third : ℕ) → third % 4 ≡ 3 → third / 64 ≡ 2 → kind_of third ≡ kind.Jump
 kind_with_jump third low is =
     let first : third / 16 ≡ 15 → ⊥ = λ no. omega (arith, is, no) in
     let stop : third / 64 ≡ 3 → ⊥ = λ no. omega (arith, is, no) in
-    rw (eq-eqb (third % 4) 3 low, ne_eqb (third / 16) 15 first, ne_eqb (third / 64) 3 stop,
-      eq-eqb (third / 64) 2 is) refl
+    rw (
+      eq-eqb (third % 4) 3 low,
+      ne_eqb (third / 16) 15 first,
+      ne_eqb (third / 64) 3 stop,
+      eq-eqb (third / 64) 2 is,
+    ) refl
 
 -- a part is taken in one way
 one_sign : (part : ℕ) (z : ℤ) → plus part z + minus part z ≤ 1

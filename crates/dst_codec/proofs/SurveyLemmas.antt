@@ -1,5 +1,5 @@
 -- A survey of acts, one after the other, comes to the numbers of all of them.
-use Rattle.std.proofs.Common.{◌≡◌, ℕ, zero, suc, ◌+◌, ◌<◌, ◌≤◌, get_or, max, Option, Some, None, IfSome, sym, Bool, true, false, List, [], ◌∷◌, ◌++◌, length, map, take, IsTrue, ◌==◌, refl, ap, ◌∙◌, arith, length-append, zero-add, if◌then◌else◌, nat_le}
+use Rattle.std.proofs.Common.{◌≡◌, ℕ, zero, suc, ◌+◌, ◌<◌, ◌≤◌, get_or, max, Option, Some, None, IfSome, sym, Bool, true, false, List, [], ◌∷◌, ◌++◌, length, map, IsTrue, ◌==◌, refl, ap, ◌∙◌, arith, length-append, zero-add, if◌then◌else◌, nat_le}
 use Rattle.std.proofs.Math.Nat.{zero-max, max-zero}
 use Rattle.std.proofs.lemmas.Bool.{and_parts, and_from, eqb-true}
 use Rattle.std.proofs.lemmas.List.{length-map}
@@ -14,8 +14,8 @@ use Rattle.design_model.specs.Acts.{acts_from, listed, numbered}
 use Rattle.design_model.specs.Commands.{is_in_range}
 use Rattle.design_model.specs.Points.{origin, move_between}
 use Rattle.format_traits.specs.declared.fault.WriteFault.{WriteFault}
-use Rattle.format_traits.specs.Placing.{is_act_in_range, hops, parts, parts_from, part_of, place_along, place_after, is_loose_after}
-use Rattle.format_traits.specs.Refusals.{stops_of, stops_in, refusal_at, refusal_from, first_refusal}
+use Rattle.format_traits.specs.Placing.{is_act_in_range, hops, parts, parts_from, place_along, place_after, is_loose_after}
+use Rattle.format_traits.specs.Refusals.{stops_of, refusal_at, refusal_from, first_refusal}
 use Rattle.format_traits.specs.Rooms.{act_room, needle_room, room_from}
 use Rattle.dst_codec.specs.declared.dst.TheConstants.{LIMIT}
 use Rattle.dst_codec.specs.declared.header.Extents.{Extents}
@@ -23,8 +23,8 @@ use Rattle.dst_codec.specs.declared.header.HeaderNumbers.{HeaderNumbers}
 use Rattle.dst_codec.specs.declared.survey.Survey.{Survey}
 use Rattle.dst_codec.specs.Header.{above, below, greatest, measured, numbers_of}
 use Rattle.dst_codec.specs.Spelling.{jump_record, stitch_record}
-use Rattle.dst_codec.specs.Surveys.{empty_survey, noted, record_count, needle_count, float_count, stretched_by}
-use Rattle.dst_codec.specs.Writing.{reach, records_of, records_from, records_of_act, needle_records, float_records, hop_records, third_stitched}
+use Rattle.dst_codec.specs.Surveys.{empty_survey, noted, record_count, needle_count, stretched_by}
+use Rattle.dst_codec.specs.Writing.{reach, records_of, records_from, records_of_act, needle_records, hop_records, third_stitched}
 
 -- a survey with further acts
 abbrev pub surveyed : Survey → List NumberedAct → Survey
@@ -42,7 +42,7 @@ acts_in_range n loose jumped [] all = all
 acts_in_range n loose jumped (Stitch p ∷ rest) all =
     let both = and_parts (is_in_range (Stitch p)) (list_all is_in_range rest) all in
     and_from (is_in_range (Stitch p)) (are_in_range (acts_from (n + 1) false false rest)) both.0
-      (acts_in_range (n + 1) false false rest both.1)
+    (acts_in_range (n + 1) false false rest both.1)
 acts_in_range n loose jumped (Jump p ∷ rest) all = acts_in_range (n + 1) loose true rest
     (and_parts (is_in_range (Jump p)) (list_all is_in_range rest) all).1
 acts_in_range n true jumped (Trim ∷ rest) all = acts_in_range (n + 1) true jumped rest all
@@ -84,7 +84,7 @@ records-surveyed s (a ∷ rest) =
     let one = length-records_of_act loose place a.act in
     let more = records-surveyed (noted s a.act) rest in
     let joined = length-append (records_of_act loose place a.act)
-      (records_from (is_loose_after a.act) (place_after place a.act) rest) in
+    (records_from (is_loose_after a.act) (place_after place a.act) rest) in
     omega (arith, one, more, joined)
 
 stops-surveyed : (s : Survey) (acts : List NumberedAct)
@@ -103,18 +103,18 @@ max-max a b c = omega arith
 -- extents that take in further acts
 abbrev joined : Extents → List NumberedAct → Extents
 joined e acts = record {
-    right = max e.right (greatest (λ p. above p.x) acts);
-    left = max e.left (greatest (λ p. below p.x) acts);
-    up = max e.up (greatest (λ p. below p.y) acts);
-    down = max e.down (greatest (λ p. above p.y) acts);
-  }
+  right = max e.right (greatest (λ p. above p.x) acts);
+  left = max e.left (greatest (λ p. below p.x) acts);
+  up = max e.up (greatest (λ p. below p.y) acts);
+  down = max e.down (greatest (λ p. above p.y) acts);
+}
 
 joined_step : (e : Extents) (a : Act) (rest : List NumberedAct) → joined (stretched_by e a) rest ≡ record {
-    right = max e.right (max (measured (λ p. above p.x) a) (greatest (λ p. above p.x) rest));
-    left = max e.left (max (measured (λ p. below p.x) a) (greatest (λ p. below p.x) rest));
-    up = max e.up (max (measured (λ p. below p.y) a) (greatest (λ p. below p.y) rest));
-    down = max e.down (max (measured (λ p. above p.y) a) (greatest (λ p. above p.y) rest));
-  }
+  right = max e.right (max (measured (λ p. above p.x) a) (greatest (λ p. above p.x) rest));
+  left = max e.left (max (measured (λ p. below p.x) a) (greatest (λ p. below p.x) rest));
+  up = max e.up (max (measured (λ p. below p.y) a) (greatest (λ p. below p.y) rest));
+  down = max e.down (max (measured (λ p. above p.y) a) (greatest (λ p. above p.y) rest));
+}
 joined_step e (act.Needle p float) rest = simp max-max
 joined_step e act.Trim rest = simp zero-max
 joined_step e act.Stop rest = simp zero-max
@@ -126,18 +126,22 @@ extents-surveyed s (a ∷ rest) = extents-surveyed (noted s a.act) rest ∙ join
 -- the numbers of a survey
 abbrev pub numbers_in : Survey → HeaderNumbers
 numbers_in s = record {
-    records = s.records + 1;
-    stops = s.standing.stops;
-    extents = s.extents;
-    last = s.standing.place;
-  }
+  records = s.records + 1;
+  stops = s.standing.stops;
+  extents = s.extents;
+  last = s.standing.place;
+}
 
 -- a survey of all acts has their numbers
 pub numbers_in-surveyed : (acts : List NumberedAct)
     → numbers_in (surveyed empty_survey acts) ≡ numbers_of acts (length (records_of acts) + 1)
 numbers_in-surveyed acts =
-    rw (records-surveyed empty_survey acts, stops-surveyed empty_survey acts,
-      place-surveyed empty_survey acts, extents-surveyed empty_survey acts) (simp (zero-max, zero-add))
+    rw (
+      records-surveyed empty_survey acts,
+      stops-surveyed empty_survey acts,
+      place-surveyed empty_survey acts,
+      extents-surveyed empty_survey acts,
+    ) (simp (zero-max, zero-add))
 
 -- the act of a command in range is in range
 pub act_in_range : (command : Command) (r : Option Act) (loose jumped loose_new jumped_new : Bool)
@@ -147,7 +151,7 @@ pub act_in_range : (command : Command) (r : Option Act) (loose jumped loose_new 
 act_in_range command None loose jumped loose_new jumped_new here is = tt
 act_in_range command (Some a) loose jumped loose_new jumped_new here is =
     let all : IsTrue (are_in_range (acts_from 0 loose jumped (command ∷ []))) =
-      acts_in_range 0 loose jumped (command ∷ []) (and_from (is_in_range command) true here refl) in
+    acts_in_range 0 loose jumped (command ∷ []) (and_from (is_in_range command) true here refl) in
     (and_parts (is_act_in_range a) true (rw is at all)).0
 
 -- the survey after the last command
@@ -167,7 +171,7 @@ pub refused : (rest : List Command) (d : Command) (n : ℕ) (loose jumped loose_
     (r : Option Act) (a : Act) (f : WriteFault) (s : Survey) (acts : List NumberedAct)
     → 1 ≤ length rest
     → ((n : ℕ) (after : List Command) → acts_from n loose jumped (get_or rest 0 d ∷ after)
-      ≡ listed n r ++ acts_from (n + 1) loose_new jumped_new after)
+    ≡ listed n r ++ acts_from (n + 1) loose_new jumped_new after)
     → r ≡ Some a
     → refusal_at reach s.standing (numbered n a) ≡ Some f
     → refusal_from reach s.standing (acts_from n loose jumped rest) ≡ first_refusal reach acts
@@ -206,5 +210,5 @@ records_small loose place (a ∷ rest) =
     let is = length-records_of_act loose place a.act in
     let more = records_small (is_loose_after a.act) (place_after place a.act) rest in
     let joined = length-append (records_of_act loose place a.act)
-      (records_from (is_loose_after a.act) (place_after place a.act) rest) in
+    (records_from (is_loose_after a.act) (place_after place a.act) rest) in
     omega (arith, one, is, more, joined)

@@ -3,12 +3,13 @@ use Rattle.std.proofs.Common.{◌≡◌, ℤ, pos, negsuc, List, [], ◌∷◌, 
 use Rattle.std.specs.Fmt.{digits}
 use Rattle.std.specs.List.{concat}
 use Rattle.design_model.specs.declared.command.Command.{Command}
-use Rattle.design_model.specs.declared.command.Command.TheVariants.{Stitch, Jump, Trim, Stop}
+use Rattle.design_model.specs.declared.command.Command.TheVariants.{Stitch, Jump, Stop}
 use Rattle.design_model.specs.declared.point.Point.{Point}
 use Rattle.design_model.specs.Acts.{acts_along}
 use Rattle.design_model.specs.Designs.{DesignValue}
 use Rattle.format_traits.specs.declared.fault.WriteFault.TheVariants as fault
 use Rattle.dst_codec.specs.Header.{header_fields}
+use Rattle.dst_codec.specs.Samples.{square, square_commands}
 use Rattle.dst_codec.specs.Writing.{records_of, writes}
 
 abbrev pub point : ℤ → ℤ → Point
@@ -18,18 +19,13 @@ point x y = record { x = x; y = y }
 abbrev pub sewn : List Command → DesignValue
 sewn commands = record { label = []; threads = []; commands = commands }
 
--- a square of 30 from the origin to the right and downwards
-abbrev pub square : List Command
-square = Stitch (point (pos 0) (pos 0)) ∷ Stitch (point (pos 30) (pos 0)) ∷ Stitch (point (pos 30) (pos 30))
-    ∷ Stitch (point (pos 0) (pos 30)) ∷ Stitch (point (pos 0) (pos 0)) ∷ Trim ∷ []
-
-pub known_square_records : concat (records_of (acts_along square))
+pub known_square_records : concat (records_of (acts_along square_commands))
     ≡ 0x00 ∷ 0x00 ∷ 0x03 ∷ 0x00 ∷ 0x05 ∷ 0x03 ∷ 0x00 ∷ 0x50 ∷ 0x03 ∷ 0x00 ∷ 0x0A ∷ 0x03 ∷ 0x00 ∷ 0xA0 ∷ 0x03
     ∷ 0x82 ∷ 0x41 ∷ 0x83 ∷ 0x82 ∷ 0x82 ∷ 0x83 ∷ 0x82 ∷ 0x41 ∷ 0x83 ∷ []
 known_square_records = refl
 
 -- the fields of the square, which take 124 bytes
-pub known_square_fields : header_fields [] (acts_along square) 9
+pub known_square_fields : header_fields [] (acts_along square_commands) 9
     ≡ codes "LA:                " ++ 13 ∷ codes "ST:      9" ++ 13 ∷ codes "CO:  0" ++ 13
     ∷ codes "+X:   30" ++ 13 ∷ codes "-X:    0" ++ 13 ∷ codes "+Y:    0" ++ 13 ∷ codes "-Y:   30" ++ 13
     ∷ codes "AX:+    0" ++ 13 ∷ codes "AY:+    0" ++ 13 ∷ codes "MX:+    0" ++ 13 ∷ codes "MY:+    0" ++ 13
@@ -37,7 +33,7 @@ pub known_square_fields : header_fields [] (acts_along square) 9
 unfolding digits
 known_square_fields = refl
 
-pub known_fields_length : length (header_fields [] (acts_along square) 9) ≡ 124
+pub known_fields_length : length (header_fields [] (acts_along square_commands) 9) ≡ 124
 unfolding digits
 known_fields_length = refl
 
@@ -49,7 +45,7 @@ unfolding digits
 known_last = refl
 
 -- the whole file of the square has its header, its records and the end
-pub known_square_file : IsOkAnd (writes (sewn square)) (λ bytes. length bytes ≡ 539)
+pub known_square_file : IsOkAnd (writes square) (λ bytes. length bytes ≡ 539)
 unfolding digits
 known_square_file = refl
 

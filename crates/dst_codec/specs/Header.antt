@@ -54,20 +54,20 @@ signed_field name z = field name (sign_of z ∷ filled_left 5 (decimal (unsigned
 -- how far needles reach from the origin
 abbrev pub extents_of : List NumberedAct → Extents
 extents_of acts = record {
-    right = greatest (λ p. above p.x) acts;
-    left = greatest (λ p. below p.x) acts;
-    up = greatest (λ p. below p.y) acts;
-    down = greatest (λ p. above p.y) acts;
-  }
+  right = greatest (λ p. above p.x) acts;
+  left = greatest (λ p. below p.x) acts;
+  up = greatest (λ p. below p.y) acts;
+  down = greatest (λ p. above p.y) acts;
+}
 
 -- the numbers of a header: that of the records, and those of the acts
 abbrev pub numbers_of : List NumberedAct → ℕ → HeaderNumbers
 numbers_of acts count = record {
-    records = count;
-    stops = stops_of acts;
-    extents = extents_of acts;
-    last = place_along origin acts;
-  }
+  records = count;
+  stops = stops_of acts;
+  extents = extents_of acts;
+  last = place_along origin acts;
+}
 
 -- the fields of a label and numbers
 abbrev pub fields_of : List ℕ → HeaderNumbers → List ℕ

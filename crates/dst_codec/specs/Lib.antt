@@ -8,3 +8,4 @@ pub mod Surveys
 pub mod Lines
 pub mod Format
 pub mod Laws
+pub mod Samples

@@ -1,6 +1,6 @@
 -- What is known of a design once its acts were gone through: the numbers of the header, or the
 -- first refusal.
-use Rattle.std.specs.Prelude.{◌≡◌, ℕ, ◌+◌, max, Bool, true, false, List, [], ◌∷◌, length, Result, Ok, Err, Some, None, ◌==◌, if◌then◌else◌}
+use Rattle.std.specs.Prelude.{◌≡◌, ℕ, ◌+◌, max, Bool, true, false, List, length, Result, Ok, Err, Some, None, ◌==◌, if◌then◌else◌}
 use Rattle.design_model.specs.declared.act.Act.{Act}
 use Rattle.design_model.specs.declared.act.Act.TheVariants.{Needle, Trim, Stop}
 use Rattle.design_model.specs.declared.act.NumberedAct.{NumberedAct}
@@ -35,11 +35,11 @@ record_count loose place Stop = 1
 -- extents that take in a needle too
 abbrev pub stretched : Extents → Point → Extents
 stretched e p = record {
-    right = max e.right (above p.x);
-    left = max e.left (below p.x);
-    up = max e.up (below p.y);
-    down = max e.down (above p.y);
-  }
+  right = max e.right (above p.x);
+  left = max e.left (below p.x);
+  up = max e.up (below p.y);
+  down = max e.down (above p.y);
+}
 
 -- extents that take in an act too
 abbrev pub stretched_by : Extents → Act → Extents
@@ -50,18 +50,18 @@ stretched_by e Stop = e
 -- nothing is known before the first act
 abbrev pub empty_survey : Survey
 empty_survey = record {
-    standing = beginning;
-    records = 0;
-    extents = record { right = 0; left = 0; up = 0; down = 0 };
-  }
+  standing = beginning;
+  records = 0;
+  extents = record { right = 0; left = 0; up = 0; down = 0 };
+}
 
 -- a survey with one act more
 abbrev pub noted : Survey → Act → Survey
 noted s act = record {
-    standing = standing_after LIMIT s.standing act;
-    records = s.records + record_count s.standing.loose s.standing.place act;
-    extents = stretched_by s.extents act;
-  }
+  standing = standing_after LIMIT s.standing act;
+  records = s.records + record_count s.standing.loose s.standing.place act;
+  extents = stretched_by s.extents act;
+}
 
 -- what an answer of noting an act means
 abbrev pub Notes : {T : Type 0} → Survey → NumberedAct → Result T WriteFault → Survey → Type 0

@@ -45,7 +45,12 @@ pub fn new_header(alloc: Global, label: &[u8], numbers: &HeaderNumbers) -> Resul
     Ok(header)
 }
 
-fn put_fields(alloc: Global, out: &mut Bytes, label: &[u8], numbers: &HeaderNumbers) -> Result<(), Memory>
+fn put_fields(
+    alloc: Global,
+    out: &mut Bytes,
+    label: &[u8],
+    numbers: &HeaderNumbers,
+) -> Result<(), Memory>
     requires start { out.old ≡ [] }
     requires label { length label.now ≤ MAX_LABEL }
     requires last { unsigned_abs numbers.now.last.y ≤ NEEDLE_LIMIT }
@@ -97,7 +102,13 @@ fn put_field(out: &mut Bytes, name: &[u8], contents: &[u8]) -> Result<(), Memory
 }
 
 /// A field of a number that stands to the right of so many places.
-fn put_number(alloc: Global, out: &mut Bytes, name: &[u8], places: usize, number: u32) -> Result<(), Memory>
+fn put_number(
+    alloc: Global,
+    out: &mut Bytes,
+    name: &[u8],
+    places: usize,
+    number: u32,
+) -> Result<(), Memory>
     ensures { OnOk result (out.new ≡ out.old ++ number_field name.now places number) }
 {
     out.append(name)?;

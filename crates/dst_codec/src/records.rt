@@ -4,7 +4,6 @@ ghost use Rattle.design_model.specs.declared.point.TheConstants.{NEEDLE_LIMIT};
 ghost use Rattle.design_model.specs.Commands.{is_in_range};
 ghost use Rattle.design_model.specs.Points.{is_within, move_between as move_of, origin};
 ghost use Rattle.dst_codec.specs.declared.dst.TheConstants.{LIMIT};
-
 ghost use Rattle.dst_codec.specs.Lines.{are_near, line_bytes};
 ghost use Rattle.dst_codec.specs.Spelling.{stitch_record, trim_records};
 

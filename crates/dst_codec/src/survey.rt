@@ -106,10 +106,10 @@ impl Survey {
     fn numbers(&self) -> HeaderNumbers
         requires { self.now.records ≤ MAX_COMMANDS }
         ensures { result ≡ record {
-            records = self.now.records + 1;
-            stops = self.now.standing.stops;
-            extents = self.now.extents;
-            last = self.now.standing.place;
+          records = self.now.records + 1;
+          stops = self.now.standing.stops;
+          extents = self.now.extents;
+          last = self.now.standing.place;
         } }
     {
         HeaderNumbers {
@@ -164,7 +164,11 @@ fn record_count(before: &Standing, act: Act) -> u32
     ensures { result ≡ record_count_of before.now.loose before.now.place act }
 {
     match act {
-        Act::Needle { at, float } => needle_count(before.loose, float, move_between(before.place, at)),
+        Act::Needle { at, float } => needle_count(
+            before.loose,
+            float,
+            move_between(before.place, at),
+        ),
         Act::Trim => 3,
         Act::Stop => 1,
     }
@@ -177,7 +181,11 @@ fn needle_count(loose: bool, float: bool, step: Point) -> u32
     if loose {
         return hops(LIMIT, step) + 1;
     }
-    if float { float_count(hops(LIMIT, step).max(1)) } else { 1 }
+    if float {
+        float_count(hops(LIMIT, step).max(1))
+    } else {
+        1
+    }
 }
 
 fn float_count(jumps: u32) -> u32

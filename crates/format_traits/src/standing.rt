@@ -82,7 +82,9 @@ impl Reach {
         if own.is_some() {
             return own;
         }
-        if before.room + act_room(self.limit, before.loose, before.place, act) > MAX_COMMANDS as u32 {
+        if before.room + act_room(self.limit, before.loose, before.place, act)
+            > MAX_COMMANDS as u32
+        {
             return Some(WriteFault::TooLong { number });
         }
         None
@@ -99,15 +101,29 @@ fn own_refusal(reach: &Reach, before: &Standing, number: u32, act: Act) -> Optio
 {
     match act {
         Act::Needle { at, float } => {
-            needle_refusal(reach, before.loose, float, move_between(before.place, at), number)
+            needle_refusal(
+                reach,
+                before.loose,
+                float,
+                move_between(before.place, at),
+                number,
+            )
         }
         Act::Trim => None,
-        Act::Stop if passes(reach.stops, before.stops + 1) => Some(WriteFault::TooManyStops { number }),
+        Act::Stop if passes(reach.stops, before.stops + 1) => Some(WriteFault::TooManyStops {
+            number,
+        }),
         Act::Stop => None,
     }
 }
 
-fn needle_refusal(reach: &Reach, loose: bool, float: bool, step: Point, number: u32) -> Option<WriteFault>
+fn needle_refusal(
+    reach: &Reach,
+    loose: bool,
+    float: bool,
+    step: Point,
+    number: u32,
+) -> Option<WriteFault>
     requires least { LEAST_LIMIT ≤ reach.now.limit }
     requires most { reach.now.limit ≤ GREATEST_LIMIT }
     requires size { size step ≤ GREATEST_MOVE }
@@ -118,7 +134,11 @@ fn needle_refusal(reach: &Reach, loose: bool, float: bool, step: Point, number: 
     }
     if float {
         let long = passes(reach.float_hops, hops(reach.limit, step));
-        return if long { Some(WriteFault::FloatTooLong { number }) } else { None };
+        return if long {
+            Some(WriteFault::FloatTooLong { number })
+        } else {
+            None
+        };
     }
     if size_of(step) > reach.limit {
         return Some(WriteFault::StitchTooLong { number });
@@ -190,7 +210,11 @@ fn needle_room(limit: u32, loose: bool, float: bool, step: Point) -> u32
     if loose {
         return loose_room(hops(limit, step));
     }
-    if float { hops(limit, step).max(1) + 1 } else { 1 }
+    if float {
+        hops(limit, step).max(1) + 1
+    } else {
+        1
+    }
 }
 
 fn loose_room(jumps: u32) -> u32

@@ -5,7 +5,7 @@ use Rattle.format_traits.specs.Laws.{ReadsAgain, MovesWithin}
 use Rattle.dst_codec.specs.Format.{dst}
 use Rattle.dst_codec.specs.Lines.{are_near}
 use Rattle.dst_codec.specs.Writing.{file_of}
-use Rattle.dst_codec.proofs.LineLaws.{LineFacts, line_facts, written-line, writes-line}
+use Rattle.dst_codec.proofs.LineLaws.{line_facts, written-line, writes-line}
 use Rattle.dst_codec.proofs.dst.encode_line.Goals as goal
 
 -- the bytes are the file of the design

@@ -3,7 +3,6 @@ use Rattle.std.specs.List.{list_all}
 use Rattle.design_model.specs.declared.point.TheConstants.{NEEDLE_LIMIT}
 use Rattle.design_model.specs.Commands.{is_in_range}
 use Rattle.design_model.specs.Points.{is_within, origin}
-
 use Rattle.dst_codec.specs.Lines.{are_near, line_bytes}
 use Rattle.dst_codec.proofs.records.put_line.Given as goal
 
