@@ -1,0 +1,169 @@
+-- The fields of a header take 124 bytes and the header 512, where its numbers fit their places.
+use Rattle.std.proofs.Common.{◌≡◌, ℕ, ◌+◌, ◌-◌, ◌^◌, ◌<◌, ◌≤◌, ℤ, pos, negsuc, neg_ℤ, zero, suc, unsigned_abs, IsTrue, List, [], ◌∷◌, ◌++◌, length, decimal, codes, replicate, refl, ap, arith, length-append, lit<}
+use Rattle.std.proofs.lemmas.Bool.{and_parts}
+use Rattle.std.proofs.lemmas.Fmt.{length-decimal-le}
+use Rattle.std.proofs.lemmas.List.{length-replicate}
+use Rattle.design_model.specs.declared.act.Act.{Act}
+use Rattle.design_model.specs.declared.act.Act.TheVariants as act
+use Rattle.design_model.specs.declared.act.NumberedAct.{NumberedAct}
+use Rattle.design_model.specs.declared.design.TheConstants.{MAX_LABEL}
+use Rattle.design_model.specs.declared.point.Point.{Point}
+use Rattle.design_model.specs.declared.point.TheConstants.{NEEDLE_LIMIT}
+use Rattle.design_model.specs.Points.{is_within, origin}
+use Rattle.format_traits.specs.LabelFields.{filled_left, filled_right, label_field}
+use Rattle.format_traits.specs.Placing.{is_act_in_range, place_along, place_after}
+use Rattle.format_traits.specs.Refusals.{stops_of}
+use Rattle.dst_codec.specs.declared.header.HeaderNumbers.{HeaderNumbers}
+use Rattle.dst_codec.specs.declared.header.TheConstants.{HEADER_LENGTH}
+use Rattle.dst_codec.specs.Header.{above, below, greatest, measured, field, number_field, signed_field, sign_of, fields_of, header_of, numbers_of}
+use Rattle.dst_codec.proofs.SpellingLemmas.{within_parts}
+use Rattle.dst_codec.proofs.SurveyLemmas.{are_in_range}
+
+-- each number fits the places of its field
+pub record FitsPlaces (numbers : HeaderNumbers) : Type 0 where
+  pub records : numbers.records < 10 ^ 7
+  pub stops : numbers.stops < 10 ^ 3
+  pub right : numbers.extents.right < 10 ^ 5
+  pub left : numbers.extents.left < 10 ^ 5
+  pub up : numbers.extents.up < 10 ^ 5
+  pub down : numbers.extents.down < 10 ^ 5
+  pub x : unsigned_abs numbers.last.x < 10 ^ 5
+  pub y : unsigned_abs numbers.last.y < 10 ^ 5
+
+length-filled_left : (places : ℕ) (text : List ℕ) → length text ≤ places → length (filled_left places text) ≡ places
+length-filled_left places text fits =
+    let spaces = length-replicate {A = ℕ} (places - length text) 32 in
+    let all = length-append (replicate (places - length text) 32) text in
+    omega (arith, spaces, all, fits)
+
+pub length-filled_right : (places : ℕ) (text : List ℕ) → length text ≤ places → length (filled_right places text) ≡ places
+length-filled_right places text fits =
+    let spaces = length-replicate {A = ℕ} (places - length text) 32 in
+    let all = length-append text (replicate (places - length text) 32) in
+    omega (arith, spaces, all, fits)
+
+length-field : (name contents : List ℕ) (n m : ℕ) → length name ≡ n → length contents ≡ m
+    → length (field name contents) ≡ n + m + 1
+length-field name contents n m is are =
+    let inner = length-append name contents in
+    let outer = length-append (name ++ contents) (13 ∷ []) in
+    omega (arith, inner, outer, is, are)
+
+length-number_field : (name : List ℕ) (places n : ℕ) → length name ≡ 3 → 0 < places
+    → n < 10 ^ places → n < 2 ^ 64 → length (number_field name places n) ≡ 3 + places + 1
+length-number_field name places n is some fits small = length-field name (filled_left places (decimal n)) 3 places is
+    (length-filled_left places (decimal n) (length-decimal-le places n some fits small))
+
+length-signed_field : (name : List ℕ) (z : ℤ) → length name ≡ 3 → unsigned_abs z < 10 ^ 5
+    → length (signed_field name z) ≡ 10
+length-signed_field name z is fits =
+    let digits = length-filled_left 5 (decimal (unsigned_abs z))
+    (length-decimal-le 5 (unsigned_abs z) (lit< tt) fits (omega (arith, fits))) in
+    length-field name (sign_of z ∷ filled_left 5 (decimal (unsigned_abs z))) 3 6 is (ap suc digits)
+
+size_of_opposite : (z : ℤ) → unsigned_abs (neg_ℤ z) ≡ unsigned_abs z
+size_of_opposite (pos zero) = refl
+size_of_opposite (pos (suc n)) = refl
+size_of_opposite (negsuc n) = refl
+
+lengths : (a b c d e f g h i j k l : List ℕ) → length a ≡ 20 → length b ≡ 11 → length c ≡ 7
+    → length d ≡ 9 → length e ≡ 9 → length f ≡ 9 → length g ≡ 9
+    → length h ≡ 10 → length i ≡ 10 → length j ≡ 10 → length k ≡ 10 → length l ≡ 10
+    → length (a ++ b ++ c ++ d ++ e ++ f ++ g ++ h ++ i ++ j ++ k ++ l) ≡ 124
+lengths a b c d e f g h i j k l ha hb hc hd he hf hg hh hi hj hk hl = simp length-append
+    (omega (arith, ha, hb, hc, hd, he, hf, hg, hh, hi, hj, hk, hl))
+
+pub length-fields_of : (label : List ℕ) (numbers : HeaderNumbers) → length label ≤ MAX_LABEL
+    → FitsPlaces numbers → length (fields_of label numbers) ≡ 124
+length-fields_of label numbers short fits = lengths
+    (field (codes "LA:") (label_field label))
+    (number_field (codes "ST:") 7 numbers.records)
+    (number_field (codes "CO:") 3 numbers.stops)
+    (number_field (codes "+X:") 5 numbers.extents.right)
+    (number_field (codes "-X:") 5 numbers.extents.left)
+    (number_field (codes "+Y:") 5 numbers.extents.up)
+    (number_field (codes "-Y:") 5 numbers.extents.down)
+    (signed_field (codes "AX:") numbers.last.x)
+    (signed_field (codes "AY:") (neg_ℤ numbers.last.y))
+    (signed_field (codes "MX:") (pos 0))
+    (signed_field (codes "MY:") (pos 0))
+    (field (codes "PD:") (codes "******"))
+    (length-field (codes "LA:") (label_field label) 3 MAX_LABEL refl (length-filled_right MAX_LABEL label short))
+    (length-number_field (codes "ST:") 7 numbers.records refl (lit< tt) fits.records (omega (arith, fits.records)))
+    (length-number_field (codes "CO:") 3 numbers.stops refl (lit< tt) fits.stops (omega (arith, fits.stops)))
+    (length-number_field (codes "+X:") 5 numbers.extents.right refl (lit< tt) fits.right (omega (arith, fits.right)))
+    (length-number_field (codes "-X:") 5 numbers.extents.left refl (lit< tt) fits.left (omega (arith, fits.left)))
+    (length-number_field (codes "+Y:") 5 numbers.extents.up refl (lit< tt) fits.up (omega (arith, fits.up)))
+    (length-number_field (codes "-Y:") 5 numbers.extents.down refl (lit< tt) fits.down (omega (arith, fits.down)))
+    (length-signed_field (codes "AX:") numbers.last.x refl fits.x)
+    (length-signed_field (codes "AY:") (neg_ℤ numbers.last.y) refl (rw (size_of_opposite numbers.last.y) fits.y))
+    (length-signed_field (codes "MX:") (pos 0) refl (lit< tt))
+    (length-signed_field (codes "MY:") (pos 0) refl (lit< tt))
+    refl
+
+pub length-header_of : (label : List ℕ) (numbers : HeaderNumbers) → length label ≤ MAX_LABEL
+    → FitsPlaces numbers → length (header_of label numbers) ≡ HEADER_LENGTH
+length-header_of label numbers short fits =
+    let fields = length-fields_of label numbers short fits in
+    let all = length-append (fields_of label numbers) (26 ∷ []) in
+    length-filled_right HEADER_LENGTH (fields_of label numbers ++ 26 ∷ []) (omega (arith, fields, all))
+
+-- a measure of needles in range is at most their limit
+greatest_small : (measure : Point → ℕ)
+    → ((p : Point) → IsTrue (is_within NEEDLE_LIMIT p) → measure p ≤ NEEDLE_LIMIT)
+    → (acts : List NumberedAct) → IsTrue (are_in_range acts) → greatest measure acts ≤ NEEDLE_LIMIT
+greatest_small measure small [] all = omega arith
+greatest_small measure small (a ∷ rest) all =
+    let both = and_parts (is_act_in_range a.act) (are_in_range rest) all in
+    let one : measured measure a.act ≤ NEEDLE_LIMIT = measured_small measure small a.act both.0 in
+    let more = greatest_small measure small rest both.1 in
+    omega (arith, one, more)
+  where
+    measured_small : (measure : Point → ℕ)
+        → ((p : Point) → IsTrue (is_within NEEDLE_LIMIT p) → measure p ≤ NEEDLE_LIMIT)
+        → (a : Act) → IsTrue (is_act_in_range a) → measured measure a ≤ NEEDLE_LIMIT
+    measured_small measure small (act.Needle p float) here = small p here
+    measured_small measure small act.Trim here = omega arith
+    measured_small measure small act.Stop here = omega arith
+
+above_small : (z : ℤ) (limit : ℕ) → unsigned_abs z ≤ limit → above z ≤ limit
+above_small (pos n) limit small = small
+above_small (negsuc n) limit small = omega arith
+
+below_small : (z : ℤ) (limit : ℕ) → unsigned_abs z ≤ limit → below z ≤ limit
+below_small (pos n) limit small = omega arith
+below_small (negsuc n) limit small = omega (arith, small)
+
+-- the place after acts in range is in range
+place_in_range : (place : Point) (acts : List NumberedAct) → IsTrue (is_within NEEDLE_LIMIT place)
+    → IsTrue (are_in_range acts) → IsTrue (is_within NEEDLE_LIMIT (place_along place acts))
+place_in_range place [] here all = here
+place_in_range place (a ∷ rest) here all =
+    let both = and_parts (is_act_in_range a.act) (are_in_range rest) all in
+    place_in_range (place_after place a.act) rest (after place a.act here both.0) both.1
+  where
+    after : (place : Point) (a : Act) → IsTrue (is_within NEEDLE_LIMIT place) → IsTrue (is_act_in_range a)
+        → IsTrue (is_within NEEDLE_LIMIT (place_after place a))
+    after place (act.Needle p float) here there = there
+    after place act.Trim here there = here
+    after place act.Stop here there = here
+
+-- the numbers of acts in range fit, where there are not too many records and stops
+pub numbers_fit : (acts : List NumberedAct) (count : ℕ) → IsTrue (are_in_range acts)
+    → count < 10 ^ 7 → stops_of acts < 10 ^ 3 → FitsPlaces (numbers_of acts count)
+numbers_fit acts count all few few_stops =
+    let last = within_parts NEEDLE_LIMIT (place_along origin acts) (place_in_range origin acts refl all) in
+    let right = greatest_small (λ p. above p.x) (λ p here. above_small p.x NEEDLE_LIMIT (within_parts NEEDLE_LIMIT p here).0) acts all in
+    let left = greatest_small (λ p. below p.x) (λ p here. below_small p.x NEEDLE_LIMIT (within_parts NEEDLE_LIMIT p here).0) acts all in
+    let up = greatest_small (λ p. below p.y) (λ p here. below_small p.y NEEDLE_LIMIT (within_parts NEEDLE_LIMIT p here).1) acts all in
+    let down = greatest_small (λ p. above p.y) (λ p here. above_small p.y NEEDLE_LIMIT (within_parts NEEDLE_LIMIT p here).1) acts all in
+    record {
+      records = few;
+      stops = few_stops;
+      right = omega (arith, right);
+      left = omega (arith, left);
+      up = omega (arith, up);
+      down = omega (arith, down);
+      x = omega (arith, last.0);
+      y = omega (arith, last.1);
+    }

@@ -1,0 +1,83 @@
+-- Worked values of reading.
+use Rattle.std.proofs.Common.{◌≡◌, ℕ, zero, suc, ℤ, pos, negsuc, true, false, List, [], ◌∷◌, ◌++◌, replicate, Ok, Err, Result, refl, codes}
+use Rattle.design_model.specs.declared.command.Command.{Command}
+use Rattle.design_model.specs.declared.command.Command.TheVariants.{Stitch, Jump, Trim, Stop}
+use Rattle.design_model.specs.declared.point.Point.{Point}
+use Rattle.format_traits.specs.declared.fault.ReadFault.{ReadFault}
+use Rattle.format_traits.specs.declared.fault.ReadFault.TheVariants as fault
+use Rattle.format_traits.specs.declared.loaded.Loaded.{Loaded}
+use Rattle.dst_codec.specs.Reading.{reads, moves, label_of}
+
+abbrev pub point : ℤ → ℤ → Point
+point x y = record { x = x; y = y }
+
+-- a file without a label, with these bytes after the header
+abbrev pub file : List ℕ → List ℕ
+file bytes = replicate 512 32 ++ bytes
+
+-- what is loaded without a label
+abbrev pub plain : List Command → Result Loaded ReadFault
+plain commands = Ok (record {
+  design = record { label = []; threads = []; commands = commands };
+  ended = true;
+})
+
+-- three jumps in a run read as two jumps, a trim and a jump
+pub known_three_jumps : reads (file (0 ∷ 0 ∷ 0x03 ∷ 0 ∷ 0 ∷ 0x83 ∷ 0 ∷ 0 ∷ 0x83 ∷ 0 ∷ 0 ∷ 0x83
+    ∷ 0 ∷ 0 ∷ 0x03 ∷ 0 ∷ 0 ∷ 0xF3 ∷ []))
+    ≡ plain (Stitch (point (pos 0) (pos 0)) ∷ Jump (point (pos 0) (pos 0)) ∷ Jump (point (pos 0) (pos 0))
+    ∷ Trim ∷ Jump (point (pos 0) (pos 0)) ∷ Stitch (point (pos 0) (pos 0)) ∷ [])
+known_three_jumps = refl
+
+-- two jumps read as two jumps
+pub known_two_jumps : reads (file (0 ∷ 0 ∷ 0x03 ∷ 0 ∷ 0 ∷ 0x83 ∷ 0 ∷ 0 ∷ 0x83 ∷ 0 ∷ 0 ∷ 0x03 ∷ 0 ∷ 0 ∷ 0xF3 ∷ []))
+    ≡ plain (Stitch (point (pos 0) (pos 0)) ∷ Jump (point (pos 0) (pos 0)) ∷ Jump (point (pos 0) (pos 0))
+    ∷ Stitch (point (pos 0) (pos 0)) ∷ [])
+known_two_jumps = refl
+
+-- a stop with a move is a jump besides, which no run counts; the fourth jump of a run is a jump
+pub known_stop : reads (file (0x01 ∷ 0 ∷ 0x83 ∷ 0 ∷ 0 ∷ 0xC3 ∷ 0x01 ∷ 0 ∷ 0xC3 ∷ 0x01 ∷ 0 ∷ 0x83 ∷ 0x01 ∷ 0 ∷ 0x83
+    ∷ 0x01 ∷ 0 ∷ 0x83 ∷ 0x01 ∷ 0 ∷ 0x83 ∷ 0 ∷ 0 ∷ 0xF3 ∷ 1 ∷ 2 ∷ 3 ∷ 4 ∷ []))
+    ≡ plain (Jump (point (pos 1) (pos 0)) ∷ Stop ∷ Stop ∷ Jump (point (pos 2) (pos 0))
+    ∷ Jump (point (pos 3) (pos 0)) ∷ Jump (point (pos 4) (pos 0)) ∷ Trim ∷ Jump (point (pos 5) (pos 0))
+    ∷ Jump (point (pos 6) (pos 0)) ∷ [])
+known_stop = refl
+
+-- a file that is cut off in a record has the commands before, and has not ended
+pub known_cut_off : reads (file (0x00 ∷ 0x05 ∷ 0x03 ∷ 0x00 ∷ 0x05 ∷ []))
+    ≡ Ok (record {
+      design = record { label = []; threads = []; commands = Stitch (point (pos 30) (pos 0)) ∷ [] };
+      ended = false;
+    })
+known_cut_off = refl
+
+-- a sequin is refused at its record, and a short file at its length
+pub known_sequin : reads (file (0 ∷ 0 ∷ 0x03 ∷ 0 ∷ 0 ∷ 0x43 ∷ [])) ≡ Err (fault.Sequin 515)
+known_sequin = refl
+
+pub known_short : reads (replicate 511 32) ≡ Err (fault.Short 511)
+known_short = refl
+
+-- so many records of a stitch by 121 to the right
+abbrev pub join : ℕ → List ℕ
+join zero = []
+join (suc n) = 0x05 ∷ 0x05 ∷ 0x07 ∷ join n
+
+-- the needle of record 248 would be at 30008
+pub known_range : reads (file (join 248)) ≡ Err (fault.Range 1253)
+known_range = refl
+
+-- the moves before a refusal, and before the end
+pub known_moves : moves (file (0x01 ∷ 0 ∷ 0x03 ∷ 0 ∷ 0 ∷ 0x43 ∷ [])) ≡ point (pos 1) (pos 0) ∷ []
+known_moves = refl
+
+pub known_moves_to_end : moves (file (0x01 ∷ 0 ∷ 0x03 ∷ 0x02 ∷ 0 ∷ 0x83 ∷ 0 ∷ 0 ∷ 0xF3 ∷ 0x01 ∷ 0 ∷ 0x03 ∷ []))
+    ≡ point (pos 1) (pos 0) ∷ point (negsuc 0) (pos 0) ∷ []
+known_moves_to_end = refl
+
+-- a label ends before its spaces, and stands only after its name
+pub known_label : label_of (codes "LA:Rose 1          " ++ 13 ∷ []) ≡ codes "Rose 1"
+known_label = refl
+
+pub known_no_label : label_of (codes "XX:Rose 1          ") ≡ []
+known_no_label = refl

@@ -1,0 +1,214 @@
+-- A survey of acts, one after the other, comes to the numbers of all of them.
+use Rattle.std.proofs.Common.{◌≡◌, ℕ, zero, suc, ◌+◌, ◌<◌, ◌≤◌, get_or, max, Option, Some, None, IfSome, sym, Bool, true, false, List, [], ◌∷◌, ◌++◌, length, map, IsTrue, ◌==◌, refl, ap, ◌∙◌, arith, length-append, zero-add, if◌then◌else◌, nat_le}
+use Rattle.std.proofs.Math.Nat.{zero-max, max-zero}
+use Rattle.std.proofs.lemmas.Bool.{and_parts, and_from, eqb-true}
+use Rattle.std.proofs.lemmas.List.{length-map}
+use Rattle.std.specs.List.{list_all}
+use Rattle.design_model.specs.declared.act.Act.{Act}
+use Rattle.design_model.specs.declared.act.Act.TheVariants as act
+use Rattle.design_model.specs.declared.act.NumberedAct.{NumberedAct}
+use Rattle.design_model.specs.declared.command.Command.{Command}
+use Rattle.design_model.specs.declared.command.Command.TheVariants.{Stitch, Jump, Trim, Stop}
+use Rattle.design_model.specs.declared.point.Point.{Point}
+use Rattle.design_model.specs.Acts.{acts_from, listed, numbered}
+use Rattle.design_model.specs.Commands.{is_in_range}
+use Rattle.design_model.specs.Points.{origin, move_between}
+use Rattle.format_traits.specs.declared.fault.WriteFault.{WriteFault}
+use Rattle.format_traits.specs.Placing.{is_act_in_range, hops, parts, parts_from, place_along, place_after, is_loose_after}
+use Rattle.format_traits.specs.Refusals.{stops_of, refusal_at, refusal_from, first_refusal}
+use Rattle.format_traits.specs.Rooms.{act_room, needle_room, room_from}
+use Rattle.dst_codec.specs.declared.dst.TheConstants.{LIMIT}
+use Rattle.dst_codec.specs.declared.header.Extents.{Extents}
+use Rattle.dst_codec.specs.declared.header.HeaderNumbers.{HeaderNumbers}
+use Rattle.dst_codec.specs.declared.survey.Survey.{Survey}
+use Rattle.dst_codec.specs.Header.{above, below, greatest, measured, numbers_of}
+use Rattle.dst_codec.specs.Spelling.{jump_record, stitch_record}
+use Rattle.dst_codec.specs.Surveys.{empty_survey, noted, record_count, needle_count, stretched_by}
+use Rattle.dst_codec.specs.Writing.{reach, records_of, records_from, records_of_act, needle_records, hop_records, third_stitched}
+
+-- a survey with further acts
+abbrev pub surveyed : Survey → List NumberedAct → Survey
+surveyed s [] = s
+surveyed s (a ∷ rest) = surveyed (noted s a.act) rest
+
+-- the points of acts are in a needle's range
+abbrev pub are_in_range : List NumberedAct → Bool
+are_in_range acts = list_all (λ a. is_act_in_range a.act) acts
+
+-- the acts of commands in range are in range
+pub acts_in_range : (n : ℕ) (loose jumped : Bool) (commands : List Command)
+    → IsTrue (list_all is_in_range commands) → IsTrue (are_in_range (acts_from n loose jumped commands))
+acts_in_range n loose jumped [] all = all
+acts_in_range n loose jumped (Stitch p ∷ rest) all =
+    let both = and_parts (is_in_range (Stitch p)) (list_all is_in_range rest) all in
+    and_from (is_in_range (Stitch p)) (are_in_range (acts_from (n + 1) false false rest)) both.0
+    (acts_in_range (n + 1) false false rest both.1)
+acts_in_range n loose jumped (Jump p ∷ rest) all = acts_in_range (n + 1) loose true rest
+    (and_parts (is_in_range (Jump p)) (list_all is_in_range rest) all).1
+acts_in_range n true jumped (Trim ∷ rest) all = acts_in_range (n + 1) true jumped rest all
+acts_in_range n false jumped (Trim ∷ rest) all = acts_in_range (n + 1) true false rest all
+acts_in_range n loose jumped (Stop ∷ rest) all = acts_in_range (n + 1) true false rest all
+
+pub length-parts_from : (m : Point) (n done count : ℕ) → length (parts_from m n done count) ≡ count
+length-parts_from m n done zero = refl
+length-parts_from m n done (suc count) = ap suc (length-parts_from m n (done + 1) count)
+
+pub length-hop_records : (count : ℕ) (m : Point) → length (hop_records count m) ≡ count + 1
+length-hop_records count m = length-append (map jump_record (parts m count)) (stitch_record origin ∷ [])
+    ∙ ap (λ n. n + 1) (length-map (parts m count) jump_record ∙ length-parts_from m count 0 count)
+
+-- the records of a float, whether its jumps are three or not
+float_length : (three : Bool) (count : ℕ) (m : Point)
+    → length (if three then third_stitched m else hop_records count m) ≡ (if three then 3 else count + 1)
+float_length true count m = refl
+float_length false count m = length-hop_records count m
+
+needle_length : (loose float : Bool) (m : Point)
+    → length (needle_records loose float m) ≡ needle_count loose float m
+needle_length true float m = length-hop_records (hops LIMIT m) m
+needle_length false true m = float_length (max 1 (hops LIMIT m) == 3) (max 1 (hops LIMIT m)) m
+needle_length false false m = refl
+
+pub length-records_of_act : (loose : Bool) (place : Point) (a : Act)
+    → length (records_of_act loose place a) ≡ record_count loose place a
+length-records_of_act loose place (act.Needle p float) = needle_length loose float (move_between place p)
+length-records_of_act loose place act.Trim = refl
+length-records_of_act loose place act.Stop = refl
+
+records-surveyed : (s : Survey) (acts : List NumberedAct)
+    → (surveyed s acts).records ≡ s.records + length (records_from s.standing.loose s.standing.place acts)
+records-surveyed s [] = omega arith
+records-surveyed s (a ∷ rest) =
+    let loose = s.standing.loose in
+    let place = s.standing.place in
+    let one = length-records_of_act loose place a.act in
+    let more = records-surveyed (noted s a.act) rest in
+    let joined = length-append (records_of_act loose place a.act)
+    (records_from (is_loose_after a.act) (place_after place a.act) rest) in
+    omega (arith, one, more, joined)
+
+stops-surveyed : (s : Survey) (acts : List NumberedAct)
+    → (surveyed s acts).standing.stops ≡ s.standing.stops + stops_of acts
+stops-surveyed s [] = omega arith
+stops-surveyed s (a ∷ rest) = let more = stops-surveyed (noted s a.act) rest in omega (arith, more)
+
+place-surveyed : (s : Survey) (acts : List NumberedAct)
+    → (surveyed s acts).standing.place ≡ place_along s.standing.place acts
+place-surveyed s [] = refl
+place-surveyed s (a ∷ rest) = place-surveyed (noted s a.act) rest
+
+max-max : (a b c : ℕ) → max (max a b) c ≡ max a (max b c)
+max-max a b c = omega arith
+
+-- extents that take in further acts
+abbrev joined : Extents → List NumberedAct → Extents
+joined e acts = record {
+  right = max e.right (greatest (λ p. above p.x) acts);
+  left = max e.left (greatest (λ p. below p.x) acts);
+  up = max e.up (greatest (λ p. below p.y) acts);
+  down = max e.down (greatest (λ p. above p.y) acts);
+}
+
+joined_step : (e : Extents) (a : Act) (rest : List NumberedAct) → joined (stretched_by e a) rest ≡ record {
+  right = max e.right (max (measured (λ p. above p.x) a) (greatest (λ p. above p.x) rest));
+  left = max e.left (max (measured (λ p. below p.x) a) (greatest (λ p. below p.x) rest));
+  up = max e.up (max (measured (λ p. below p.y) a) (greatest (λ p. below p.y) rest));
+  down = max e.down (max (measured (λ p. above p.y) a) (greatest (λ p. above p.y) rest));
+}
+joined_step e (act.Needle p float) rest = simp max-max
+joined_step e act.Trim rest = simp zero-max
+joined_step e act.Stop rest = simp zero-max
+
+extents-surveyed : (s : Survey) (acts : List NumberedAct) → (surveyed s acts).extents ≡ joined s.extents acts
+extents-surveyed s [] = simp max-zero
+extents-surveyed s (a ∷ rest) = extents-surveyed (noted s a.act) rest ∙ joined_step s.extents a.act rest
+
+-- the numbers of a survey
+abbrev pub numbers_in : Survey → HeaderNumbers
+numbers_in s = record {
+  records = s.records + 1;
+  stops = s.standing.stops;
+  extents = s.extents;
+  last = s.standing.place;
+}
+
+-- a survey of all acts has their numbers
+pub numbers_in-surveyed : (acts : List NumberedAct)
+    → numbers_in (surveyed empty_survey acts) ≡ numbers_of acts (length (records_of acts) + 1)
+numbers_in-surveyed acts =
+    rw (
+      records-surveyed empty_survey acts,
+      stops-surveyed empty_survey acts,
+      place-surveyed empty_survey acts,
+      extents-surveyed empty_survey acts,
+    ) (simp (zero-max, zero-add))
+
+-- the act of a command in range is in range
+pub act_in_range : (command : Command) (r : Option Act) (loose jumped loose_new jumped_new : Bool)
+    → IsTrue (is_in_range command)
+    → acts_from 0 loose jumped (command ∷ []) ≡ listed 0 r ++ acts_from (0 + 1) loose_new jumped_new []
+    → IfSome r (λ a. IsTrue (is_act_in_range a))
+act_in_range command None loose jumped loose_new jumped_new here is = tt
+act_in_range command (Some a) loose jumped loose_new jumped_new here is =
+    let all : IsTrue (are_in_range (acts_from 0 loose jumped (command ∷ []))) =
+    acts_in_range 0 loose jumped (command ∷ []) (and_from (is_in_range command) true here refl) in
+    (and_parts (is_act_in_range a) true (rw is at all)).0
+
+-- the survey after the last command
+pub finished : (rest : List Command) (n : ℕ) (loose jumped : Bool) (s : Survey) (acts : List NumberedAct)
+    (numbers : HeaderNumbers) → length rest < 1
+    → surveyed s (acts_from n loose jumped rest) ≡ surveyed empty_survey acts
+    → refusal_from reach s.standing (acts_from n loose jumped rest) ≡ first_refusal reach acts
+    → numbers ≡ numbers_in s
+    → (first_refusal reach acts ≡ None) × (numbers ≡ numbers_of acts (length (records_of acts) + 1))
+finished [] n loose jumped s acts numbers short is refusal same =
+    (sym refusal, same ∙ ap numbers_in is ∙ numbers_in-surveyed acts)
+finished (command ∷ rest) n loose jumped s acts numbers short is refusal same =
+    absurd (let no : ⊥ = omega (arith, short) in no)
+
+-- the first command whose act is refused
+pub refused : (rest : List Command) (d : Command) (n : ℕ) (loose jumped loose_new jumped_new : Bool)
+    (r : Option Act) (a : Act) (f : WriteFault) (s : Survey) (acts : List NumberedAct)
+    → 1 ≤ length rest
+    → ((n : ℕ) (after : List Command) → acts_from n loose jumped (get_or rest 0 d ∷ after)
+    ≡ listed n r ++ acts_from (n + 1) loose_new jumped_new after)
+    → r ≡ Some a
+    → refusal_at reach s.standing (numbered n a) ≡ Some f
+    → refusal_from reach s.standing (acts_from n loose jumped rest) ≡ first_refusal reach acts
+    → first_refusal reach acts ≡ Some f
+refused [] d n loose jumped loose_new jumped_new r a f s acts there steps is here refusal =
+    absurd (let no : ⊥ = omega (arith, there) in no)
+refused (command ∷ rest) d n loose jumped loose_new jumped_new r a f s acts there steps is here refusal =
+    sym refusal ∙ rw (steps n rest, is, here) refl
+
+loose_small : (few : Bool) (jumps : ℕ) → jumps + 1 ≤ (if few then jumps + 1 else jumps + 2)
+loose_small true jumps = omega arith
+loose_small false jumps = omega arith
+
+float_small : (three : Bool) (jumps : ℕ) → (jumps == 3) ≡ three → (if three then 3 else jumps + 1) ≤ jumps + 1
+float_small true jumps is = let same : jumps ≡ 3 = eqb-true jumps 3 is in omega (arith, same)
+float_small false jumps is = omega arith
+
+needle_small : (loose float : Bool) (m : Point) → needle_count loose float m ≤ needle_room LIMIT loose float m
+needle_small true float m = loose_small (nat_le (hops LIMIT m) 2) (hops LIMIT m)
+needle_small false true m = float_small (max 1 (hops LIMIT m) == 3) (max 1 (hops LIMIT m)) refl
+needle_small false false m = omega arith
+
+-- an act has at most as many records as its room
+pub record_count_small : (loose : Bool) (place : Point) (a : Act)
+    → record_count loose place a ≤ act_room LIMIT loose place a
+record_count_small loose place (act.Needle p float) = needle_small loose float (move_between place p)
+record_count_small loose place act.Trim = omega arith
+record_count_small loose place act.Stop = omega arith
+
+-- acts have at most as many records as their room
+pub records_small : (loose : Bool) (place : Point) (acts : List NumberedAct)
+    → length (records_from loose place acts) ≤ room_from LIMIT loose place acts
+records_small loose place [] = omega arith
+records_small loose place (a ∷ rest) =
+    let one = record_count_small loose place a.act in
+    let is = length-records_of_act loose place a.act in
+    let more = records_small (is_loose_after a.act) (place_after place a.act) rest in
+    let joined = length-append (records_of_act loose place a.act)
+    (records_from (is_loose_after a.act) (place_after place a.act) rest) in
+    omega (arith, one, is, more, joined)

@@ -1,0 +1,73 @@
+-- Worked values of writing.
+use Rattle.std.proofs.Common.{◌≡◌, ℤ, pos, negsuc, List, [], ◌∷◌, ◌++◌, length, drop, Err, refl, codes, IsOkAnd}
+use Rattle.std.specs.Fmt.{digits}
+use Rattle.std.specs.List.{concat}
+use Rattle.design_model.specs.declared.command.Command.{Command}
+use Rattle.design_model.specs.declared.command.Command.TheVariants.{Stitch, Jump, Stop}
+use Rattle.design_model.specs.declared.point.Point.{Point}
+use Rattle.design_model.specs.Acts.{acts_along}
+use Rattle.design_model.specs.Designs.{DesignValue}
+use Rattle.format_traits.specs.declared.fault.WriteFault.TheVariants as fault
+use Rattle.dst_codec.specs.Header.{header_fields}
+use Rattle.dst_codec.specs.Samples.{square, square_commands}
+use Rattle.dst_codec.specs.Writing.{records_of, writes}
+
+abbrev pub point : ℤ → ℤ → Point
+point x y = record { x = x; y = y }
+
+-- a design without label and threads
+abbrev pub sewn : List Command → DesignValue
+sewn commands = record { label = []; threads = []; commands = commands }
+
+pub known_square_records : concat (records_of (acts_along square_commands))
+    ≡ 0x00 ∷ 0x00 ∷ 0x03 ∷ 0x00 ∷ 0x05 ∷ 0x03 ∷ 0x00 ∷ 0x50 ∷ 0x03 ∷ 0x00 ∷ 0x0A ∷ 0x03 ∷ 0x00 ∷ 0xA0 ∷ 0x03
+    ∷ 0x82 ∷ 0x41 ∷ 0x83 ∷ 0x82 ∷ 0x82 ∷ 0x83 ∷ 0x82 ∷ 0x41 ∷ 0x83 ∷ []
+known_square_records = refl
+
+-- the fields of the square, which take 124 bytes
+pub known_square_fields : header_fields [] (acts_along square_commands) 9
+    ≡ codes "LA:                " ++ 13 ∷ codes "ST:      9" ++ 13 ∷ codes "CO:  0" ++ 13
+    ∷ codes "+X:   30" ++ 13 ∷ codes "-X:    0" ++ 13 ∷ codes "+Y:    0" ++ 13 ∷ codes "-Y:   30" ++ 13
+    ∷ codes "AX:+    0" ++ 13 ∷ codes "AY:+    0" ++ 13 ∷ codes "MX:+    0" ++ 13 ∷ codes "MY:+    0" ++ 13
+    ∷ codes "PD:******" ++ 13 ∷ []
+unfolding digits
+known_square_fields = refl
+
+pub known_fields_length : length (header_fields [] (acts_along square_commands) 9) ≡ 124
+unfolding digits
+known_fields_length = refl
+
+-- the last needle of a design stands with its sign; its y points upwards
+pub known_last : drop 74 (header_fields (codes "Rose") (acts_along (Stitch (point (negsuc 11) (pos 30)) ∷ [])) 2)
+    ≡ codes "AX:-   12" ++ 13 ∷ codes "AY:-   30" ++ 13 ∷ codes "MX:+    0" ++ 13 ∷ codes "MY:+    0" ++ 13
+    ∷ codes "PD:******" ++ 13 ∷ []
+unfolding digits
+known_last = refl
+
+-- the whole file of the square has its header, its records and the end
+pub known_square_file : IsOkAnd (writes square) (λ bytes. length bytes ≡ 539)
+unfolding digits
+known_square_file = refl
+
+-- a needle of a new colour block is reached by jumps, and a stop has its record
+pub known_second_block : concat (records_of (acts_along (Stitch (point (pos 0) (pos 0)) ∷ Stop
+    ∷ Stitch (point (pos 300) (pos 0)) ∷ [])))
+    ≡ 0x00 ∷ 0x00 ∷ 0x03 ∷ 0x00 ∷ 0x00 ∷ 0xC3 ∷ 0x09 ∷ 0x04 ∷ 0x87 ∷ 0x09 ∷ 0x04 ∷ 0x87 ∷ 0x09 ∷ 0x04 ∷ 0x87
+    ∷ 0x00 ∷ 0x00 ∷ 0x03 ∷ []
+known_second_block = refl
+
+-- a float of three hops is two jumps and a stitch; a float of no length is a jump on the spot
+pub known_floats : concat (records_of (acts_along (Stitch (point (pos 0) (pos 0)) ∷ Jump (point (pos 300) (pos 0))
+    ∷ Stitch (point (pos 300) (pos 0)) ∷ Jump (point (pos 300) (pos 0)) ∷ Stitch (point (pos 300) (pos 0)) ∷ [])))
+    ≡ 0x00 ∷ 0x00 ∷ 0x03 ∷ 0x09 ∷ 0x04 ∷ 0x87 ∷ 0x09 ∷ 0x04 ∷ 0x87 ∷ 0x09 ∷ 0x04 ∷ 0x07
+    ∷ 0x00 ∷ 0x00 ∷ 0x83 ∷ 0x00 ∷ 0x00 ∷ 0x03 ∷ []
+known_floats = refl
+
+-- a stitch of 122 is refused, and so is a float of 400
+pub known_long_stitch : writes (sewn (Stitch (point (pos 0) (pos 0)) ∷ Stitch (point (pos 122) (pos 0)) ∷ []))
+    ≡ Err (fault.StitchTooLong 2)
+known_long_stitch = refl
+
+pub known_long_float : writes (sewn (Stitch (point (pos 0) (pos 0)) ∷ Jump (point (pos 400) (pos 0))
+    ∷ Stitch (point (pos 400) (pos 0)) ∷ [])) ≡ Err (fault.FloatTooLong 3)
+known_long_float = refl

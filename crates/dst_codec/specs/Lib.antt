@@ -1,0 +1,11 @@
+pub mod Bits
+pub mod Spelling
+pub mod Header
+-- read these first: what a file reads as, and what a design is written as
+pub mod Reading
+pub mod Writing
+pub mod Surveys
+pub mod Lines
+pub mod Format
+pub mod Laws
+pub mod Samples

@@ -1,0 +1,151 @@
+ghost use Rattle.std.specs.Prelude.{◌≡◌, ◌++◌, ◌≤◌, [], length, decimal, neg_ℤ, codes, OnOk, IfOk, unsigned_abs};
+ghost use Rattle.design_model.specs.declared.design.TheConstants.{MAX_LABEL};
+ghost use Rattle.design_model.specs.declared.point.TheConstants.{NEEDLE_LIMIT};
+ghost use Rattle.format_traits.specs.LabelFields.{filled_left, label_field};
+ghost use Rattle.dst_codec.specs.Header.{field, number_field, signed_field, fields_of, header_of, sign_of as sign_code};
+
+use design_model::{Bytes, MAX_LABEL, Memory, NEEDLE_LIMIT, Point};
+use format_traits::{put_label, put_spaces};
+use std::alloc::Global;
+
+/// The bytes of a header.
+pub const HEADER_LENGTH: usize = 512;
+
+/// How far the needles of a design reach from the origin, in tenths of a millimetre.
+#[derive(Clone, Copy, Debug, PartialEq, Eq)]
+pub struct Extents {
+    pub right: u32,
+    pub left: u32,
+    pub up: u32,
+    pub down: u32,
+}
+
+/// What a header tells of the records behind it.
+#[derive(Clone, Copy, Debug, PartialEq, Eq)]
+pub struct HeaderNumbers {
+    /// The number of records, the end record among them.
+    pub records: u32,
+    pub stops: u32,
+    pub extents: Extents,
+    /// The last needle, or the origin.
+    pub last: Point,
+}
+
+/// The header of a file.
+pub fn new_header(alloc: Global, label: &[u8], numbers: &HeaderNumbers) -> Result<Bytes, Memory>
+    requires label { length label.now ≤ MAX_LABEL }
+    requires last { unsigned_abs numbers.now.last.y ≤ NEEDLE_LIMIT }
+    ensures { IfOk result (λ bytes. bytes ≡ header_of label.now numbers.now) }
+{
+    let mut header = Bytes::new(alloc);
+    put_fields(alloc, &mut header, label, numbers)?;
+    header.push(0x1A)?;
+    let length = header.len();
+    put_spaces(&mut header, HEADER_LENGTH.saturating_sub(length))?;
+    Ok(header)
+}
+
+fn put_fields(
+    alloc: Global,
+    out: &mut Bytes,
+    label: &[u8],
+    numbers: &HeaderNumbers,
+) -> Result<(), Memory>
+    requires start { out.old ≡ [] }
+    requires label { length label.now ≤ MAX_LABEL }
+    requires last { unsigned_abs numbers.now.last.y ≤ NEEDLE_LIMIT }
+    ensures { OnOk result (out.new ≡ fields_of label.now numbers.now) }
+{
+    put_label_field(out, label)?;
+    put_number(alloc, out, b"ST:", 7, numbers.records)?;
+    put_number(alloc, out, b"CO:", 3, numbers.stops)?;
+    put_extents(alloc, out, &numbers.extents)?;
+    put_signed(alloc, out, b"AX:", numbers.last.x)?;
+    put_signed(alloc, out, b"AY:", opposite(numbers.last.y))?;
+    put_signed(alloc, out, b"MX:", 0)?;
+    put_signed(alloc, out, b"MY:", 0)?;
+    put_field(out, b"PD:", b"******")?;
+    Ok(())
+}
+
+fn put_extents(alloc: Global, out: &mut Bytes, extents: &Extents) -> Result<(), Memory>
+    ensures { OnOk result (out.new ≡ out.old
+        ++ number_field (codes "+X:") 5 extents.now.right
+        ++ number_field (codes "-X:") 5 extents.now.left
+        ++ number_field (codes "+Y:") 5 extents.now.up
+        ++ number_field (codes "-Y:") 5 extents.now.down) }
+{
+    put_number(alloc, out, b"+X:", 5, extents.right)?;
+    put_number(alloc, out, b"-X:", 5, extents.left)?;
+    put_number(alloc, out, b"+Y:", 5, extents.up)?;
+    put_number(alloc, out, b"-Y:", 5, extents.down)?;
+    Ok(())
+}
+
+fn put_label_field(out: &mut Bytes, label: &[u8]) -> Result<(), Memory>
+    requires { length label.now ≤ MAX_LABEL }
+    ensures { OnOk result (out.new ≡ out.old ++ field (codes "LA:") (label_field label.now)) }
+{
+    out.append(b"LA:")?;
+    put_label(out, label)?;
+    out.push(b'\r')?;
+    Ok(())
+}
+
+fn put_field(out: &mut Bytes, name: &[u8], contents: &[u8]) -> Result<(), Memory>
+    ensures { OnOk result (out.new ≡ out.old ++ field name.now contents.now) }
+{
+    out.append(name)?;
+    out.append(contents)?;
+    out.push(b'\r')?;
+    Ok(())
+}
+
+/// A field of a number that stands to the right of so many places.
+fn put_number(
+    alloc: Global,
+    out: &mut Bytes,
+    name: &[u8],
+    places: usize,
+    number: u32,
+) -> Result<(), Memory>
+    ensures { OnOk result (out.new ≡ out.old ++ number_field name.now places number) }
+{
+    out.append(name)?;
+    put_digits(alloc, out, places, number)?;
+    out.push(b'\r')?;
+    Ok(())
+}
+
+fn put_digits(alloc: Global, out: &mut Bytes, places: usize, number: u32) -> Result<(), Memory>
+    ensures { OnOk result (out.new ≡ out.old ++ filled_left places (decimal number)) }
+{
+    let digits = number.to_string(alloc)?;
+    put_spaces(out, places.saturating_sub(digits.len()))?;
+    out.append(digits.as_bytes())?;
+    Ok(())
+}
+
+/// A field of a sign and a number in five places.
+fn put_signed(alloc: Global, out: &mut Bytes, name: &[u8], number: i32) -> Result<(), Memory>
+    ensures { OnOk result (out.new ≡ out.old ++ signed_field name.now number) }
+{
+    out.append(name)?;
+    out.push(sign_of(number))?;
+    put_digits(alloc, out, 5, number.unsigned_abs())?;
+    out.push(b'\r')?;
+    Ok(())
+}
+
+fn sign_of(number: i32) -> u8
+    ensures { result ≡ sign_code number }
+{
+    if number < 0 { b'-' } else { b'+' }
+}
+
+fn opposite(number: i32) -> i32
+    requires { unsigned_abs number ≤ NEEDLE_LIMIT }
+    ensures { result ≡ neg_ℤ number }
+{
+    -number
+}

@@ -1,0 +1,44 @@
+-- Worked values of the lookup of a name's format.
+use Rattle.std.proofs.Common.{◌≡◌, ℕ, true, List, [], ◌∷◌, Some, None, Ok, refl, codes}
+use Rattle.format_traits.specs.Endings.{ending_in, found_in}
+use Rattle.format_traits.specs.Meanings.{Meaning}
+use Rattle.format_traits.specs.Readings.{over, loaded_with}
+
+-- a format with that ending, of no further interest
+abbrev pub named : List ℕ → Meaning
+named ending = record {
+  ending = ending;
+  limit = 121;
+  reads = λ bytes. loaded_with [] [] (over true);
+  writes = λ d. Ok [];
+  moves = λ bytes. [];
+}
+
+-- the part after the last dot, which may be empty
+pub known_endings : ending_in (codes "a.b.dst") ≡ Some (codes "dst")
+known_endings = refl
+
+pub known_empty_ending : ending_in (codes "a.") ≡ Some []
+known_empty_ending = refl
+
+pub known_bare_name : ending_in (codes "dst") ≡ None
+known_bare_name = refl
+
+-- capitals are read as small letters, the first of two equal endings is found, and no other ending is
+pub known_found : found_in (named (codes "exp") ∷ named (codes "dst") ∷ named (codes "dst") ∷ []) (codes "sq.DST") ≡ Some 1
+known_found = refl
+
+pub known_found_after_dots : found_in (named (codes "dst") ∷ []) (codes "a.b.dst") ≡ Some 0
+known_found_after_dots = refl
+
+pub known_found_alone : found_in (named (codes "dst") ∷ []) (codes ".dst") ≡ Some 0
+known_found_alone = refl
+
+pub known_not_found : found_in (named (codes "dst") ∷ []) (codes "a.jef") ≡ None
+known_not_found = refl
+
+pub known_not_found_without_dot : found_in (named (codes "dst") ∷ []) (codes "dst") ≡ None
+known_not_found_without_dot = refl
+
+pub known_not_found_at_end : found_in (named (codes "dst") ∷ []) (codes "a.") ≡ None
+known_not_found_at_end = refl

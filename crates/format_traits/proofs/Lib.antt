@@ -1,0 +1,3 @@
+mod EndingFacts
+pub mod EndingLemmas
+mod PlacingFacts

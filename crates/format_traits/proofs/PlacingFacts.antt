@@ -1,0 +1,70 @@
+-- Worked values of hops, parts, rooms and refusals.
+use Rattle.std.proofs.Common.{◌≡◌, ℕ, ◌+◌, ℤ, pos, negsuc, Bool, true, false, [], ◌∷◌, Some, None, refl}
+use Rattle.design_model.specs.declared.act.Act.TheVariants.{Needle, Trim, Stop}
+use Rattle.design_model.specs.declared.act.NumberedAct.{NumberedAct}
+use Rattle.design_model.specs.declared.point.Point.{Point}
+use Rattle.design_model.specs.Acts.{numbered}
+use Rattle.format_traits.specs.declared.fault.WriteFault.TheVariants as fault
+use Rattle.format_traits.specs.declared.standing.Reach.{Reach}
+use Rattle.format_traits.specs.LabelFields.{label_field, label_in}
+use Rattle.format_traits.specs.Placing.{hops, parts}
+use Rattle.format_traits.specs.Refusals.{first_refusal}
+use Rattle.format_traits.specs.Rooms.{room_of}
+
+abbrev pub point : ℤ → ℤ → Point
+point x y = record { x = x; y = y }
+
+-- a move of 121 takes one hop of at most 121, a move of 122 takes two, and no move takes none
+pub known_hops : hops 121 (point (negsuc 120) (pos 5)) ≡ 1
+known_hops = refl
+
+pub known_two_hops : hops 121 (point (pos 5) (negsuc 121)) ≡ 2
+known_two_hops = refl
+
+pub known_no_hop : hops 121 (point (pos 0) (pos 0)) ≡ 0
+known_no_hop = refl
+
+-- the parts of -5 in two end at -3 and at -5
+pub known_parts : parts (point (negsuc 4) (pos 128)) 2
+    ≡ point (negsuc 2) (pos 64) ∷ point (negsuc 1) (pos 64) ∷ []
+known_parts = refl
+
+-- a needle act of the command with that number
+abbrev pub needle : ℕ → ℤ → Bool → NumberedAct
+needle number x float = numbered number (Needle (point x (pos 0)) float)
+
+-- three hops to a loose needle take five, a float of no length two, a trim four
+pub known_rooms : room_of 121 (needle 1 (pos 300) false ∷ needle 2 (pos 300) true ∷ needle 3 (pos 310) false
+    ∷ numbered 4 Trim ∷ numbered 5 Stop ∷ needle 6 (pos 320) false ∷ []) ≡ 5 + 2 + 1 + 4 + 1 + 2
+known_rooms = refl
+
+-- a format with the limit 121, at most three jumps to a float, and one stop
+abbrev pub narrow : Reach
+narrow = record { limit = 121; float_hops = Some 3; stops = Some 1 }
+
+-- a loose needle may lie anywhere, a stitch within the limit, a float within three hops
+pub known_accepted : first_refusal narrow (needle 1 (pos 999) false ∷ needle 2 (pos 1120) false
+    ∷ needle 4 (pos 1483) true ∷ numbered 5 Stop ∷ []) ≡ None
+known_accepted = refl
+
+-- the first refusal decides
+pub known_stitch : first_refusal narrow (needle 1 (pos 999) false ∷ needle 2 (pos 1121) false
+    ∷ needle 4 (pos 1485) true ∷ []) ≡ Some (fault.StitchTooLong 2)
+known_stitch = refl
+
+pub known_float : first_refusal narrow (needle 1 (pos 999) false ∷ needle 2 (pos 1120) false
+    ∷ needle 4 (pos 1484) true ∷ []) ≡ Some (fault.FloatTooLong 4)
+known_float = refl
+
+pub known_stops : first_refusal narrow (numbered 3 Stop ∷ numbered 5 Stop ∷ []) ≡ Some (fault.TooManyStops 5)
+known_stops = refl
+
+-- a label field: filled with spaces, read without them, and strange bytes read as question marks
+pub known_field : label_in (label_field (65 ∷ 32 ∷ 66 ∷ [])) ≡ 65 ∷ 32 ∷ 66 ∷ []
+known_field = refl
+
+pub known_strange : label_in (9 ∷ 126 ∷ 127 ∷ 32 ∷ []) ≡ 63 ∷ 126 ∷ 63 ∷ []
+known_strange = refl
+
+pub known_blank : label_in (32 ∷ 32 ∷ []) ≡ []
+known_blank = refl

@@ -1,0 +1,28 @@
+-- Which format a file name asks for: by the part after its last dot, in small letters.
+use Rattle.std.specs.Prelude.{ℕ, ◌+◌, List, [], ◌∷◌, Option, Some, None, bytes_eq, ◌==◌, if◌then◌else◌}
+use Rattle.std.specs.Str.{str_to_ascii_lowercase}
+use Rattle.format_traits.specs.Meanings.{Meaning}
+
+-- the text after a dot, unless there is a later dot
+abbrev pub after_dot : ℕ → List ℕ → Option (List ℕ) → Option (List ℕ)
+after_dot byte rest (Some ending) = Some ending
+after_dot byte rest None = if byte == 46 then Some rest else None
+
+-- the part of a name after its last dot
+abbrev pub ending_in : List ℕ → Option (List ℕ)
+ending_in [] = None
+ending_in (byte ∷ rest) = after_dot byte rest (ending_in rest)
+
+-- the place of the first meaning with that ending, the first place being n
+abbrev pub found_from : ℕ → List ℕ → List Meaning → Option ℕ
+found_from n ending [] = None
+found_from n ending (m ∷ more) =
+    if bytes_eq m.ending ending then Some n else found_from (n + 1) ending more
+
+-- the place of the first meaning with the ending of a name
+abbrev pub found_for : List Meaning → Option (List ℕ) → Option ℕ
+found_for meanings (Some ending) = found_from 0 (str_to_ascii_lowercase ending) meanings
+found_for meanings None = None
+
+abbrev pub found_in : List Meaning → List ℕ → Option ℕ
+found_in meanings name = found_for meanings (ending_in name)

@@ -1,0 +1,48 @@
+-- The laws that every format object keeps.
+use Rattle.std.specs.Prelude.{◌≡◌, ℕ, ◌<◌, ◌&&◌, Bool, true, List, length, nat_le, ◌||◌, Result, Ok, Err, IsTrue, IsOk, IsOkAnd, IfOk}
+use Rattle.std.specs.List.{list_all}
+use Rattle.design_model.specs.Acts.{acts_of, bare}
+use Rattle.design_model.specs.Designs.{DesignValue}
+use Rattle.design_model.specs.Points.{is_within}
+use Rattle.format_traits.specs.declared.fault.WriteFault.{WriteFault}
+use Rattle.format_traits.specs.declared.fault.WriteFault.TheVariants as fault
+use Rattle.format_traits.specs.declared.loaded.Loaded.{Loaded}
+use Rattle.format_traits.specs.Meanings.{Meaning}
+use Rattle.format_traits.specs.PlainDesigns.{IsPlain}
+
+-- a byte that an ending may hold: a small letter or a digit of ASCII
+abbrev pub is_ending_byte : ℕ → Bool
+is_ending_byte byte = (nat_le 97 byte && nat_le byte 122) || (nat_le 48 byte && nat_le byte 57)
+
+-- the ending of a format's file names
+pub record IsEnding (ending : List ℕ) : Type 0 where
+  pub some : 0 < length ending
+  pub spelled : IsTrue (list_all is_ending_byte ending)
+
+-- what an encoding answered is the model's value, unless memory ran out
+abbrev pub Writes : Result (List ℕ) WriteFault → Result (List ℕ) WriteFault → Type 0
+Writes model (Ok bytes) = model ≡ Ok bytes
+Writes model (Err (fault.StitchTooLong number)) = model ≡ Err (fault.StitchTooLong number)
+Writes model (Err (fault.FloatTooLong number)) = model ≡ Err (fault.FloatTooLong number)
+Writes model (Err (fault.TooManyStops number)) = model ≡ Err (fault.TooManyStops number)
+Writes model (Err (fault.TooLong number)) = model ≡ Err (fault.TooLong number)
+Writes model (Err fault.Memory) = Unit {0}
+
+-- what was loaded has the acts of the design, and its file had an end
+pub record IsAgain (d : DesignValue) (loaded : Loaded) : Type 0 where
+  pub acts : bare (acts_of loaded.design) ≡ bare (acts_of d)
+  pub ended : loaded.ended ≡ true
+
+-- the bytes read as a design with the same acts
+abbrev pub ReadsAgain : Meaning → DesignValue → List ℕ → Type 0
+ReadsAgain m d bytes = IsOkAnd (m.reads bytes) (λ loaded. IsAgain d loaded)
+
+-- each move of the bytes' records is within the limit
+abbrev pub MovesWithin : Meaning → List ℕ → Type 0
+MovesWithin m bytes = IsTrue (list_all (λ move. is_within m.limit move) (m.moves bytes))
+
+-- what is written reads again and moves within the limit, and a plain design is written
+pub record KeepsLaws (m : Meaning) (d : DesignValue) : Type 0 where
+  pub again : IfOk (m.writes d) (λ bytes. ReadsAgain m d bytes)
+  pub within : IfOk (m.writes d) (λ bytes. MovesWithin m bytes)
+  pub plain : IsPlain m.limit d → IsOk (m.writes d)

@@ -1,0 +1,10 @@
+pub mod Placing
+pub mod Rooms
+pub mod Refusals
+pub mod PlainDesigns
+pub mod LabelFields
+pub mod Readings
+-- read this one first: what a format means
+pub mod Meanings
+pub mod Laws
+pub mod Endings

@@ -1,0 +1,56 @@
+-- Designs that every format can write.
+use Rattle.std.specs.Prelude.{ℕ, ◌≤◌, Bool, true, false, not, ◌&&◌, ◌||◌, List, [], ◌∷◌, IsTrue}
+use Rattle.std.specs.Ordering.{int_eq}
+use Rattle.design_model.specs.declared.act.Act.{Act}
+use Rattle.design_model.specs.declared.act.Act.TheVariants as act
+use Rattle.design_model.specs.declared.act.NumberedAct.{NumberedAct}
+use Rattle.design_model.specs.declared.command.Command.{Command}
+use Rattle.design_model.specs.declared.command.Command.TheVariants.{Stitch, Trim}
+use Rattle.design_model.specs.declared.design.TheConstants.{MAX_COMMANDS}
+use Rattle.design_model.specs.declared.point.Point.{Point}
+use Rattle.design_model.specs.Acts.{acts_of}
+use Rattle.design_model.specs.Designs.{DesignValue}
+use Rattle.design_model.specs.Points.{is_within, origin, move_between}
+use Rattle.format_traits.specs.Placing.{place_after, is_loose_after}
+use Rattle.format_traits.specs.Refusals.{stops_of}
+use Rattle.format_traits.specs.Rooms.{room_of}
+
+-- a needle is no float, and where it is not loose it lies within the limit of the needle before
+abbrev pub is_plain_act : ℕ → Bool → Point → Act → Bool
+is_plain_act limit loose place (act.Needle p float) =
+    not float && (loose || is_within limit (move_between place p))
+is_plain_act limit loose place act.Trim = true
+is_plain_act limit loose place act.Stop = true
+
+-- all needles are so
+abbrev pub are_plain_from : ℕ → Bool → Point → List NumberedAct → Bool
+are_plain_from limit loose place [] = true
+are_plain_from limit loose place (a ∷ rest) = is_plain_act limit loose place a.act
+    && are_plain_from limit (is_loose_after a.act) (place_after place a.act) rest
+
+-- a design without floats and long stitches, with few stops, that is not too long
+pub record IsPlain (limit : ℕ) (d : DesignValue) : Type 0 where
+  pub needles : IsTrue (are_plain_from limit true origin (acts_of d))
+  pub stops : stops_of (acts_of d) ≤ 254
+  pub room : room_of limit (acts_of d) ≤ MAX_COMMANDS
+
+-- stitches within the limit of one another, the first of them of that place, and then one trim
+abbrev pub is_line_from : ℕ → Point → List Command → Bool
+is_line_from limit place (Stitch p ∷ rest) =
+    is_within limit (move_between place p) && is_line_from limit p rest
+is_line_from limit place (Trim ∷ []) = true
+is_line_from limit place _ = false
+
+-- the same place
+abbrev pub is_same_point : Point → Point → Bool
+is_same_point p q = int_eq p.x q.x && int_eq p.y q.y
+
+-- one or more stitches from the origin on, and then one trim
+abbrev pub is_line : ℕ → List Command → Bool
+is_line limit (Stitch p ∷ rest) = is_same_point p origin && is_line_from limit p rest
+is_line limit _ = false
+
+-- a design that is one plain line from the origin, and not too long
+pub record IsPlainLine (limit : ℕ) (d : DesignValue) : Type 0 where
+  pub line : IsTrue (is_line limit d.commands)
+  pub room : room_of limit (acts_of d) ≤ MAX_COMMANDS

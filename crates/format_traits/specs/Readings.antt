@@ -1,0 +1,55 @@
+-- How the records of a file come to commands, in any format. A record may give several commands;
+-- each is judged for its range and then for the number of commands before it. `at` is the offset of
+-- the record, and `count` the number of commands before.
+use Rattle.std.specs.Prelude.{ℕ, ◌+◌, Bool, not, List, [], ◌∷◌, ◌++◌, Result, Ok, Err, nat_le, if◌then◌else◌}
+use Rattle.design_model.specs.declared.command.Command.{Command}
+use Rattle.design_model.specs.declared.design.TheConstants.{MAX_COMMANDS}
+use Rattle.design_model.specs.Commands.{is_in_range}
+use Rattle.format_traits.specs.declared.fault.ReadFault.{ReadFault}
+use Rattle.format_traits.specs.declared.fault.ReadFault.TheVariants as fault
+use Rattle.format_traits.specs.declared.loaded.Loaded.{Loaded}
+
+-- the commands of a file's records, and whether the file has an end
+pub record Course : Type 0 where
+  pub commands : List Command
+  pub ended : Bool
+
+-- no further command
+abbrev pub over : Bool → Result Course ReadFault
+over ended = Ok (record { commands = []; ended = ended })
+
+-- commands before those of a course; a refusal stays
+abbrev pub after_commands : List Command → Result Course ReadFault → Result Course ReadFault
+after_commands before (Ok course) =
+    Ok (record { commands = before ++ course.commands; ended = course.ended })
+after_commands before (Err f) = Err f
+
+-- a command and what comes of the rest, or the refusal of the command
+abbrev pub tried : ℕ → ℕ → Command → Result Course ReadFault → Result Course ReadFault
+tried at count command rest =
+    if not (is_in_range command) then Err (fault.Range at)
+    else (if nat_le MAX_COMMANDS count then Err (fault.TooMany at)
+    else after_commands (command ∷ []) rest)
+
+-- the commands of one record, each tried in order, and what comes of the rest
+abbrev pub tries : ℕ → ℕ → List Command → Result Course ReadFault → Result Course ReadFault
+tries at count [] rest = rest
+tries at count (command ∷ more) rest = tried at count command (tries at (count + 1) more rest)
+
+-- what is loaded: a course under a label and with threads
+abbrev pub loaded_with : List ℕ → List ℕ → Result Course ReadFault → Result Loaded ReadFault
+loaded_with label threads (Ok course) = Ok (record {
+  design = record { label = label; threads = threads; commands = course.commands };
+  ended = course.ended;
+})
+loaded_with label threads (Err f) = Err f
+
+-- the offset that a refusal names
+abbrev pub offset_of : ReadFault → ℕ
+offset_of (fault.Short at) = at
+offset_of (fault.Signature at) = at
+offset_of (fault.Sequin at) = at
+offset_of (fault.Control at) = at
+offset_of (fault.Range at) = at
+offset_of (fault.TooMany at) = at
+offset_of fault.Memory = 0

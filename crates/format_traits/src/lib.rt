@@ -1,0 +1,23 @@
+//! The trait of stitch formats: what a format object reads and writes, and the laws that each of
+//! them keeps.
+#![tactic(auto)]
+
+mod boxed;
+mod fault;
+mod format_object;
+mod label_fields;
+mod loaded;
+mod lookup;
+mod placing;
+mod standing;
+#[cfg(test)]
+mod tests;
+
+pub use boxed::{encode_at, encode_by, ext_at, ext_of, limit_at, limit_of};
+pub use fault::{ReadFault, WriteFault};
+pub use format_object::{Format, GREATEST_LIMIT, LEAST_LIMIT};
+pub use label_fields::{put_label, put_spaces};
+pub use loaded::Loaded;
+pub use lookup::find;
+pub use placing::{GREATEST_MOVE, hops, move_between, size_of};
+pub use standing::{Reach, Standing};

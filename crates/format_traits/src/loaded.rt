@@ -1,0 +1,8 @@
+use design_model::Design;
+
+/// A design that was read, and whether its file had an end.
+#[derive(Debug, Drop)]
+pub struct Loaded {
+    pub design: Design,
+    pub ended: bool,
+}

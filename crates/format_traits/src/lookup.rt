@@ -1,0 +1,64 @@
+ghost use Rattle.std.specs.Prelude.{◌≡◌, ◌<◌, length, IfSome, map, option_map, bytes_eq};
+ghost use Rattle.std.specs.Str.{str_to_ascii_lowercase};
+ghost use Rattle.format_traits.specs.Endings.{found_from, found_in, ending_in};
+
+use crate::boxed::ext_of;
+use crate::format_object::Format;
+
+/// The index of the first format whose ending is the part of `name` after its last `.`, ASCII
+/// capitals being read as small letters.
+pub fn find(formats: &[Box<dyn Format>], name: &str) -> Option<usize>
+    ensures value { result ≡ found_in (map (λ f. meaning f) formats.now) name.now }
+    ensures there { IfSome result (λ place. place < length formats.now) }
+{
+    match ending_of(name.as_bytes()) {
+        Some(ending) => find_ending(formats, ending),
+        None => None,
+    }
+}
+
+fn find_ending(formats: &[Box<dyn Format>], ending: &[u8]) -> Option<usize>
+    ensures value { result ≡ found_from 0 (str_to_ascii_lowercase ending.now) (map (λ f. meaning f) formats.now) }
+    ensures there { IfSome result (λ place. place < length formats.now) }
+{
+    for (index, format) in formats.iter().enumerate() {
+        if is_spelled(ending, ext_of(format).as_bytes()) {
+            return Some(index);
+        }
+    }
+    None
+}
+
+/// The part of a name after its last `.`.
+fn ending_of(name: &[u8]) -> Option<&[u8]>
+    ensures { option_map (λ ending. ending.now) result ≡ ending_in name.now }
+{
+    let mut ending = None;
+    let mut rest = name;
+    while let [byte, after @ ..] = rest {
+        if *byte == b'.' {
+            ending = Some(after);
+        }
+        rest = after;
+    }
+    ending
+}
+
+/// Says whether a text in small letters is `ending`.
+fn is_spelled(text: &[u8], ending: &[u8]) -> bool
+    ensures { result ≡ bytes_eq ending.now (str_to_ascii_lowercase text.now) }
+{
+    let mut left = text;
+    let mut right = ending;
+    while let [byte, more @ ..] = left {
+        let [wanted, others @ ..] = right else {
+            return false;
+        };
+        if *wanted != byte.to_ascii_lowercase() {
+            return false;
+        }
+        left = more;
+        right = others;
+    }
+    right.is_empty()
+}

@@ -1,0 +1,50 @@
+ghost use Rattle.std.specs.Prelude.{◌≡◌, ◌<◌, ◌≤◌, ◌-ℤ◌, IsTrue, unsigned_abs};
+ghost use Rattle.design_model.specs.declared.point.TheConstants.{NEEDLE_LIMIT};
+ghost use Rattle.design_model.specs.Points.{is_within, move_between as move_of, size_of as size};
+ghost use Rattle.format_traits.specs.declared.format_object.TheConstants.{GREATEST_LIMIT};
+ghost use Rattle.format_traits.specs.Placing.{hops as hops_of};
+
+use crate::format_object::GREATEST_LIMIT;
+use design_model::Point;
+
+/// The greatest move between two needles on each axis, in tenths of a millimetre.
+pub const GREATEST_MOVE: u32 = 60_000;
+
+/// The move from one needle to another.
+pub fn move_between(from: Point, to: Point) -> Point
+    requires from { IsTrue (is_within NEEDLE_LIMIT from) }
+    requires to { IsTrue (is_within NEEDLE_LIMIT to) }
+    ensures value { result ≡ move_of from to }
+    ensures size { size result ≤ GREATEST_MOVE }
+{
+    Point {
+        x: difference(from.x, to.x),
+        y: difference(from.y, to.y),
+    }
+}
+
+fn difference(from: i32, to: i32) -> i32
+    requires from { unsigned_abs from ≤ NEEDLE_LIMIT }
+    requires to { unsigned_abs to ≤ NEEDLE_LIMIT }
+    ensures value { result ≡ to -ℤ from }
+    ensures size { unsigned_abs result ≤ GREATEST_MOVE }
+{
+    to - from
+}
+
+/// The size of a move: that of its larger axis.
+pub fn size_of(step: Point) -> u32
+    ensures { result ≡ size step }
+{
+    step.x.unsigned_abs().max(step.y.unsigned_abs())
+}
+
+/// The least number of moves within the limit that a move takes.
+pub fn hops(limit: u32, step: Point) -> u32
+    requires limit { 0 < limit }
+    requires most { limit ≤ GREATEST_LIMIT }
+    requires size { size step ≤ GREATEST_MOVE }
+    ensures { result ≡ hops_of limit step }
+{
+    (size_of(step) + (limit - 1)) / limit
+}

@@ -1,0 +1,4 @@
+pub mod LineDesigns
+pub mod PutLemmas
+pub mod RouteLemmas
+pub mod RunLemmas

@@ -1,0 +1,75 @@
+-- The program's own texts: reports on standard output, one line or the usage on standard error.
+use Rattle.std.specs.Prelude.{ℕ, ◌+◌, List, [], ◌∷◌, ◌++◌, codes, decimal, sum_by, length}
+use Rattle.format_traits.specs.Meanings.{Meaning}
+use Rattle.stitch_cli.specs.declared.reports.PieceReport.{PieceReport}
+use Rattle.stitch_cli.specs.declared.stop.Stop.{Stop}
+use Rattle.stitch_cli.specs.declared.stop.Stop.TheVariants as stop
+use Rattle.stitch_cli.specs.declared.stop.Refusal.{Refusal}
+use Rattle.stitch_cli.specs.declared.stop.Refusal.TheVariants as refusal
+use Rattle.stitch_cli.specs.Certificates.{line_end}
+use Rattle.stitch_cli.specs.Requests.{RouteOrder}
+
+-- how often the needle goes down in a piece
+abbrev pub penetrations_of : PieceReport → ℕ
+penetrations_of piece = piece.cost + piece.retraced + 1
+
+-- where a piece stands, and how many lines it has
+abbrev pub place_text : PieceReport → List ℕ
+place_text piece = codes "block " ++ (decimal piece.block ++ (codes " piece "
+    ++ (decimal piece.piece ++ (codes " lines " ++ decimal piece.lines))))
+
+-- what a piece costs, and how often the needle goes down
+abbrev pub cost_text : PieceReport → List ℕ
+cost_text piece = codes " cost " ++ (decimal piece.cost ++ (codes " retraced "
+    ++ (decimal piece.retraced ++ (codes " penetrations " ++ (decimal (penetrations_of piece) ++ line_end)))))
+
+-- the line of a piece
+abbrev pub piece_line : PieceReport → List ℕ
+piece_line piece = place_text piece ++ cost_text piece
+
+-- the lines of the pieces
+abbrev pub piece_lines : List PieceReport → List ℕ
+piece_lines [] = []
+piece_lines (piece ∷ rest) = piece_line piece ++ piece_lines rest
+
+-- the line of the sums
+abbrev pub totals_line : ℕ → ℕ → List ℕ
+totals_line pieces penetrations = codes "pieces " ++ (decimal pieces
+    ++ (codes " penetrations " ++ (decimal penetrations ++ line_end)))
+
+-- the report of a route: a line for each piece, and the sums
+abbrev pub route_report : List PieceReport → List ℕ
+route_report pieces = piece_lines pieces ++ totals_line (length pieces) (sum_by penetrations_of pieces)
+
+-- a line about a file
+abbrev pub line_about : List ℕ → List ℕ → List ℕ
+line_about name text = codes "stitch: " ++ (name ++ (codes ": " ++ (text ++ line_end)))
+
+-- a line about a step that is above the limit of a format, the numbers as digits
+abbrev pub step_text : (name step limit ending : List ℕ) → List ℕ
+step_text name step limit ending =
+    (codes "stitch: " ++ (name ++ (codes ": step " ++ step)))
+    ++ (codes " is above " ++ (limit ++ (codes ", the limit of " ++ (ending ++ line_end))))
+
+-- a line about a step that is above the limit of a format
+abbrev pub step_line : List ℕ → ℕ → Meaning → List ℕ
+step_line name step format = step_text name (decimal step) (decimal format.limit) format.ending
+
+-- why a route was refused
+abbrev pub refusal_line : RouteOrder → Refusal → List ℕ
+refusal_line order refusal.DrawingTooLong =
+    line_about order.drawing (codes "longer than 67108864 bytes")
+refusal_line order refusal.NotPlainLoop =
+    line_about order.drawing (codes "not a plain drawing of one closed line from 0 0")
+refusal_line order (refusal.StepTooLong step) =
+    step_line order.drawing step order.format
+
+-- the line on standard error for a route that did not succeed
+abbrev pub route_line : RouteOrder → Stop → List ℕ
+route_line order stop.Missing = codes "stitch: cannot read " ++ (order.drawing ++ line_end)
+route_line order stop.NotRead = codes "stitch: cannot read " ++ (order.drawing ++ line_end)
+route_line order (stop.Refused why) = refusal_line order why
+route_line order stop.CertificateNotWritten = codes "stitch: cannot write " ++ (order.cert ++ line_end)
+route_line order stop.DesignNotWritten = codes "stitch: cannot write " ++ (order.out ++ line_end)
+route_line order stop.NotPrinted = codes "stitch: cannot print" ++ line_end
+route_line order stop.Memory = codes "stitch: out of memory" ++ line_end

@@ -1,0 +1,26 @@
+//! The program's commands: what the words ask for, the steps of each command over a store and two
+//! sinks, and the texts that it prints.
+#![tactic(auto)]
+
+mod certificate;
+mod command_words;
+mod delivery;
+mod making;
+mod messages;
+mod putting;
+mod reports;
+mod requests;
+mod routing;
+mod running;
+mod sewing;
+mod status;
+mod stop;
+mod usage;
+
+pub use command_words::request;
+pub use reports::PieceReport;
+pub use requests::{Request, RouteNames};
+pub use running::run;
+pub use status::Status;
+pub use stop::{Refusal, Stop};
+pub use usage::USAGE;

@@ -1,0 +1,185 @@
+ghost use Rattle.std.specs.Prelude.{◌≡◌, ◌≢◌, map, option_map, string_bytes};
+ghost use Rattle.std.specs.Bool.{OnTrue};
+ghost use Rattle.stitch_cli.specs.Requests.{AreNames, are_apart as names_are_apart, format_of, order_of, route_order, routing_to};
+ghost use Rattle.stitch_cli.specs.Endings.{Ends, RouteEnds, Tells};
+ghost use Rattle.stitch_cli.specs.Runs.{IsDecided, IsDone, IsFault, IsMemory, IsQuietRun, IsRefused, IsUsage, KeepsOthers, sights};
+ghost use Rattle.stitch_cli.specs.Sights.{sink_sight};
+
+use crate::command_words::request;
+use crate::messages::{tell_stop, tell_usage};
+use crate::requests::{Request, RouteNames};
+use crate::routing::route;
+use crate::status::Status;
+use crate::usage::USAGE;
+use format_traits::{Format, find};
+use line_graph::plain_texts_share_steps;
+use outside_io::{Failed, Sink, Store};
+use std::alloc::Global;
+
+/// Does what the words ask for: reads the input from the store, writes the outputs there, prints the
+/// report to `out`, and where it is not done puts one line, or the usage text, to `err`.
+///
+/// `route DRAWING OUT CERT` reads DRAWING whole, refuses what is too long, what is no plain drawing of
+/// one closed line, and a step above the limit of OUT's format, in this order, and only then writes
+/// CERT, OUT and the report.
+pub fn run<S: Store, O: Sink, E: Sink>(
+    alloc: Global,
+    words: &[String],
+    formats: &[Box<dyn Format>],
+    store: &mut S,
+    out: &mut O,
+    err: &mut E,
+) -> Status
+    // What `Done` means.
+    ensures done { result ≡ Status.Done → IsDone
+        (order_of (map (λ format. meaning format) formats.now) (map (λ word. string_bytes word) words.now))
+        (sights (S.files store.old) (S.faults store.old) (S.blame store.old)
+        (O.taken out.old) (O.faults out.old) (E.taken err.old) (E.faults err.old))
+        (sights (S.files store.new) (S.faults store.new) (S.blame store.new)
+        (O.taken out.new) (O.faults out.new) (E.taken err.new) (E.faults err.new)) }
+
+    // When the other answers come, and what they leave.
+    ensures refused { result ≡ Status.Refused → IsRefused
+        (order_of (map (λ format. meaning format) formats.now) (map (λ word. string_bytes word) words.now))
+        (sights (S.files store.old) (S.faults store.old) (S.blame store.old)
+        (O.taken out.old) (O.faults out.old) (E.taken err.old) (E.faults err.old))
+        (sights (S.files store.new) (S.faults store.new) (S.blame store.new)
+        (O.taken out.new) (O.faults out.new) (E.taken err.new) (E.faults err.new)) }
+    ensures usage { result ≡ Status.Usage → IsUsage
+        (order_of (map (λ format. meaning format) formats.now) (map (λ word. string_bytes word) words.now))
+        (sights (S.files store.old) (S.faults store.old) (S.blame store.old)
+        (O.taken out.old) (O.faults out.old) (E.taken err.old) (E.faults err.old))
+        (sights (S.files store.new) (S.faults store.new) (S.blame store.new)
+        (O.taken out.new) (O.faults out.new) (E.taken err.new) (E.faults err.new)) }
+    ensures fault { result ≡ Status.Fault → IsFault
+        (order_of (map (λ format. meaning format) formats.now) (map (λ word. string_bytes word) words.now))
+        (sights (S.files store.old) (S.faults store.old) (S.blame store.old)
+        (O.taken out.old) (O.faults out.old) (E.taken err.old) (E.faults err.old))
+        (sights (S.files store.new) (S.faults store.new) (S.blame store.new)
+        (O.taken out.new) (O.faults out.new) (E.taken err.new) (E.faults err.new)) }
+    ensures memory { result ≡ Status.Memory → IsMemory
+        (sights (S.files store.old) (S.faults store.old) (S.blame store.old)
+        (O.taken out.old) (O.faults out.old) (E.taken err.old) (E.faults err.old))
+        (sights (S.files store.new) (S.faults store.new) (S.blame store.new)
+        (O.taken out.new) (O.faults out.new) (E.taken err.new) (E.faults err.new)) }
+
+    // What stays, whatever the answer is.
+    ensures others { KeepsOthers
+        (order_of (map (λ format. meaning format) formats.now) (map (λ word. string_bytes word) words.now))
+        (S.files store.old) (S.files store.new) }
+
+    // Where no count rises, the words and the files decide.
+    ensures decided { IsQuietRun
+        (sights (S.files store.old) (S.faults store.old) (S.blame store.old)
+        (O.taken out.old) (O.faults out.old) (E.taken err.old) (E.faults err.old))
+        (sights (S.files store.new) (S.faults store.new) (S.blame store.new)
+        (O.taken out.new) (O.faults out.new) (E.taken err.new) (E.faults err.new))
+        → IsDecided
+        (order_of (map (λ format. meaning format) formats.now) (map (λ word. string_bytes word) words.now))
+        (sights (S.files store.old) (S.faults store.old) (S.blame store.old)
+        (O.taken out.old) (O.faults out.old) (E.taken err.old) (E.faults err.old)) result }
+{
+    plain_texts_share_steps();
+    run_once(alloc, words, formats, store, out, err)
+}
+
+fn run_once<S: Store, O: Sink, E: Sink>(
+    alloc: Global,
+    words: &[String],
+    formats: &[Box<dyn Format>],
+    store: &mut S,
+    out: &mut O,
+    err: &mut E,
+) -> Status
+    ensures { Ends
+        (order_of (map (λ format. meaning format) formats.now) (map (λ word. string_bytes word) words.now))
+        (sights (S.files store.old) (S.faults store.old) (S.blame store.old)
+        (O.taken out.old) (O.faults out.old) (E.taken err.old) (E.faults err.old))
+        (sights (S.files store.new) (S.faults store.new) (S.blame store.new)
+        (O.taken out.new) (O.faults out.new) (E.taken err.new) (E.faults err.new)) result }
+{
+    match request(words) {
+        Some(Request::Route(names)) => complete_route(alloc, &names, formats, store, out, err),
+        None => ask_again(err),
+    }
+}
+
+fn complete_route<S: Store, O: Sink, E: Sink>(
+    alloc: Global,
+    names: &RouteNames<'_>,
+    formats: &[Box<dyn Format>],
+    store: &mut S,
+    out: &mut O,
+    err: &mut E,
+) -> Status
+    requires { AreNames names.now }
+    ensures { Ends (routing_to names.now.drawing.now names.now.out.now names.now.cert.now
+        (format_of (map (λ format. meaning format) formats.now) names.now.out.now))
+        (sights (S.files store.old) (S.faults store.old) (S.blame store.old)
+        (O.taken out.old) (O.faults out.old) (E.taken err.old) (E.faults err.old))
+        (sights (S.files store.new) (S.faults store.new) (S.blame store.new)
+        (O.taken out.new) (O.faults out.new) (E.taken err.new) (E.faults err.new)) result }
+{
+    if !are_apart(names) {
+        return ask_again(err);
+    }
+    match format_for(formats, names.out) {
+        Some(format) => finish_route(alloc, names, format, store, out, err),
+        None => ask_again(err),
+    }
+}
+
+/// The first format whose ending the name has.
+fn format_for<'a>(formats: &'a [Box<dyn Format>], name: &str) -> Option<&'a Box<dyn Format>>
+    ensures { option_map (λ format. meaning format.now) result
+        ≡ format_of (map (λ format. meaning format) formats.now) name.now }
+{
+    match find(formats, name) {
+        Some(place) => Some(&formats[place]),
+        None => None,
+    }
+}
+
+fn finish_route<S: Store, O: Sink, E: Sink>(
+    alloc: Global,
+    names: &RouteNames<'_>,
+    format: &Box<dyn Format>,
+    store: &mut S,
+    out: &mut O,
+    err: &mut E,
+) -> Status
+    requires names { AreNames names.now }
+    requires apart { names.now.cert.now ≢ names.now.out.now }
+    ensures { RouteEnds (route_order names.now (meaning format.now))
+        (sights (S.files store.old) (S.faults store.old) (S.blame store.old)
+        (O.taken out.old) (O.faults out.old) (E.taken err.old) (E.faults err.old))
+        (sights (S.files store.new) (S.faults store.new) (S.blame store.new)
+        (O.taken out.new) (O.faults out.new) (E.taken err.new) (E.faults err.new)) result }
+{
+    match route(alloc, names, format, store, out) {
+        Ok(()) => Status::Done,
+        Err(why) => match tell_stop(err, names, format, why) {
+            Ok(()) => why.status(),
+            Err(Failed) => Status::Fault,
+        },
+    }
+}
+
+fn are_apart(names: &RouteNames<'_>) -> bool
+    ensures value { result ≡
+        names_are_apart names.now.drawing.now names.now.out.now names.now.cert.now }
+    ensures written { OnTrue result (names.now.cert.now ≢ names.now.out.now) }
+{
+    names.drawing != names.out && names.drawing != names.cert && names.out != names.cert
+}
+
+fn ask_again<E: Sink>(err: &mut E) -> Status
+    ensures { Tells USAGE.now Status.Usage
+        (sink_sight (E.taken err.old) (E.faults err.old))
+        (sink_sight (E.taken err.new) (E.faults err.new)) result }
+{
+    match tell_usage(err) {
+        Ok(()) => Status::Usage,
+        Err(Failed) => Status::Fault,
+    }
+}

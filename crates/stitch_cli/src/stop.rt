@@ -1,0 +1,63 @@
+ghost use Rattle.std.specs.Prelude.{◌≡◌};
+
+use crate::status::Status;
+use design_model::Memory;
+
+/// Why a drawing was refused.
+#[derive(Clone, Copy, Debug, PartialEq, Eq)]
+pub enum Refusal {
+    /// The file has more than 64 MiB.
+    DrawingTooLong,
+    /// The text is not the plain spelling of one closed line that begins at 0 0.
+    NotPlainLoop,
+    /// The drawing's step, in tenths of a millimetre, is above the limit of the output's format.
+    StepTooLong { step: u32 },
+}
+
+/// Why a command did not succeed.
+#[derive(Clone, Copy, Debug, PartialEq, Eq)]
+pub enum Stop {
+    /// The input file isn't there.
+    Missing,
+    /// A read of the input file failed.
+    NotRead,
+    /// What the input asks for was refused.
+    Refused(Refusal),
+    /// The certificate's file could not be written.
+    CertificateNotWritten,
+    /// The design's file could not be written.
+    DesignNotWritten,
+    /// The report could not be printed.
+    NotPrinted,
+    /// Memory was wanted and not found.
+    Memory,
+}
+
+impl From<Memory> for Stop {
+    ghost use Rattle.stitch_cli.specs.declared.stop.Stop.TheVariants as stop;
+
+    ghost from_gives = { λ _ e. e ≡ stop.Memory };
+
+    fn from(_error: Memory) -> Stop {
+        Stop::Memory
+    }
+}
+
+impl Stop {
+    ghost use Rattle.stitch_cli.specs.Runs.{status_of};
+
+    /// The status that the program ends with.
+    pub fn status(self) -> Status
+        ensures { result ≡ status_of self }
+    {
+        match self {
+            Stop::Missing => Status::Fault,
+            Stop::NotRead => Status::Fault,
+            Stop::Refused(_) => Status::Refused,
+            Stop::CertificateNotWritten => Status::Fault,
+            Stop::DesignNotWritten => Status::Fault,
+            Stop::NotPrinted => Status::Fault,
+            Stop::Memory => Status::Memory,
+        }
+    }
+}

@@ -1,0 +1,9 @@
+/// The usage text, which stands on standard error where the words ask for nothing that the program does.
+pub const USAGE: &[u8] = b"usage: stitch route DRAWING OUT CERT
+       stitch check DRAWING FILE CERT
+       stitch convert IN OUT [--split] [--cut]
+       stitch show FILE
+       stitch edit IN OUT EDIT...
+       stitch hoop FILE WIDTH HEIGHT
+       stitch sample N DRAWING
+";
