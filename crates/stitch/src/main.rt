@@ -1,6 +1,9 @@
 //! The program: it makes the real files, streams and formats, and hands them with its words to `run`.
 #![tactic(auto)]
 
+#[cfg(test)]
+mod tests;
+
 use dst_codec::Dst;
 use format_traits::Format;
 use outside_io::{DirStore, StdSink};

@@ -18,6 +18,7 @@ mod stop;
 mod usage;
 
 pub use command_words::request;
+pub use messages::out_of_memory;
 pub use reports::PieceReport;
 pub use requests::{Request, RouteNames};
 pub use running::run;

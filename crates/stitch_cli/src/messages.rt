@@ -1,11 +1,13 @@
 ghost use Rattle.std.specs.Prelude.{◌≡◌, ◌++◌, codes};
 ghost use Rattle.stitch_cli.specs.Certificates.{line_end};
+ghost use Rattle.stitch_cli.specs.Endings.{Tells};
 ghost use Rattle.stitch_cli.specs.Requests.{route_order};
 ghost use Rattle.stitch_cli.specs.Sights.{Puts, sink_sight};
 ghost use Rattle.stitch_cli.specs.Texts.{line_about, refusal_line, route_line, step_line, step_text};
 
 use crate::putting::{put_five, put_four, put_one, put_three};
 use crate::requests::RouteNames;
+use crate::status::Status;
 use crate::stop::{Refusal, Stop};
 use crate::usage::USAGE;
 use format_traits::{Format, ext_of, limit_of};
@@ -121,4 +123,16 @@ pub(crate) fn tell_usage<E: Sink>(err: &mut E) -> Result<(), Failed>
         (sink_sight (E.taken err.new) (E.faults err.new)) result }
 {
     put_one(err, USAGE)
+}
+
+/// Says that memory was wanted and not found, where nothing else can be done.
+pub fn out_of_memory<E: Sink>(err: &mut E) -> Status
+    ensures { Tells (codes "stitch: out of memory" ++ line_end) Status.Memory
+        (sink_sight (E.taken err.old) (E.faults err.old))
+        (sink_sight (E.taken err.new) (E.faults err.new)) result }
+{
+    match put_one(err, b"stitch: out of memory\n") {
+        Ok(()) => Status::Memory,
+        Err(Failed) => Status::Fault,
+    }
 }
