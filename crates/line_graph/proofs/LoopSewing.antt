@@ -1,5 +1,5 @@
 -- A drawing of one closed line is sewn along that line.
-use Rattle.std.proofs.Common.{◌≡◌, ◌≢◌, ℕ, List, [], ◌∷◌, ◌++◌, ◌≤◌, Some, None, map, All, Contains, get_or, ap, sym, ◌∙◌, rules, arith}
+use Rattle.std.proofs.Common.{◌≡◌, ◌≢◌, ℕ, List, [], ◌∷◌, ◌≤◌, Some, None, All, Contains, get_or, ap, sym, ◌∙◌, rules, arith}
 use Rattle.std.proofs.lemmas.List.{append-nil}
 use Rattle.std.proofs.lemmas.List.Elements.{All-cons, All-head, All-nil}
 use Rattle.std.proofs.lemmas.List.Sums.{get_or-le-sum_by}
@@ -34,12 +34,11 @@ covered_cost : (d : DrawingValue) (line : ℕ) (walk : List Pass) → Contains (
 covered_cost d line walk holds =
     let part = get_or-le-sum_by (cost_of_line d) (lines_of walk) holds.0 line holds.1 in
     let same : cost_of_line d (get_or (lines_of walk) holds.0 line) ≡ cost_of_line d line =
-        ap (cost_of_line d) holds.2 in
+    ap (cost_of_line d) holds.2 in
     omega arith
 
 -- the line's block is the first, and its walk has its needles
 module _ (d : DrawingValue) (keeps : KeepsDrawing d) (loop : IsLoop d) where
-
   needles_are : needles_of_walk d along_first ≡ needles_of d 0
   needles_are = append-nil (needles_of d 0)
 
@@ -56,7 +55,12 @@ module _ (d : DrawingValue) (keeps : KeepsDrawing d) (loop : IsLoop d) where
   pub loop_sewn : IsSewnByItsLine d
   loop_sewn = record {
     tour = search rules;
-    least = λ other tour. omega (arith, covered_cost d 0 other (All-head (λ line. Contains (lines_of other) line) 0 [] tour.covers));
+    least = λ other tour.
+        omega (
+          arith,
+          covered_cost d 0 other
+              (All-head (λ line. Contains (lines_of other) line) 0 [] tour.covers),
+        );
     cost = search rules;
     needles = needles_are;
     commands = rw (in_first_block, needles_are);

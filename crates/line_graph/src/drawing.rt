@@ -46,7 +46,12 @@ impl Drawing {
     ghost use Rattle.line_graph.specs.LoopShapes.{IsLoopLine, loop_drawing};
 
     /// The drawing of one closed line, in a block of that thread, without a label.
-    pub(crate) fn of_loop(alloc: Global, step: u32, thread: u8, points: Points) -> Result<Drawing, Memory>
+    pub(crate) fn of_loop(
+        alloc: Global,
+        step: u32,
+        thread: u8,
+        points: Points,
+    ) -> Result<Drawing, Memory>
         requires { IsLoopLine step points }
         ensures { IfOk result (λ d. d ≡ loop_drawing step thread points) }
     {
