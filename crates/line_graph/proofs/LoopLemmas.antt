@@ -18,13 +18,23 @@ pub record Shape (d : DrawingValue) : Type 0 where
   pub line : IsLoopLine d.step points
   pub is : d ≡ loop_drawing d.step thread points
 
+-- a drawing without a label that has one line, in a block
+abbrev one_line : ℕ → ℕ → ℕ → List Point → DrawingValue
+one_line step thread block points = record {
+  label = [];
+  step = step;
+  threads = thread ∷ [];
+  lines = record { block = block; points = points } ∷ [];
+}
+
 -- the same, where its lists are taken apart
 shape_of_line : (step thread block : ℕ) (points : List Point)
-    → KeepsDrawing (record { label = []; step = step; threads = thread ∷ []; lines = record { block = block; points = points } ∷ [] })
-    → IsLoop (record { label = []; step = step; threads = thread ∷ []; lines = record { block = block; points = points } ∷ [] })
-    → Shape (record { label = []; step = step; threads = thread ∷ []; lines = record { block = block; points = points } ∷ [] })
+    → KeepsDrawing (one_line step thread block points)
+    → IsLoop (one_line step thread block points)
+    → Shape (one_line step thread block points)
 shape_of_line step thread (suc block) points keeps loop =
-    let below : suc block < 1 = All-head (λ l. l.block < 1) (record { block = suc block; points = points }) [] keeps.there in
+    let line : LineValue = record { block = suc block; points = points } in
+    let below : suc block < 1 = All-head (λ l. l.block < 1) line [] keeps.there in
     absurd (omega arith)
 shape_of_line step thread zero points keeps loop = record {
   thread = thread;

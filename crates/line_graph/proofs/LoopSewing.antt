@@ -1,5 +1,5 @@
 -- A drawing of one closed line is sewn along that line.
-use Rattle.std.proofs.Common.{◌≡◌, ◌≢◌, ℕ, List, [], ◌∷◌, ◌++◌, ◌≤◌, Some, None, map, All, Contains, get_or, ap, sym, ◌∙◌, rules, arith}
+use Rattle.std.proofs.Common.{◌≡◌, ◌≢◌, ℕ, List, [], ◌∷◌, ◌≤◌, Some, None, All, Contains, get_or, ap, sym, ◌∙◌, rules, arith}
 use Rattle.std.proofs.lemmas.List.{append-nil}
 use Rattle.std.proofs.lemmas.List.Elements.{All-cons, All-head, All-nil}
 use Rattle.std.proofs.lemmas.List.Sums.{get_or-le-sum_by}
@@ -55,7 +55,12 @@ module _ (d : DrawingValue) (keeps : KeepsDrawing d) (loop : IsLoop d) where
   pub loop_sewn : IsSewnByItsLine d
   loop_sewn = record {
     tour = search rules;
-    least = λ other tour. omega (arith, covered_cost d 0 other (All-head (λ line. Contains (lines_of other) line) 0 [] tour.covers));
+    least = λ other tour.
+        omega (
+          arith,
+          covered_cost d 0 other
+              (All-head (λ line. Contains (lines_of other) line) 0 [] tour.covers),
+        );
     cost = search rules;
     needles = needles_are;
     commands = rw (in_first_block, needles_are);

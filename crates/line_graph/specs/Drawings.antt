@@ -69,7 +69,8 @@ pub record KeepsDrawing (d : DrawingValue) : Type 0 where
   pub blocks_from : 1 ≤ length d.threads
   pub blocks_to : length d.threads ≤ MAX_BLOCKS
   pub threads : All (λ thread. thread < 256) d.threads
-  pub used : (block : ℕ) → block < length d.threads → Contains (map (λ line. line.block) d.lines) block
+  pub used : (block : ℕ) → block < length d.threads
+      → Contains (map (λ line. line.block) d.lines) block
   pub there : All (λ line. line.block < length d.threads) d.lines
   pub ordered : IsNonDecreasing (map (λ line. line.block) d.lines)
   pub lines : All (λ line. IsLine line.points) d.lines

@@ -1,3 +1,6 @@
+-- words of the crate below that public clauses cite
+pub use Rattle.step_splitter.specs.Chains
+pub use Rattle.step_splitter.specs.Steps
 pub mod Needles
 pub mod Drawings
 -- read this one first: what walks are, and which of them are least
@@ -6,5 +9,6 @@ pub mod Sewing
 pub mod Spelling
 pub mod Loops
 pub mod Laws
+-- of the reader's inside
 pub mod Numerals
 pub mod LoopShapes

@@ -21,11 +21,13 @@ cost_of_lines d lines = sum_by (cost_of_line d) lines
 
 -- where a pass starts: at the first point of its line, or at the last where it goes back
 abbrev pub start_of : DrawingValue → Pass → Option Point
-start_of d pass = if pass.back then last_of (points_of d pass.line) else first_of (points_of d pass.line)
+start_of d pass =
+    if pass.back then last_of (points_of d pass.line) else first_of (points_of d pass.line)
 
 -- where a pass ends: at the last point of its line, or at the first where it goes back
 abbrev pub end_of : DrawingValue → Pass → Option Point
-end_of d pass = if pass.back then first_of (points_of d pass.line) else last_of (points_of d pass.line)
+end_of d pass =
+    if pass.back then first_of (points_of d pass.line) else last_of (points_of d pass.line)
 
 -- the first of these passes starts at that point, and each later one where the one before ends
 abbrev pub FollowsFrom : DrawingValue → Option Point → List Pass → Type 0

@@ -1,4 +1,4 @@
-ghost use Rattle.std.specs.Prelude.{◌≡◌, ◌≤◌, ◌↔◌, ℕ, List, length, IsTrue, Some};
+ghost use Rattle.std.specs.Prelude.{◌≡◌, ◌≤◌, ◌↔◌, length, IsTrue, Some};
 ghost use Rattle.design_model.specs.Points.{origin};
 ghost use Rattle.line_graph.specs.declared.limits.TheConstants.{MAX_POINTS};
 ghost use Rattle.line_graph.specs.Drawings.{HasNoRepeat, IsLine, first_of, last_of};

@@ -124,7 +124,10 @@ axis_first from to n some =
 pub axis_last : (from to : ℤ) (n : ℕ) → 1 ≤ n → number_at from to n n ≡ to
 axis_last from to n some =
     by_lt_z to from
-    (λ down. rw (number_at-down from to n n some down, part_last (unsigned_abs (to -ℤ from)) (n - 1) n (omega arith)) (grind (arith, ints)))
+    (λ down. rw (
+      number_at-down from to n n some down,
+      part_last (unsigned_abs (to -ℤ from)) (n - 1) n (omega arith),
+    ) (grind (arith, ints)))
     (λ up. rw (number_at-up from to n n up, whole_last (unsigned_abs (to -ℤ from)) n some) (grind (arith, ints)))
 
 -- and stays within the limit of both

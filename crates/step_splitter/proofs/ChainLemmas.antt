@@ -86,8 +86,10 @@ leads p q step differ from to low =
     record {
       count = length-map-range_with_len f 1 n;
       some = omega (arith, length-map-range_with_len f 1 n);
-      close = subst Close first (close_along f step 0 n (λ i h. each_close p q step n some (div_ceil_covers size step low) i));
-      moving = subst Moving first (moving_along f 0 n (λ i h. each_moves p q step n some (div_ceil_few size step low) i));
+      close = subst Close first
+          (close_along f step 0 n (λ i h. each_close p q step n some (div_ceil_covers size step low) i));
+      moving = subst Moving first
+          (moving_along f 0 n (λ i h. each_moves p q step n some (div_ceil_few size step low) i));
       in_range = all_along IsNeedlePoint f n (each_within p q step n some from to);
       last = subst Last first (last_along f 0 n ∙ (ap f (omega arith) ∙ last_point p q step n some));
     }

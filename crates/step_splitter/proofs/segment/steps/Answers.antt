@@ -13,4 +13,8 @@ returns-clause-some c =
 pub returns-clause-few : goal.returns-clause-few
 returns-clause-few c =
     let value : c.div_ceil.result ≡ steps_of c.args.p c.args.q c.args.step = search rules in
-    omega (arith, div_ceil_few (size_of (move_between c.args.p c.args.q)) c.args.step c.requires.low, size_few c.args.p c.args.q c.requires.from c.requires.to)
+    omega (
+      arith,
+      div_ceil_few (size_of (move_between c.args.p c.args.q)) c.args.step c.requires.low,
+      size_few c.args.p c.args.q c.requires.from c.requires.to,
+    )
