@@ -136,6 +136,7 @@ impl Design {
         Ok(())
     }
 
+    /// The commands in order.
     pub fn commands(&self) -> &[Command]
         ensures value { result.now ≡ self.now.commands }
         ensures limits { KeepsLimits self.now }

@@ -18,7 +18,8 @@ pub fn find(formats: &[Box<dyn Format>], name: &str) -> Option<usize>
 }
 
 fn find_ending(formats: &[Box<dyn Format>], ending: &[u8]) -> Option<usize>
-    ensures value { result ≡ found_from 0 (str_to_ascii_lowercase ending.now) (map (λ f. meaning f) formats.now) }
+    ensures value { result
+        ≡ found_from 0 (str_to_ascii_lowercase ending.now) (map (λ f. meaning f) formats.now) }
     ensures there { IfSome result (λ place. place < length formats.now) }
 {
     for (index, format) in formats.iter().enumerate() {

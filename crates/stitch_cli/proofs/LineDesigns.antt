@@ -1,10 +1,9 @@
 -- The design of one closed line, as a design that sews its drawing and that every format can write.
-use Rattle.std.proofs.Common.{◌≡◌, ◌≢◌, ℕ, zero, suc, ◌+◌, ◌-◌, ◌/◌, ◌<◌, ◌≤◌, ℤ, pos, Bool, true, false, ◌&&◌, cond, List, [], ◌∷◌, ◌++◌, length, map, replicate, Some, All, IsTrue, Result, Ok, Err, IsOkAnd, nat_le, get_or, refl, sym, ap, subst, ◌∙◌, arith, rules}
-use Rattle.std.specs.Prelude.{slice_get, slice_index, unsigned_abs}
+use Rattle.std.proofs.Common.{◌≡◌, ◌≢◌, ℕ, ◌+◌, ◌-◌, ◌<◌, ◌≤◌, Bool, true, false, ◌&&◌, List, [], ◌∷◌, ◌++◌, length, map, Some, IsTrue, Result, Ok, Err, IsOkAnd, nat_le, refl, sym, ap, subst, ◌∙◌, arith}
+use Rattle.std.specs.Prelude.{slice_index, unsigned_abs}
 use Rattle.std.proofs.lemmas.Bool.Decides.{nat_tests}
-use Rattle.std.proofs.lemmas.List.Elements.{All-cons, All-head, All-nil}
 use Rattle.std.proofs.Math.Nat.{div-eq_of_lt}
-use Rattle.design_model.specs.declared.command.Command.TheVariants.{Stitch, Trim, Stop}
+use Rattle.design_model.specs.declared.command.Command.TheVariants.{Stitch, Trim}
 use Rattle.design_model.specs.declared.command.Command.{Command}
 use Rattle.design_model.specs.declared.point.Point.{Point}
 use Rattle.design_model.specs.Acts.{acts_from, acts_of}
@@ -13,12 +12,12 @@ use Rattle.design_model.specs.Points.{is_within, move_between, origin}
 use Rattle.format_traits.specs.declared.fault.ReadFault.{ReadFault}
 use Rattle.format_traits.specs.declared.loaded.Loaded.{Loaded}
 use Rattle.format_traits.specs.Laws.{IsAgain}
-use Rattle.format_traits.specs.PlainDesigns.{IsPlainLine, is_line, is_line_from}
+use Rattle.format_traits.specs.PlainDesigns.{IsPlainLine, is_line_from}
 use Rattle.format_traits.specs.Placing.{hops}
-use Rattle.format_traits.specs.Rooms.{loose_room, room_from, room_of}
+use Rattle.format_traits.specs.Rooms.{loose_room, room_from}
 use Rattle.line_graph.specs.declared.pass.Pass.{Pass}
-use Rattle.line_graph.specs.Drawings.{DrawingValue, KeepsDrawing, LineValue, block_in, first_of, points_of}
-use Rattle.line_graph.specs.Laws.{AreClose, IsSewnByItsLine, TheSewnDesignSews, along_first}
+use Rattle.line_graph.specs.Drawings.{DrawingValue, first_of, points_of}
+use Rattle.line_graph.specs.Laws.{AreClose, IsSewnByItsLine, along_first}
 use Rattle.line_graph.specs.Loops.{IsLoop}
 use Rattle.line_graph.specs.Needles.{needle_points}
 use Rattle.line_graph.specs.Sewing.{Sews, sewn_design}

@@ -2,12 +2,11 @@
 use Rattle.std.proofs.Common.{◌≡◌, ℕ, List, refl, subst}
 use Rattle.line_graph.specs.Laws.{along_first}
 use Rattle.stitch_cli.specs.declared.making.Made.{Made}
-use Rattle.stitch_cli.specs.declared.stop.Refusal.{Refusal}
 use Rattle.stitch_cli.specs.declared.stop.Stop.{Stop}
 use Rattle.stitch_cli.specs.declared.stop.Stop.TheVariants as stop
 use Rattle.stitch_cli.specs.Requests.{RouteOrder}
-use Rattle.stitch_cli.specs.Routes.{Delivers, LacksReport, RouteIsDone, RouteStops, certificate_of, report_of}
-use Rattle.stitch_cli.specs.Sights.{Broke, SinkSight, StoreSight, fed}
+use Rattle.stitch_cli.specs.Routes.{Delivers, RouteStops, certificate_of}
+use Rattle.stitch_cli.specs.Sights.{SinkSight, StoreSight}
 use Rattle.stitch_cli.specs.Steps.{BothStop, IsPrepared, WritesBoth}
 
 -- a write that failed stops the route

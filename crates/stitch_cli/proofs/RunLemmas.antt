@@ -1,5 +1,5 @@
 -- What the end of a run means.
-use Rattle.std.proofs.Common.{◌≡◌, ◌≢◌, ℕ, ◌<◌, ◌≤◌, ◌⊎◌, inl, inr, List, Option, Some, None, IsSome, length, ap, refl, subst, arith}
+use Rattle.std.proofs.Common.{◌≡◌, ℕ, ◌≤◌, ◌⊎◌, inl, inr, List, Option, Some, None, IsSome, length, ap, refl, subst, arith}
 use Rattle.line_graph.specs.Drawings.{DrawingValue}
 use Rattle.line_graph.specs.Laws.{PlainTextsShareSteps}
 use Rattle.line_graph.specs.Spelling.{plain_spelling}
@@ -15,9 +15,8 @@ use Rattle.stitch_cli.specs.declared.stop.Stop.{Stop}
 use Rattle.stitch_cli.specs.declared.stop.Stop.TheVariants as stop
 use Rattle.stitch_cli.specs.Endings.{Ends, RouteEnds, Tells}
 use Rattle.stitch_cli.specs.Requests.{Order, RouteOrder, routing}
-use Rattle.stitch_cli.specs.Routes.{Accepts, Refuses, RouteStops, Spells}
-use Rattle.stitch_cli.specs.Runs.{AsksFor, FailedAt, IsDecided, IsFailedRoute, IsFault, IsQuietRun, Sights, status_of}
-use Rattle.stitch_cli.specs.Sights.{Broke, SinkSight, fed}
+use Rattle.stitch_cli.specs.Routes.{Accepts, Refuses, RouteStops}
+use Rattle.stitch_cli.specs.Runs.{AsksFor, FailedAt, IsDecided, IsFault, IsQuietRun, Sights, status_of}
 use Rattle.stitch_cli.specs.Texts.{route_line}
 
 -- a step that stops a route with `Fault` failed

@@ -1,5 +1,5 @@
 -- What the words after the program's name ask for. A name is the bytes of a word.
-use Rattle.std.specs.Prelude.{◌≢◌, ℕ, Bool, ◌&&◌, not, nat_le, List, [], ◌∷◌, length, Option, Some, None, bytes_eq, codes, slice_get, if◌then◌else◌}
+use Rattle.std.specs.Prelude.{ℕ, Bool, ◌&&◌, not, nat_le, List, [], ◌∷◌, length, Option, Some, None, bytes_eq, codes, slice_get, if◌then◌else◌}
 use Rattle.std.specs.Option.{option_and_then}
 use Rattle.format_traits.specs.Meanings.{Meaning}
 use Rattle.format_traits.specs.Endings.{found_in}

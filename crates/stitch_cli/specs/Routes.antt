@@ -1,5 +1,5 @@
 -- What the command `route` comes to, for drawings of one closed line that begins at the origin.
-use Rattle.std.specs.Prelude.{◌≡◌, ◌≢◌, ℕ, ◌+◌, ◌<◌, ◌≤◌, true, false, List, [], ◌∷◌, length, Option, Some, None, Result, Ok, IsOkAnd}
+use Rattle.std.specs.Prelude.{◌≡◌, ◌≢◌, ℕ, ◌+◌, ◌<◌, ◌≤◌, true, false, List, [], ◌∷◌, length, Option, Some, None, Ok, IsOkAnd}
 use Rattle.design_model.specs.Acts.{acts_of}
 use Rattle.format_traits.specs.Laws.{MovesWithin}
 use Rattle.format_traits.specs.Meanings.{Meaning}
@@ -18,10 +18,9 @@ use Rattle.stitch_cli.specs.declared.stop.Refusal.{Refusal}
 use Rattle.stitch_cli.specs.declared.stop.Refusal.TheVariants as refusal
 use Rattle.stitch_cli.specs.declared.stop.Stop.{Stop}
 use Rattle.stitch_cli.specs.declared.stop.Stop.TheVariants as stop
-use Rattle.stitch_cli.specs.Certificates.{PieceCert, certificate_text}
+use Rattle.stitch_cli.specs.Certificates.{certificate_text}
 use Rattle.stitch_cli.specs.Requests.{RouteOrder}
 use Rattle.stitch_cli.specs.Sights.{Broke, SinkSight, StoreSight, fed}
-use Rattle.stitch_cli.specs.declared.reports.PieceReport.{PieceReport}
 use Rattle.stitch_cli.specs.Texts.{route_report}
 
 -- the named file, where it is told, is the plain spelling of this drawing of one closed line

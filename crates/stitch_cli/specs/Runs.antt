@@ -9,7 +9,7 @@ use Rattle.stitch_cli.specs.declared.usage.TheConstants.{USAGE}
 use Rattle.line_graph.specs.Drawings.{DrawingValue}
 use Rattle.stitch_cli.specs.Certificates.{line_end}
 use Rattle.stitch_cli.specs.Requests.{Order, RouteOrder, routing}
-use Rattle.stitch_cli.specs.Routes.{Accepts, ChangesTwo, LacksCertificate, LacksDesign, LacksReport, Refuses, RouteIsDone, RouteStops}
+use Rattle.stitch_cli.specs.Routes.{Accepts, ChangesTwo, LacksCertificate, LacksDesign, LacksReport, Refuses, RouteIsDone}
 use Rattle.stitch_cli.specs.Sights.{SinkSight, StoreSight, fed, sink_sight, store_sight}
 use Rattle.outside_io.specs.Blames.{Blame, read_of}
 use Rattle.outside_io.specs.Causes.{Faults}

@@ -1,5 +1,5 @@
 -- What the inner steps of a route answer. No public clause cites this file.
-use Rattle.std.specs.Prelude.{◌≡◌, ◌≢◌, ℕ, ◌<◌, ◌≤◌, List, [], ◌∷◌, ◌++◌, map, Option, Result, Ok, Err}
+use Rattle.std.specs.Prelude.{◌≡◌, ℕ, ◌<◌, ◌≤◌, List, [], ◌∷◌, ◌++◌, map, Result, Ok, Err}
 use Rattle.design_model.specs.declared.command.Command.TheVariants.{Stitch, Trim}
 use Rattle.design_model.specs.declared.point.Point.{Point}
 use Rattle.design_model.specs.Designs.{DesignValue}
@@ -16,8 +16,8 @@ use Rattle.stitch_cli.specs.declared.stop.Refusal.TheVariants as refusal
 use Rattle.stitch_cli.specs.declared.stop.Stop.{Stop}
 use Rattle.stitch_cli.specs.declared.stop.Stop.TheVariants as stop
 use Rattle.stitch_cli.specs.Requests.{RouteOrder}
-use Rattle.stitch_cli.specs.Routes.{Accepts, ChangesTwo, IsBestWalk, RouteStops, SewsIn, Spells, SpellsNone, report_of}
-use Rattle.stitch_cli.specs.Sights.{Broke, SinkSight, StoreSight, fed}
+use Rattle.stitch_cli.specs.Routes.{Accepts, ChangesTwo, IsBestWalk, SewsIn, Spells, SpellsNone, report_of}
+use Rattle.stitch_cli.specs.Sights.{StoreSight}
 
 -- the design of one line: its thread, a stitch at each point, and a trim
 abbrev pub line_design : ℕ → List Point → DesignValue

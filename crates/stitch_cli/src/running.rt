@@ -73,8 +73,7 @@ pub fn run<S: Store, O: Sink, E: Sink>(
         (sights (S.files store.old) (S.faults store.old) (S.blame store.old)
         (O.taken out.old) (O.faults out.old) (E.taken err.old) (E.faults err.old))
         (sights (S.files store.new) (S.faults store.new) (S.blame store.new)
-        (O.taken out.new) (O.faults out.new) (E.taken err.new) (E.faults err.new))
-        → IsDecided
+        (O.taken out.new) (O.faults out.new) (E.taken err.new) (E.faults err.new)) → IsDecided
         (order_of (map (λ format. meaning format) formats.now) (map (λ word. string_bytes word) words.now))
         (sights (S.files store.old) (S.faults store.old) (S.blame store.old)
         (O.taken out.old) (O.faults out.old) (E.taken err.old) (E.faults err.old)) result }
