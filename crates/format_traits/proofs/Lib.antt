@@ -1,3 +1,4 @@
 mod EndingFacts
+pub mod LabelLemmas
 pub mod EndingLemmas
 mod PlacingFacts

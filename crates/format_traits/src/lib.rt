@@ -13,10 +13,10 @@ mod standing;
 #[cfg(test)]
 mod tests;
 
-pub use boxed::{encode_at, encode_by, ext_at, ext_of, limit_at, limit_of};
+pub use boxed::{decode_at, decode_by, encode_at, encode_by, ext_at, ext_of, limit_at, limit_of};
 pub use fault::{ReadFault, WriteFault};
 pub use format_object::{Format, GREATEST_LIMIT, LEAST_LIMIT};
-pub use label_fields::{put_label, put_spaces};
+pub use label_fields::{put_label, put_spaces, read_label};
 pub use loaded::Loaded;
 pub use lookup::find;
 pub use placing::{GREATEST_MOVE, hops, move_between, size_of};
