@@ -4,6 +4,7 @@ pub mod Refusals
 pub mod PlainDesigns
 pub mod LabelFields
 pub mod Readings
+pub mod Keeping
 -- read this one first: what a format means
 pub mod Meanings
 pub mod Laws

@@ -1,8 +1,8 @@
-ghost use Rattle.std.specs.Prelude.{◌≡◌, ◌<◌, ◌≤◌, ◌-ℤ◌, IsTrue, unsigned_abs};
-ghost use Rattle.design_model.specs.declared.point.TheConstants.{NEEDLE_LIMIT};
+ghost use Rattle.std.specs.Prelude.{◌≡◌, ◌<◌, ◌≤◌, ◌+ℤ◌, ◌-ℤ◌, IsTrue, unsigned_abs};
+ghost use Rattle.design_model.specs.declared.point.TheConstants.{JUMP_LIMIT, NEEDLE_LIMIT};
 ghost use Rattle.design_model.specs.Points.{is_within, move_between as move_of, size_of as size};
 ghost use Rattle.format_traits.specs.declared.format_object.TheConstants.{GREATEST_LIMIT};
-ghost use Rattle.format_traits.specs.Placing.{hops as hops_of};
+ghost use Rattle.format_traits.specs.Placing.{hops as hops_of, moved as moved_to};
 
 use crate::format_object::GREATEST_LIMIT;
 use design_model::Point;
@@ -30,6 +30,26 @@ fn difference(from: i32, to: i32) -> i32
     ensures size { unsigned_abs result ≤ GREATEST_MOVE }
 {
     to - from
+}
+
+/// The place after a move.
+pub fn moved(place: Point, step: Point) -> Point
+    requires place { IsTrue (is_within JUMP_LIMIT place) }
+    requires step { size step ≤ GREATEST_MOVE }
+    ensures { result ≡ moved_to place step }
+{
+    Point {
+        x: sum(place.x, step.x),
+        y: sum(place.y, step.y),
+    }
+}
+
+fn sum(place: i32, step: i32) -> i32
+    requires place { unsigned_abs place ≤ JUMP_LIMIT }
+    requires step { unsigned_abs step ≤ GREATEST_MOVE }
+    ensures { result ≡ place +ℤ step }
+{
+    place + step
 }
 
 /// The size of a move: that of its larger axis.
