@@ -29,15 +29,7 @@ use Rattle.dst_codec.specs.Lines.{line_bytes, are_near}
 use Rattle.dst_codec.specs.Reading.{reads_from, read_record, commands_of, run_after, unless_end, record_moves}
 use Rattle.dst_codec.specs.Spelling.{stitch_record, trim_records, end_record}
 use Rattle.dst_codec.specs.Writing.{reach, records_from}
-use Rattle.dst_codec.proofs.SpellingLemmas.{same_point, byte_of, third_of, move_of-record, kind_of-stitch, within_parts}
-
--- points whose coordinates are equal are equal
-same_points : (p q : Point) → IsTrue (is_same_point p q) → p ≡ q
-same_points p q same =
-    let both = and_parts (int_eq p.x q.x) (int_eq p.y q.y) same in
-    let x : p.x ≡ q.x = (Decides-int_eq p.x q.x).0 both.0 in
-    let y : p.y ≡ q.y = (Decides-int_eq p.y q.y).0 both.1 in
-    same_point x y
+use Rattle.dst_codec.proofs.SpellingLemmas.{same_point, same_points, byte_of, third_of, move_of-record, kind_of-stitch, within_parts}
 
 -- the commands after the first stitch of a line
 pub line_start : (commands : List Command) → IsTrue (is_line LIMIT commands)

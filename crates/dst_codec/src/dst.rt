@@ -5,10 +5,11 @@ ghost use Rattle.format_traits.specs.PlainDesigns.{IsPlainLine};
 ghost use Rattle.dst_codec.specs.Format.{dst};
 
 use crate::header::new_header;
+use crate::reading::read_file;
 use crate::records::put_line;
 use crate::survey::header_numbers;
 use design_model::{Bytes, Design};
-use format_traits::{Format, WriteFault};
+use format_traits::{Format, Loaded, ReadFault, WriteFault};
 use std::alloc::Global;
 
 /// The greatest move of a record on each axis, in tenths of a millimetre.
@@ -38,6 +39,10 @@ impl Format for Dst {
 
     fn limit(&self) -> u32 {
         LIMIT
+    }
+
+    fn decode(&self, alloc: Global, bytes: &[u8]) -> Result<Loaded, ReadFault> {
+        read_file(alloc, bytes)
     }
 
     fn encode(&self, alloc: Global, design: &Design) -> Result<Bytes, WriteFault> {

@@ -2,8 +2,10 @@
 //! upwards, a design's downwards.
 #![tactic(auto)]
 
+mod bits;
 mod dst;
 mod header;
+mod reading;
 mod record_kind;
 mod records;
 mod spelling;
@@ -11,5 +13,6 @@ mod survey;
 #[cfg(test)]
 mod tests;
 
+pub use bits::decode_move;
 pub use dst::{Dst, LIMIT, MAX_FLOAT_HOPS, MAX_STOPS};
 pub use spelling::encode_move;
