@@ -1,4 +1,5 @@
 pub mod Placing
+pub mod Walks
 pub mod Rooms
 pub mod Refusals
 pub mod PlainDesigns
