@@ -1,9 +1,8 @@
 pub mod FileLemmas
 pub mod HeaderLemmas
-pub mod LineLaws
-pub mod LineLemmas
 mod ReadingFacts
 pub mod ReadingLemmas
+pub mod RecordLemmas
 mod SpellingFacts
 pub mod SpellingLemmas
 pub mod SurveyLemmas

@@ -12,6 +12,7 @@ mod spelling;
 mod survey;
 #[cfg(test)]
 mod tests;
+mod writing;
 
 pub use bits::decode_move;
 pub use dst::{Dst, LIMIT, MAX_FLOAT_HOPS, MAX_STOPS};
