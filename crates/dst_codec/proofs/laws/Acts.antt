@@ -43,11 +43,11 @@ abbrev pub are_told : Bool → List NumberedAct → Bool
 are_told loose [] = true
 are_told loose (a ∷ rest) = is_told loose a.act && are_told (is_loose_after a.act) rest
 
-not_refused : (b : Bool) (f : WriteFault) → refused_where b f ≡ None → b ≡ false
+pub not_refused : (b : Bool) (f : WriteFault) → refused_where b f ≡ None → b ≡ false
 not_refused true f none = cc
 not_refused false f none = refl
 
-or_else_none : (one other : Option WriteFault) → or_else one other ≡ None → (one ≡ None) × (other ≡ None)
+pub or_else_none : (one other : Option WriteFault) → or_else one other ≡ None → (one ≡ None) × (other ≡ None)
 or_else_none None other none = (refl, none)
 or_else_none (Some f) other none = absurd (let no : ⊥ = cc in no)
 
