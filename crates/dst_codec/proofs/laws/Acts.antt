@@ -1,9 +1,9 @@
 -- How reading goes on over the records of one act, and over those of all acts.
-use Rattle.std.proofs.Common.{◌≡◌, ℕ, zero, suc, ◌+◌, ◌*◌, ◌<◌, ◌≤◌, ◌≢◌, max, ℤ, pos, negsuc, ◌+ℤ◌, unsigned_abs, Bool, true, false, not, ◌&&◌, IsTrue, List, [], ◌∷◌, ◌++◌, map, take, Option, Some, None, ◌⊎◌, inl, inr, nat_le, nat_lt, ◌==◌, if◌then◌else◌, refl, ap, sym, ◌∙◌, subst, arith}
+use Rattle.std.proofs.Common.{◌≡◌, ℕ, zero, suc, ◌+◌, ◌*◌, ◌<◌, ◌≤◌, ◌≢◌, max, ℤ, pos, negsuc, ◌+ℤ◌, unsigned_abs, Bool, true, false, not, ◌&&◌, IsTrue, List, [], ◌∷◌, ◌++◌, Option, Some, None, ◌⊎◌, inl, inr, nat_le, nat_lt, ◌==◌, if◌then◌else◌, refl, ap, sym, ◌∙◌, subst, arith}
 use Rattle.std.proofs.lemmas.Bool.{and_parts, leb-true, ltb-false, eqb-true, eqb-false}
 use Rattle.std.proofs.lemmas.Int.{ints}
 use Rattle.std.proofs.lemmas.List.{append_assoc}
-use Rattle.std.specs.List.{concat, list_all}
+use Rattle.std.specs.List.{concat}
 use Rattle.design_model.specs.declared.act.Act.{Act}
 use Rattle.design_model.specs.declared.act.Act.TheVariants as act
 use Rattle.design_model.specs.declared.act.NumberedAct.{NumberedAct}
@@ -15,7 +15,7 @@ use Rattle.design_model.specs.Points.{is_within, origin, move_between, size_of}
 use Rattle.format_traits.specs.declared.fault.WriteFault.{WriteFault}
 use Rattle.format_traits.specs.declared.fault.WriteFault.TheVariants as fault
 use Rattle.format_traits.specs.declared.standing.Standing.{Standing}
-use Rattle.format_traits.specs.Placing.{moved, hops, part_of, parts, place_after, is_loose_after, is_act_in_range}
+use Rattle.format_traits.specs.Placing.{moved, hops, part_of, place_after, is_loose_after, is_act_in_range}
 use Rattle.format_traits.specs.Refusals.{standing_after, refused_where, needle_refusal, own_refusal, or_else, refusal_at, refusal_from}
 use Rattle.format_traits.specs.Rooms.{loose_room, needle_room, act_room}
 use Rattle.dst_codec.specs.declared.dst.TheConstants.{LIMIT}
@@ -23,7 +23,7 @@ use Rattle.dst_codec.specs.Spelling.{stitch_record, jump_record, trim_records, e
 use Rattle.dst_codec.specs.Writing.{reach, hop_records, third_stitched, float_records, needle_records, records_of_act, records_from}
 use Rattle.dst_codec.proofs.SpellingLemmas.{within_parts, same_point}
 use Rattle.dst_codec.proofs.SurveyLemmas.{are_in_range}
-use Rattle.dst_codec.proofs.laws.Parts.{within_from, within_more, Splits, splits_from, hops_enough, no_hops, part_within, part_all, part_none, part_between, moved-on, moved-none, moved-between}
+use Rattle.dst_codec.proofs.laws.Parts.{within_from, within_more, splits_from, hops_enough, no_hops, part_within, part_all, part_none, part_between, moved-on, moved-none, moved-between}
 use Rattle.dst_codec.proofs.laws.Runs.{trims_in, trims_over, trims_none, trims_few, Lies, goes_hops}
 use Rattle.dst_codec.proofs.laws.Steps.{GoesOn, goes_end, goes_stitch, goes_jump, goes_trim, goes_stop}
 
@@ -67,17 +67,17 @@ concat_both (x ∷ xs) ys rest = append_assoc x (concat (xs ++ ys)) rest
 loose_enough : (jumps run : ℕ) → Between true run false → jumps + trims_in run jumps + 1 ≤ loose_room jumps
 loose_enough jumps run (inl none) = few (nat_le jumps 2) refl
   where
-  few : (b : Bool) → nat_le jumps 2 ≡ b → jumps + trims_in run jumps + 1 ≤ (if b then jumps + 1 else jumps + 2)
-  few true is =
-      let small = leb-true jumps 2 is in
-      let no = trims_none run jumps (omega (arith, none, small)) in
-      omega (arith, no)
-  few false is = let one = trims_few run jumps in omega (arith, one)
+    few : (b : Bool) → nat_le jumps 2 ≡ b → jumps + trims_in run jumps + 1 ≤ (if b then jumps + 1 else jumps + 2)
+    few true is =
+        let small = leb-true jumps 2 is in
+        let no = trims_none run jumps (omega (arith, none, small)) in
+        omega (arith, no)
+    few false is = let one = trims_few run jumps in omega (arith, one)
 loose_enough jumps run (inr long) = any (nat_le jumps 2)
   where
-  any : (b : Bool) → jumps + trims_in run jumps + 1 ≤ (if b then jumps + 1 else jumps + 2)
-  any true = let no = trims_over run jumps long in omega (arith, no)
-  any false = let no = trims_over run jumps long in omega (arith, no)
+    any : (b : Bool) → jumps + trims_in run jumps + 1 ≤ (if b then jumps + 1 else jumps + 2)
+    any true = let no = trims_over run jumps long in omega (arith, no)
+    any false = let no = trims_over run jumps long in omega (arith, no)
 
 -- a move from a needle to a needle lies in range
 lies_from : (place p : Point) (n : ℕ) → 0 < n → size_of (move_between place p) ≤ n * LIMIT
@@ -103,9 +103,9 @@ goes_loose zero at count run place p room rest jumped acts is between here there
     (goes_stitch at count run place origin p rest true jumped acts refl same there (omega (arith, few, fits))
     (on (at + 3) (count + 1) (omega (arith, few))))
   where
-  no_float : (jumped : Bool) → (jumped && not true) ≡ false
-  no_float true = refl
-  no_float false = refl
+    no_float : (jumped : Bool) → (jumped && not true) ≡ false
+    no_float true = refl
+    no_float false = refl
 goes_loose (suc h) at count run place p room rest jumped acts is between here there few fits on =
     let enough = loose_enough (suc h) run between in
     let small = hops_enough (move_between place p) in
@@ -186,20 +186,21 @@ goes_needle false true place p number at count run room jumped rest acts between
     (sym between.1) (by_number (max 1 h == 3) (max 1 h) refl (omega arith) (omega (arith, short))
     (lies_from place p (max 1 h) (omega arith) (long_enough (size_of m) h small) here there) fits on))
   where
-  long_enough : (size h : ℕ) → size ≤ h * LIMIT → size ≤ max 1 h * LIMIT
-  long_enough size h small = omega (arith, small)
-  by_number : (b : Bool) (n : ℕ) → (n == 3) ≡ b → 0 < n → n ≤ 3 → Lies place (move_between place p) n
-      → room + (n + 1) ≤ MAX_COMMANDS
-      → ((at' count' : ℕ) → count' ≤ room + (n + 1) → GoesOn at' count' 0 p rest false false acts)
-      → GoesOn at count 0 place (concat (if b then third_stitched (move_between place p) else hop_records n (move_between place p)) ++ rest)
-      false false (act.Needle p true ∷ acts)
-  by_number true n is some short lies fits on =
-      let three : n ≡ 3 = eqb-true n 3 is in
-      goes_third_stitched at count place p room rest acts (subst (λ n. Lies place (move_between place p) n) three lies)
-      few (omega (arith, fits, three)) (λ at' count' counted. on at' count' (omega (arith, counted, three)))
-  by_number false n is some short lies fits on =
-      let other : n ≢ 3 = eqb-false n 3 is in
-      goes_float n at count place p room rest acts lies (omega (arith, other, short)) few fits on
+    long_enough : (size h : ℕ) → size ≤ h * LIMIT → size ≤ max 1 h * LIMIT
+    long_enough size h small = omega (arith, small)
+
+    by_number : (b : Bool) (n : ℕ) → (n == 3) ≡ b → 0 < n → n ≤ 3 → Lies place (move_between place p) n
+        → room + (n + 1) ≤ MAX_COMMANDS
+        → ((at' count' : ℕ) → count' ≤ room + (n + 1) → GoesOn at' count' 0 p rest false false acts)
+        → GoesOn at count 0 place (concat (if b then third_stitched (move_between place p) else hop_records n (move_between place p)) ++ rest)
+        false false (act.Needle p true ∷ acts)
+    by_number true n is some short lies fits on =
+        let three : n ≡ 3 = eqb-true n 3 is in
+        goes_third_stitched at count place p room rest acts (subst (λ n. Lies place (move_between place p) n) three lies)
+        few (omega (arith, fits, three)) (λ at' count' counted. on at' count' (omega (arith, counted, three)))
+    by_number false n is some short lies fits on =
+        let other : n ≢ 3 = eqb-false n 3 is in
+        goes_float n at count place p room rest acts lies (omega (arith, other, short)) few fits on
 goes_needle false false place p number at count run room jumped rest acts between told here there passed few fits on =
     let m = move_between place p in
     let short : size_of m ≤ LIMIT = ltb-false LIMIT (size_of m) (not_refused (nat_lt LIMIT (size_of m)) (fault.StitchTooLong number) passed) in
@@ -231,12 +232,14 @@ goes_trimmed at count place room rest jumped acts here few fits on =
     refl (omega (arith, few, fits))
     (on (at + 3 + 3 + 3) (count + 1 + 1 + 2) 3 true (inr (omega arith)) (omega (arith, few)))))
   where
-  near : (x z : ℤ) → unsigned_abs x ≤ NEEDLE_LIMIT → unsigned_abs z ≤ 2 → unsigned_abs (x +ℤ z) ≤ JUMP_LIMIT
-  near x z small less = omega (arith, ints)
-  far : (x : ℤ) → unsigned_abs x ≤ NEEDLE_LIMIT → unsigned_abs ((x +ℤ pos 2) +ℤ negsuc 3) ≤ JUMP_LIMIT
-  far x small = omega (arith, ints)
-  back_again : (x : ℤ) → ((x +ℤ pos 2) +ℤ negsuc 3) +ℤ pos 2 ≡ x
-  back_again x = omega (arith, ints)
+    near : (x z : ℤ) → unsigned_abs x ≤ NEEDLE_LIMIT → unsigned_abs z ≤ 2 → unsigned_abs (x +ℤ z) ≤ JUMP_LIMIT
+    near x z small less = omega (arith, ints)
+
+    far : (x : ℤ) → unsigned_abs x ≤ NEEDLE_LIMIT → unsigned_abs ((x +ℤ pos 2) +ℤ negsuc 3) ≤ JUMP_LIMIT
+    far x small = omega (arith, ints)
+
+    back_again : (x : ℤ) → ((x +ℤ pos 2) +ℤ negsuc 3) +ℤ pos 2 ≡ x
+    back_again x = omega (arith, ints)
 
 -- an act
 goes_act : (loose : Bool) (place : Point) (a : Act) (s : Standing) (number at count run : ℕ) (jumped : Bool)

@@ -1,17 +1,15 @@
 -- What is written reads again, with each move within the limit; and a plain design is written.
-use Rattle.std.proofs.Common.{◌≡◌, ℕ, ◌+◌, ◌^◌, ◌<◌, ◌≤◌, true, false, IsTrue, List, [], ◌++◌, length, Option, Some, None, Ok, Err, IfOk, IsOk, IsOkAnd, inl, refl, ap, sym, ◌∙◌, subst, arith}
+use Rattle.std.proofs.Common.{◌≡◌, ℕ, ◌+◌, true, false, IsTrue, List, [], ◌++◌, length, Option, Some, None, Result, Ok, Err, IfOk, IsOk, IsOkAnd, inl, refl, ap, sym, ◌∙◌, subst, arith}
 use Rattle.std.proofs.lemmas.List.{append_assoc}
 use Rattle.std.specs.List.{concat, list_all}
-use Rattle.design_model.specs.declared.design.TheConstants.{MAX_LABEL}
-use Rattle.design_model.specs.Acts.{acts_of, bare}
+use Rattle.design_model.specs.Acts.{acts_of}
 use Rattle.design_model.specs.Designs.{DesignValue, KeepsLimits}
 use Rattle.design_model.specs.Points.{origin, is_within}
 use Rattle.format_traits.specs.declared.fault.WriteFault.{WriteFault}
 use Rattle.format_traits.specs.declared.loaded.Loaded.{Loaded}
-use Rattle.format_traits.specs.Laws.{IsAgain, ReadsAgain, MovesWithin}
-use Rattle.format_traits.specs.PlainDesigns.{IsPlain}
+use Rattle.format_traits.specs.Laws.{Writes, IsAgain, ReadsAgain, MovesWithin, KeepsLaws}
 use Rattle.format_traits.specs.Readings.{loaded_with}
-use Rattle.format_traits.specs.Refusals.{beginning, first_refusal, stops_of, unless_refused}
+use Rattle.format_traits.specs.Refusals.{beginning, first_refusal, unless_refused}
 use Rattle.dst_codec.specs.declared.dst.TheConstants.{LIMIT}
 use Rattle.dst_codec.specs.declared.header.TheConstants.{HEADER_LENGTH}
 use Rattle.dst_codec.specs.Format.{dst}
@@ -19,7 +17,7 @@ use Rattle.dst_codec.specs.Header.{header, numbers_of}
 use Rattle.dst_codec.specs.Laws.{WrittenReadsAgain, WrittenMovesWithin, PlainIsWritten}
 use Rattle.dst_codec.specs.Reading.{reads, moves, label_of}
 use Rattle.dst_codec.specs.Spelling.{end_record}
-use Rattle.dst_codec.specs.Writing.{reach, records_of, file_of, writes}
+use Rattle.dst_codec.specs.Writing.{reach, records_of, file_of}
 use Rattle.dst_codec.proofs.FileLemmas.{reads-file, moves-file}
 use Rattle.dst_codec.proofs.HeaderLemmas.{length-header_of, numbers_fit}
 use Rattle.dst_codec.proofs.SurveyLemmas.{acts_in_range, records_small}
@@ -97,3 +95,16 @@ pub plain_is_written : PlainIsWritten
 plain_is_written d limits plain =
     let passed = plain_passes (acts_of d) beginning plain.needles (omega (arith, plain.stops)) (omega (arith, plain.room)) in
     subst (λ r. IsOk (unless_refused r (file_of d.label (acts_of d)))) (sym passed) refl
+
+pub keeps_laws : (d : DesignValue) → KeepsLimits d → KeepsLaws dst d
+keeps_laws d limits = record {
+  again = written_reads_again d limits;
+  within = written_moves_within d limits;
+  plain = plain_is_written d limits;
+}
+
+-- what holds of what is written, holds of what an encoding answered
+pub of_answer : (model answer : Result (List ℕ) WriteFault) (P : List ℕ → Type 0) → Writes model answer → IfOk model P
+    → IfOk answer P
+of_answer model (Ok bytes) P is holds = subst (λ result. IfOk result P) is holds
+of_answer model (Err f) P is holds = tt

@@ -1,5 +1,5 @@
 -- The parts of a move on one axis: how far each goes, and where each ends.
-use Rattle.std.proofs.Common.{◌≡◌, ℕ, zero, suc, ◌+◌, ◌-◌, ◌*◌, ◌/◌, ◌<◌, ◌≤◌, ℤ, pos, negsuc, neg_ℤ, ◌+ℤ◌, ◌-ℤ◌, ◌*ℤ◌, unsigned_abs, refl, ap, sym, ◌∙◌, subst, arith}
+use Rattle.std.proofs.Common.{◌≡◌, ℕ, zero, suc, ◌+◌, ◌-◌, ◌*◌, ◌/◌, ◌<◌, ◌≤◌, ℤ, pos, negsuc, neg_ℤ, ◌+ℤ◌, ◌-ℤ◌, ◌*ℤ◌, unsigned_abs, refl, ap, sym, ◌∙◌, arith}
 use Rattle.std.proofs.Math.Nat.{zero-div}
 use Rattle.std.proofs.lemmas.Int.{ints}
 use Rattle.std.proofs.lemmas.Nat.{div_below, le-div, mul-le}
@@ -58,16 +58,16 @@ ceiling_all a n some =
 floor_step : (a n count l : ℕ) → 0 < n → a ≤ n * l
     → (floor a n count ≤ floor a n (count + 1)) × (floor a n (count + 1) ≤ floor a n count + l)
 floor_step a n count l some near = (
-      quotient_rises (count * a) ((count + 1) * a) n some (omega arith),
-      quotient_step ((count + 1) * a) (count * a) n l some (omega (arith, near)),
-    )
+  quotient_rises (count * a) ((count + 1) * a) n some (omega arith),
+  quotient_step ((count + 1) * a) (count * a) n l some (omega (arith, near)),
+)
 
 ceiling_step : (a n count l : ℕ) → 0 < n → a ≤ n * l
     → (ceiling a n count ≤ ceiling a n (count + 1)) × (ceiling a n (count + 1) ≤ ceiling a n count + l)
 ceiling_step a n count l some near = (
-      quotient_rises (count * a + (n - 1)) ((count + 1) * a + (n - 1)) n some (omega arith),
-      quotient_step ((count + 1) * a + (n - 1)) (count * a + (n - 1)) n l some (omega (arith, near)),
-    )
+  quotient_rises (count * a + (n - 1)) ((count + 1) * a + (n - 1)) n some (omega arith),
+  quotient_step ((count + 1) * a + (n - 1)) (count * a + (n - 1)) n l some (omega (arith, near)),
+)
 
 -- a quotient of a number below 0 is that of its size, rounded up
 div_opposite : (v n : ℕ) → 0 < n → int_div_euclid (neg_ℤ (pos v)) (pos n) ≡ neg_ℤ (pos ((v + (n - 1)) / n))

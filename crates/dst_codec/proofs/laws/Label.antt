@@ -1,11 +1,10 @@
 -- The label of a design is read back from its file.
-use Rattle.std.proofs.Common.{◌≡◌, ◌≢◌, ℕ, zero, suc, ◌+◌, ◌-◌, ◌≤◌, Bool, true, false, ◌&&◌, List, [], ◌∷◌, ◌++◌, length, map, take, drop, replicate, codes, decimal, pos, neg_ℤ, All, Some, Ok, IsOkAnd, slice_get, nat_le, ◌==◌, if◌then◌else◌, refl, ap, sym, ◌∙◌, subst, arith}
-use Rattle.std.proofs.lemmas.Bool.{le-leb, eqb-true, ne_eqb}
+use Rattle.std.proofs.Common.{◌≡◌, ◌≢◌, ℕ, zero, suc, ◌+◌, ◌-◌, ◌≤◌, List, [], ◌∷◌, ◌++◌, length, map, take, replicate, codes, pos, neg_ℤ, All, Some, IsOkAnd, slice_get, refl, ap, sym, ◌∙◌, subst, arith}
+use Rattle.std.proofs.lemmas.Bool.{le-leb, ne_eqb}
 use Rattle.std.proofs.lemmas.List.{append-nil, append_assoc, take_at}
 use Rattle.std.proofs.lemmas.List.Elements.{All-head, All-tail}
 use Rattle.design_model.specs.declared.design.TheConstants.{MAX_LABEL}
 use Rattle.design_model.specs.Acts.{acts_of}
-use Rattle.design_model.specs.Designs.{DesignValue, KeepsLimits}
 use Rattle.design_model.specs.Labels.{IsLabel, IsPrintable}
 use Rattle.format_traits.specs.LabelFields.{label_field, shown, before_trimmed, trimmed, label_in}
 use Rattle.format_traits.specs.Refusals.{first_refusal}
@@ -14,9 +13,9 @@ use Rattle.dst_codec.specs.declared.header.TheConstants.{HEADER_LENGTH}
 use Rattle.dst_codec.specs.Header.{field, number_field, signed_field, fields_of, header_of, numbers_of}
 use Rattle.dst_codec.specs.Laws.{LabelReadsAgain}
 use Rattle.dst_codec.specs.Reading.{reads, label_of}
-use Rattle.dst_codec.specs.Writing.{reach, records_of, file_of}
+use Rattle.dst_codec.specs.Writing.{reach, records_of}
 use Rattle.dst_codec.proofs.HeaderLemmas.{length-filled_right}
-use Rattle.dst_codec.proofs.laws.Again.{body_of, head_of, file_parts, written, of_written}
+use Rattle.dst_codec.proofs.laws.Again.{body_of, file_parts, written, of_written}
 
 shown-printable : (byte : ℕ) → IsPrintable byte → shown byte ≡ byte
 shown-printable byte printable = rw (le-leb 32 byte printable.from_space, le-leb byte 126 printable.to_tilde) refl

@@ -1,5 +1,5 @@
 -- The parts of a move between two needles: each is within the limit, and each ends between the two.
-use Rattle.std.proofs.Common.{◌≡◌, ℕ, ◌+◌, ◌-◌, ◌*◌, ◌/◌, ◌<◌, ◌≤◌, ℤ, pos, ◌+ℤ◌, ◌-ℤ◌, unsigned_abs, nat_le, IsTrue, refl, arith, sym, subst}
+use Rattle.std.proofs.Common.{◌≡◌, ℕ, ◌+◌, ◌-◌, ◌*◌, ◌/◌, ◌<◌, ◌≤◌, ℤ, pos, ◌+ℤ◌, ◌-ℤ◌, unsigned_abs, nat_le, IsTrue, arith}
 use Rattle.std.proofs.lemmas.Bool.{and_from, le-leb}
 use Rattle.std.proofs.lemmas.Int.{ints}
 use Rattle.design_model.specs.declared.point.Point.{Point}
@@ -33,8 +33,8 @@ splits_from m n some small = record { some = some; x = omega (arith, small); y =
 pub hops_enough : (m : Point) → size_of m ≤ hops LIMIT m * LIMIT
 hops_enough m = enough (size_of m)
   where
-  enough : (size : ℕ) → size ≤ (size + (LIMIT - 1)) / LIMIT * LIMIT
-  enough size = omega arith
+    enough : (size : ℕ) → size ≤ (size + (LIMIT - 1)) / LIMIT * LIMIT
+    enough size = omega arith
 
 -- a move without hops leaves the place
 pub no_hops : (place p : Point) → hops LIMIT (move_between place p) ≡ 0 → place ≡ p
@@ -44,8 +44,8 @@ no_hops place p none =
     let y : unsigned_abs (p.y -ℤ place.y) ≤ 0 = omega (arith, small, none) in
     same_point (same place.x p.x x) (same place.y p.y y)
   where
-  same : (a b : ℤ) → unsigned_abs (b -ℤ a) ≤ 0 → a ≡ b
-  same a b small = omega (arith, ints)
+    same : (a b : ℤ) → unsigned_abs (b -ℤ a) ≤ 0 → a ≡ b
+    same a b small = omega (arith, ints)
 
 pub part_within : (m : Point) (n done : ℕ) → Splits m n
     → IsTrue (is_within LIMIT (move_between (part_of m n done) (part_of m n (done + 1))))
@@ -58,22 +58,22 @@ part_all m n some = same_point (axis_all m.x n some) (axis_all m.y n some)
 pub moved-none : (place : Point) → moved place origin ≡ place
 moved-none place = same_point (none place.x) (none place.y)
   where
-  none : (x : ℤ) → x +ℤ pos 0 ≡ x
-  none x = omega (arith, ints)
+    none : (x : ℤ) → x +ℤ pos 0 ≡ x
+    none x = omega (arith, ints)
 
 pub part_none : (place m : Point) (n : ℕ) → 0 < n → moved place (part_of m n 0) ≡ place
 part_none place m n some = same_point (none place.x (axis_part m.x n 0) (axis_none m.x n some))
     (none place.y (axis_part m.y n 0) (axis_none m.y n some))
   where
-  none : (x z : ℤ) → z ≡ pos 0 → x +ℤ z ≡ x
-  none x z is = omega (arith, ints)
+    none : (x z : ℤ) → z ≡ pos 0 → x +ℤ z ≡ x
+    none x z is = omega (arith, ints)
 
 -- a move on from a part
 pub moved-on : (place p q : Point) → moved (moved place p) (move_between p q) ≡ moved place q
 moved-on place p q = same_point (on place.x p.x q.x) (on place.y p.y q.y)
   where
-  on : (x a b : ℤ) → (x +ℤ a) +ℤ (b -ℤ a) ≡ x +ℤ b
-  on x a b = omega (arith, ints)
+    on : (x a b : ℤ) → (x +ℤ a) +ℤ (b -ℤ a) ≡ x +ℤ b
+    on x a b = omega (arith, ints)
 
 -- a part ends between the places before and after the whole
 pub part_between : (place m : Point) (n count limit : ℕ) → 0 < n → count ≤ n → IsTrue (is_within limit place)
@@ -89,5 +89,5 @@ part_between place m n count limit some less here there =
 pub moved-between : (place p : Point) → moved place (move_between place p) ≡ p
 moved-between place p = same_point (forth place.x p.x) (forth place.y p.y)
   where
-  forth : (x y : ℤ) → x +ℤ (y -ℤ x) ≡ y
-  forth x y = omega (arith, ints)
+    forth : (x y : ℤ) → x +ℤ (y -ℤ x) ≡ y
+    forth x y = omega (arith, ints)

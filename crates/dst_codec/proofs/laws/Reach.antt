@@ -1,9 +1,8 @@
 -- No stitch and no float that was read is too long to be written: a stitch is one record's move,
 -- and between a needle and a float's needle at most two jumps are read, since a third is a trim.
-use Rattle.std.proofs.Common.{◌≡◌, ◌≢◌, ℕ, ◌+◌, ◌-◌, ◌*◌, ◌/◌, ◌%◌, ◌<◌, ◌≤◌, ℤ, pos, ◌+ℤ◌, ◌-ℤ◌, unsigned_abs, Bool, true, false, not, ◌&&◌, List, [], ◌∷◌, ◌++◌, length, drop, Option, Some, None, Result, Ok, Err, IfOk, nat_lt, nat_le, ◌==◌, if◌then◌else◌, refl, ap, sym, ◌∙◌, subst, arith}
-use Rattle.std.proofs.lemmas.Bool.{eqb-true, eqb-false, le-ltb}
+use Rattle.std.proofs.Common.{◌≡◌, ◌≢◌, ℕ, ◌+◌, ◌-◌, ◌*◌, ◌/◌, ◌%◌, ◌≤◌, ℤ, pos, ◌+ℤ◌, ◌-ℤ◌, unsigned_abs, Bool, true, false, not, ◌&&◌, List, [], ◌∷◌, length, drop, Option, Some, None, Result, Ok, Err, IfOk, nat_lt, nat_le, ◌==◌, if◌then◌else◌, refl, sym, subst, arith}
+use Rattle.std.proofs.lemmas.Bool.{eqb-false, le-ltb}
 use Rattle.std.proofs.lemmas.Int.{ints}
-use Rattle.design_model.specs.declared.act.Act.{Act}
 use Rattle.design_model.specs.declared.act.Act.TheVariants as act
 use Rattle.design_model.specs.declared.act.NumberedAct.{NumberedAct}
 use Rattle.design_model.specs.declared.command.Command.{Command}
@@ -22,13 +21,13 @@ use Rattle.format_traits.specs.Placing.{moved, hops}
 use Rattle.format_traits.specs.PlainDesigns.{is_same_point}
 use Rattle.format_traits.specs.Readings.{Course, after_commands, tried, tries, loaded_with}
 use Rattle.format_traits.specs.Refusals.{beginning, standing_after, passes, refused_where, needle_refusal, own_refusal, or_else, refusal_at, refusal_from, first_refusal, unless_refused}
-use Rattle.dst_codec.specs.declared.dst.TheConstants.{LIMIT, MAX_STOPS}
+use Rattle.dst_codec.specs.declared.dst.TheConstants.{LIMIT}
 use Rattle.dst_codec.specs.declared.header.TheConstants.{HEADER_LENGTH}
 use Rattle.dst_codec.specs.declared.record_kind.RecordKind.{RecordKind}
 use Rattle.dst_codec.specs.declared.record_kind.RecordKind.TheVariants as kind
 use Rattle.dst_codec.specs.Bits.{move_of, kind_of, rightwards, leftwards, upwards, downwards}
 use Rattle.dst_codec.specs.Laws.{ReadIsWithinReach}
-use Rattle.dst_codec.specs.Reading.{jumps_of, stops_with, commands_of, run_after, read_record, reads_from, label_of, reads}
+use Rattle.dst_codec.specs.Reading.{commands_of, run_after, read_record, reads_from, label_of}
 use Rattle.dst_codec.specs.Writing.{reach, file_of, writes}
 
 -- the refusal of a long stitch or a long float
@@ -59,17 +58,18 @@ long-none false f is = refl
 -- a record's move is within the limit
 move_small : (a b c : ℕ) → (unsigned_abs (move_of a b c).x ≤ LIMIT) × (unsigned_abs (move_of a b c).y ≤ LIMIT)
 move_small a b c = (
-      apart (rightwards a b c) (leftwards a b c) (sum_small a b c 1 4) (sum_small a b c 2 8),
-      apart (downwards a b c) (upwards a b c) (sum_small a b c 64 16) (sum_small a b c 128 32),
-    )
+  apart (rightwards a b c) (leftwards a b c) (sum_small a b c 1 4) (sum_small a b c 2 8),
+  apart (downwards a b c) (upwards a b c) (sum_small a b c 64 16) (sum_small a b c 128 32),
+)
   where
-  sum_small : (a b c one nine : ℕ) → a / one % 2 + 3 * (b / one % 2) + 9 * (a / nine % 2) + 27 * (b / nine % 2) + 81 * (c / nine % 2) ≤ 121
-  sum_small a b c one nine = parts_small (a / one) (b / one) (a / nine) (b / nine) (c / nine)
-    where
-    parts_small : (p q r s t : ℕ) → p % 2 + 3 * (q % 2) + 9 * (r % 2) + 27 * (s % 2) + 81 * (t % 2) ≤ 121
-    parts_small p q r s t = omega arith
-  apart : (u v : ℕ) → u ≤ LIMIT → v ≤ LIMIT → unsigned_abs (pos u -ℤ pos v) ≤ LIMIT
-  apart u v hu hv = omega (arith, ints)
+    sum_small : (a b c one nine : ℕ) → a / one % 2 + 3 * (b / one % 2) + 9 * (a / nine % 2) + 27 * (b / nine % 2) + 81 * (c / nine % 2) ≤ 121
+    sum_small a b c one nine = parts_small (a / one) (b / one) (a / nine) (b / nine) (c / nine)
+      where
+        parts_small : (p q r s t : ℕ) → p % 2 + 3 * (q % 2) + 9 * (r % 2) + 27 * (s % 2) + 81 * (t % 2) ≤ 121
+        parts_small p q r s t = omega arith
+
+    apart : (u v : ℕ) → u ≤ LIMIT → v ≤ LIMIT → unsigned_abs (pos u -ℤ pos v) ≤ LIMIT
+    apart u v hu hv = omega (arith, ints)
 
 -- how far a reader can be from the last needle, while the thread is not loose
 pub record IsNear (needle : Point) (run : ℕ) (place : Point) (jumped : Bool) : Type 0 where
@@ -85,8 +85,8 @@ farther x z n run near small = omega (arith, ints)
 at_needle : (p : Point) → IsNear p 0 p false
 at_needle p = record { few = omega arith; still = λ same. refl; x = none p.x; y = none p.y }
   where
-  none : (x : ℤ) → unsigned_abs (x -ℤ x) ≤ 0 * LIMIT
-  none x = omega (arith, ints)
+    none : (x : ℤ) → unsigned_abs (x -ℤ x) ≤ 0 * LIMIT
+    none x = omega (arith, ints)
 
 -- no act of the commands is refused as long
 abbrev IsWithin : Bool → Standing → List Command → Type 0
@@ -113,8 +113,8 @@ long-needle false true m run number near =
     let few = near refl in
     long-none (nat_lt 3 (hops LIMIT m)) (fault.FloatTooLong number) (le-ltb 3 (hops LIMIT m) (hops_few (size_of m) run few.0 few.2))
   where
-  hops_few : (size run : ℕ) → run ≤ 2 → size ≤ (run + 1) * LIMIT → (size + (LIMIT - 1)) / LIMIT ≤ 3
-  hops_few size run few small = omega (arith, few, small)
+    hops_few : (size run : ℕ) → run ≤ 2 → size ≤ (run + 1) * LIMIT → (size + (LIMIT - 1)) / LIMIT ≤ 3
+    hops_few size run few small = omega (arith, few, small)
 long-needle false false m run number near =
     let few = near refl in
     let none : run ≡ 0 = few.1 refl in
@@ -167,13 +167,13 @@ tried_ok : (at count : ℕ) (command : Command) (rest : Result Course ReadFault)
     → IfOk (tried at count command rest) (λ course. P course.commands)
 tried_ok at count command rest P ok = by_tests (not (is_in_range command)) (nat_le MAX_COMMANDS count) rest ok
   where
-  by_tests : (b c : Bool) (rest : Result Course ReadFault) → IfOk rest (λ course. P (command ∷ course.commands))
-      → IfOk (if b then Err (read.Range at) else (if c then Err (read.TooMany at) else after_commands (command ∷ []) rest))
-      (λ course. P course.commands)
-  by_tests true c rest ok = tt
-  by_tests false true rest ok = tt
-  by_tests false false (Ok course) ok = ok
-  by_tests false false (Err f) ok = tt
+    by_tests : (b c : Bool) (rest : Result Course ReadFault) → IfOk rest (λ course. P (command ∷ course.commands))
+        → IfOk (if b then Err (read.Range at) else (if c then Err (read.TooMany at) else after_commands (command ∷ []) rest))
+        (λ course. P course.commands)
+    by_tests true c rest ok = tt
+    by_tests false true rest ok = tt
+    by_tests false false (Ok course) ok = ok
+    by_tests false false (Err f) ok = tt
 
 -- what comes of a rest, whatever stands before it
 abbrev RestIsWithin : ℕ → Point → Result Course ReadFault → Type 0
@@ -299,10 +299,10 @@ read_is_within_reach bytes = by_length (nat_lt (length bytes) HEADER_LENGTH)
     (records_ok (drop HEADER_LENGTH bytes) HEADER_LENGTH 0 0 origin beginning false
     (loose_free (IsNear origin 0 origin false) beginning refl))
   where
-  by_length : (b : Bool) (course : Result Course ReadFault) → IfOk course (λ c. IsWithin false beginning c.commands)
-      → IfOk (if b then Err (read.Short (length bytes)) else loaded_with (label_of bytes) [] course) (λ loaded. (number : ℕ)
-      → (writes loaded.design ≢ Err (fault.StitchTooLong number)) × (writes loaded.design ≢ Err (fault.FloatTooLong number)))
-  by_length true course within = tt
-  by_length false (Err f) within = tt
-  by_length false (Ok c) within = λ number.
-      not_long (first_refusal reach (acts_along c.commands)) (file_of (label_of bytes) (acts_along c.commands)) number (within 1)
+    by_length : (b : Bool) (course : Result Course ReadFault) → IfOk course (λ c. IsWithin false beginning c.commands)
+        → IfOk (if b then Err (read.Short (length bytes)) else loaded_with (label_of bytes) [] course) (λ loaded. (number : ℕ)
+        → (writes loaded.design ≢ Err (fault.StitchTooLong number)) × (writes loaded.design ≢ Err (fault.FloatTooLong number)))
+    by_length true course within = tt
+    by_length false (Err f) within = tt
+    by_length false (Ok c) within = λ number.
+        not_long (first_refusal reach (acts_along c.commands)) (file_of (label_of bytes) (acts_along c.commands)) number (within 1)

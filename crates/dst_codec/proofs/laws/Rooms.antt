@@ -1,5 +1,5 @@
 -- Acts that are not refused: how many stops and records they have, and that plain acts are such.
-use Rattle.std.proofs.Common.{◌≡◌, ℕ, ◌+◌, ◌<◌, ◌≤◌, max, Bool, true, false, not, ◌&&◌, ◌||◌, IsTrue, List, [], ◌∷◌, Option, Some, None, nat_lt, refl, ap, ◌∙◌, arith}
+use Rattle.std.proofs.Common.{◌≡◌, ℕ, ◌+◌, ◌≤◌, Bool, true, false, not, ◌&&◌, ◌||◌, IsTrue, List, [], ◌∷◌, Option, None, nat_lt, refl, ap, ◌∙◌, arith}
 use Rattle.std.proofs.lemmas.Bool.{and_parts, ltb-false, le-ltb}
 use Rattle.design_model.specs.declared.act.Act.{Act}
 use Rattle.design_model.specs.declared.act.Act.TheVariants as act
@@ -16,11 +16,11 @@ use Rattle.format_traits.specs.declared.standing.Standing.{Standing}
 use Rattle.format_traits.specs.Placing.{place_after, is_loose_after}
 use Rattle.format_traits.specs.PlainDesigns.{is_plain_act, are_plain_from}
 use Rattle.format_traits.specs.Refusals.{stops_in, stops_of, standing_after, refused_where, needle_refusal, own_refusal, or_else, refusal_at, refusal_from}
-use Rattle.format_traits.specs.Rooms.{act_room, room_from}
+use Rattle.format_traits.specs.Rooms.{room_from}
 use Rattle.dst_codec.specs.declared.dst.TheConstants.{LIMIT, MAX_STOPS}
 use Rattle.dst_codec.specs.Writing.{reach}
 use Rattle.dst_codec.proofs.SpellingLemmas.{within_parts}
-use Rattle.dst_codec.proofs.laws.Acts.{is_told, are_told, not_refused, or_else_none}
+use Rattle.dst_codec.proofs.laws.Acts.{are_told, not_refused, or_else_none}
 
 -- the fold over commands gives no other acts
 pub told : (n : ℕ) (loose jumped : Bool) (commands : List Command) → IsTrue (are_told loose (acts_from n loose jumped commands))
@@ -46,12 +46,12 @@ few_stops (a ∷ rest) s passed few =
     let more = few_stops rest after first.1 one in
     omega (arith, more)
   where
-  one_stop : (a : Act) (s : Standing) (number : ℕ) → own_refusal reach s a number ≡ None → s.stops ≤ MAX_STOPS
-      → s.stops + stops_in a ≤ MAX_STOPS
-  one_stop (act.Needle p float) s number passed few = omega (arith, few)
-  one_stop act.Trim s number passed few = omega (arith, few)
-  one_stop act.Stop s number passed few = ltb-false MAX_STOPS (s.stops + 1)
-      (not_refused (nat_lt MAX_STOPS (s.stops + 1)) (fault.TooManyStops number) passed)
+    one_stop : (a : Act) (s : Standing) (number : ℕ) → own_refusal reach s a number ≡ None → s.stops ≤ MAX_STOPS
+        → s.stops + stops_in a ≤ MAX_STOPS
+    one_stop (act.Needle p float) s number passed few = omega (arith, few)
+    one_stop act.Trim s number passed few = omega (arith, few)
+    one_stop act.Stop s number passed few = ltb-false MAX_STOPS (s.stops + 1)
+        (not_refused (nat_lt MAX_STOPS (s.stops + 1)) (fault.TooManyStops number) passed)
 
 -- and little room
 pub small_room : (acts : List NumberedAct) (s : Standing) → refusal_from reach s acts ≡ None → s.room ≤ MAX_COMMANDS

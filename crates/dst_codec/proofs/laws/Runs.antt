@@ -1,6 +1,6 @@
 -- How reading goes on over a run of jumps that make up a move, and a stitch behind them.
 use Rattle.std.proofs.Common.{◌≡◌, ℕ, zero, suc, ◌+◌, ◌<◌, ◌≤◌, Bool, true, false, not, ◌&&◌, IsTrue, List, [], ◌∷◌, ◌++◌, map, ◌==◌, if◌then◌else◌, refl, ap, sym, ◌∙◌, subst, arith}
-use Rattle.std.proofs.lemmas.Bool.{eqb-true, eqb-false}
+use Rattle.std.proofs.lemmas.Bool.{eqb-true}
 use Rattle.std.proofs.lemmas.List.{append-nil, append_assoc}
 use Rattle.std.specs.List.{concat}
 use Rattle.design_model.specs.declared.act.Act.{Act}
@@ -36,10 +36,10 @@ trims_over run zero long = refl
 trims_over run (suc more) long = first (run == 2) run (trims_in (run + 1) more) refl long
     (trims_over (run + 1) more (omega (arith, long)))
   where
-  first : (b : Bool) (run after : ℕ) → (run == 2) ≡ b → 3 ≤ run → after ≡ 0 → (if b then 1 else 0) + after ≡ 0
-  first true run after is long none =
-      let same : run ≡ 2 = eqb-true run 2 is in absurd (let no : ⊥ = omega (arith, same, long) in no)
-  first false run after is long none = omega (arith, none)
+    first : (b : Bool) (run after : ℕ) → (run == 2) ≡ b → 3 ≤ run → after ≡ 0 → (if b then 1 else 0) + after ≡ 0
+    first true run after is long none =
+        let same : run ≡ 2 = eqb-true run 2 is in absurd (let no : ⊥ = omega (arith, same, long) in no)
+    first false run after is long none = omega (arith, none)
 
 -- nor does a short one
 pub trims_none : (run more : ℕ) → run + more ≤ 2 → trims_in run more ≡ 0
@@ -47,10 +47,10 @@ trims_none run zero short = refl
 trims_none run (suc more) short = first (run == 2) run (trims_in (run + 1) more) refl (omega (arith, short))
     (trims_none (run + 1) more (omega (arith, short)))
   where
-  first : (b : Bool) (run after : ℕ) → (run == 2) ≡ b → run < 2 → after ≡ 0 → (if b then 1 else 0) + after ≡ 0
-  first true run after is short none =
-      let same : run ≡ 2 = eqb-true run 2 is in absurd (let no : ⊥ = omega (arith, same, short) in no)
-  first false run after is short none = omega (arith, none)
+    first : (b : Bool) (run after : ℕ) → (run == 2) ≡ b → run < 2 → after ≡ 0 → (if b then 1 else 0) + after ≡ 0
+    first true run after is short none =
+        let same : run ≡ 2 = eqb-true run 2 is in absurd (let no : ⊥ = omega (arith, same, short) in no)
+    first false run after is short none = omega (arith, none)
 
 -- any other holds one at most
 pub trims_few : (run more : ℕ) → trims_in run more ≤ 1
@@ -58,13 +58,13 @@ trims_few run zero = omega arith
 trims_few run (suc more) = first (run == 2) run (trims_in (run + 1) more) refl
     (λ two. trims_over (run + 1) more (omega (arith, two))) (trims_few (run + 1) more)
   where
-  first : (b : Bool) (run after : ℕ) → (run == 2) ≡ b → (run ≡ 2 → after ≡ 0) → after ≤ 1
-      → (if b then 1 else 0) + after ≤ 1
-  first true run after is none few =
-      let same : run ≡ 2 = eqb-true run 2 is in
-      let zero : after ≡ 0 = none same in
-      omega (arith, zero)
-  first false run after is none few = omega (arith, few)
+    first : (b : Bool) (run after : ℕ) → (run == 2) ≡ b → (run ≡ 2 → after ≡ 0) → after ≤ 1
+        → (if b then 1 else 0) + after ≤ 1
+    first true run after is none few =
+        let same : run ≡ 2 = eqb-true run 2 is in
+        let zero : after ≡ 0 = none same in
+        omega (arith, zero)
+    first false run after is none few = omega (arith, few)
 
 -- where a move lies, and into how many parts it is divided
 pub record Lies (place m : Point) (n : ℕ) : Type 0 where
@@ -150,6 +150,6 @@ goes_hops at count run place m there n rest loose jumped acts lies to free few o
     (subst (λ q. GoesOn at count run q (concat (map jump_record (parts m n)) ++ (stitch_record origin ++ rest)) loose jumped
     (act.Needle there (true && not loose) ∷ acts)) (part_none place m n lies.splits.some) whole)
   where
-  jumped_once : (n : ℕ) → 0 < n → jumped_after jumped n ≡ true
-  jumped_once zero some = absurd (let no : ⊥ = omega (arith, some) in no)
-  jumped_once (suc more) some = refl
+    jumped_once : (n : ℕ) → 0 < n → jumped_after jumped n ≡ true
+    jumped_once zero some = absurd (let no : ⊥ = omega (arith, some) in no)
+    jumped_once (suc more) some = refl

@@ -1,5 +1,5 @@
 -- How reading goes on over one record, whatever comes after it.
-use Rattle.std.proofs.Common.{◌≡◌, ℕ, ◌+◌, ◌<◌, ◌≤◌, Bool, true, false, not, ◌&&◌, IsTrue, List, [], ◌∷◌, ◌++◌, length, Ok, Result, ◌==◌, refl, ap, sym, ◌∙◌, subst, arith}
+use Rattle.std.proofs.Common.{◌≡◌, ℕ, ◌+◌, ◌<◌, Bool, true, false, not, ◌&&◌, IsTrue, List, [], ◌∷◌, ◌++◌, length, Ok, Result, ◌==◌, refl, ap, sym, ◌∙◌, subst, arith}
 use Rattle.std.proofs.lemmas.Bool.{and_from, lt-leb, eq-eqb}
 use Rattle.std.specs.List.{list_all}
 use Rattle.design_model.specs.declared.act.Act.{Act}
@@ -11,7 +11,7 @@ use Rattle.design_model.specs.declared.point.Point.{Point}
 use Rattle.design_model.specs.declared.point.TheConstants.{NEEDLE_LIMIT, JUMP_LIMIT}
 use Rattle.design_model.specs.Acts.{acts_from, bare}
 use Rattle.design_model.specs.Commands.{is_in_range}
-use Rattle.design_model.specs.Points.{is_within, origin}
+use Rattle.design_model.specs.Points.{is_within}
 use Rattle.format_traits.specs.declared.fault.ReadFault.{ReadFault}
 use Rattle.format_traits.specs.Placing.{moved}
 use Rattle.format_traits.specs.Readings.{Course, after_commands, tried, tries}
