@@ -192,7 +192,8 @@ goes_needle false true place p number at count run room jumped rest acts between
     by_number : (b : Bool) (n : ℕ) → (n == 3) ≡ b → 0 < n → n ≤ 3 → Lies place (move_between place p) n
         → room + (n + 1) ≤ MAX_COMMANDS
         → ((at' count' : ℕ) → count' ≤ room + (n + 1) → GoesOn at' count' 0 p rest false false acts)
-        → GoesOn at count 0 place (concat (if b then third_stitched (move_between place p) else hop_records n (move_between place p)) ++ rest)
+        → GoesOn at count 0 place
+        (concat (if b then third_stitched (move_between place p) else hop_records n (move_between place p)) ++ rest)
         false false (act.Needle p true ∷ acts)
     by_number true n is some short lies fits on =
         let three : n ≡ 3 = eqb-true n 3 is in
@@ -203,7 +204,8 @@ goes_needle false true place p number at count run room jumped rest acts between
         goes_float n at count place p room rest acts lies (omega (arith, other, short)) few fits on
 goes_needle false false place p number at count run room jumped rest acts between told here there passed few fits on =
     let m = move_between place p in
-    let short : size_of m ≤ LIMIT = ltb-false LIMIT (size_of m) (not_refused (nat_lt LIMIT (size_of m)) (fault.StitchTooLong number) passed) in
+    let short : size_of m ≤ LIMIT = ltb-false LIMIT (size_of m)
+    (not_refused (nat_lt LIMIT (size_of m)) (fault.StitchTooLong number) passed) in
     let near = within_from LIMIT m (omega (arith, short)) (omega (arith, short)) in
     subst (λ j. GoesOn at count run place (stitch_record m ++ rest) false j (act.Needle p false ∷ acts)) (sym between.1)
     (goes_stitch at count run place m p rest false false acts near (moved-between place p) there (omega (arith, few, fits))
@@ -222,7 +224,8 @@ goes_trimmed at count place room rest jumped acts here few fits on =
     let two = moved one back in
     let at_place = within_parts NEEDLE_LIMIT place here in
     goes_jump at count 0 place forth one (jump_record back ++ (jump_record forth ++ rest)) false jumped (act.Trim ∷ acts)
-    refl refl (within_from JUMP_LIMIT one (near place.x (pos 2) at_place.0 (omega arith)) (near place.y (pos 2) at_place.1 (omega arith)))
+    refl refl
+    (within_from JUMP_LIMIT one (near place.x (pos 2) at_place.0 (omega arith)) (near place.y (pos 2) at_place.1 (omega arith)))
     refl (omega (arith, few, fits))
     (goes_jump (at + 3) (count + 1) 1 one back two (jump_record forth ++ rest) false true (act.Trim ∷ acts)
     refl refl (within_from JUMP_LIMIT two (far place.x at_place.0) (far place.y at_place.1))

@@ -82,20 +82,24 @@ pub of_written : (d : DesignValue) (P : List ℕ → Type 0) → (r : Option Wri
 of_written d P None is holds = holds is
 of_written d P (Some f) is holds = tt
 
+-- what is written reads as the same acts, and to its end
 pub written_reads_again : WrittenReadsAgain
 written_reads_again d limits = of_written d (λ bytes. ReadsAgain dst d bytes) (first_refusal reach (acts_of d)) refl
     (λ passed. let w = written d limits passed in
     subst (λ result. IsOkAnd result (λ loaded. IsAgain d loaded)) (sym w.read) w.again)
 
+-- each move of what is written is within the limit
 pub written_moves_within : WrittenMovesWithin
 written_moves_within d limits = of_written d (λ bytes. MovesWithin dst bytes) (first_refusal reach (acts_of d)) refl
     (λ passed. (written d limits passed).within)
 
+-- a plain design is written
 pub plain_is_written : PlainIsWritten
 plain_is_written d limits plain =
     let passed = plain_passes (acts_of d) beginning plain.needles (omega (arith, plain.stops)) (omega (arith, plain.room)) in
     subst (λ r. IsOk (unless_refused r (file_of d.label (acts_of d)))) (sym passed) refl
 
+-- these three together
 pub keeps_laws : (d : DesignValue) → KeepsLimits d → KeepsLaws dst d
 keeps_laws d limits = record {
   again = written_reads_again d limits;

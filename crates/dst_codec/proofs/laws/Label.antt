@@ -75,6 +75,7 @@ label_of-file label numbers body short = ap label_in (front (label_field label) 
     body
     (length-filled_right MAX_LABEL label short))
 
+-- the label is read back
 pub label_reads_again : LabelReadsAgain
 label_reads_again d limits =
     of_written d (λ bytes. IsOkAnd (reads bytes) (λ loaded. loaded.design.label ≡ d.label)) (first_refusal reach (acts_of d))

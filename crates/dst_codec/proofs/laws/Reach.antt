@@ -39,7 +39,8 @@ is_long (Some (fault.TooManyStops number)) = false
 is_long (Some (fault.TooLong number)) = false
 is_long (Some fault.Memory) = false
 
-long-or_else : (one other : Option WriteFault) → is_long one ≡ false → is_long other ≡ false → is_long (or_else one other) ≡ false
+long-or_else : (one other : Option WriteFault) → is_long one ≡ false → is_long other ≡ false
+    → is_long (or_else one other) ≡ false
 long-or_else None other first second = second
 long-or_else (Some f) other first second = first
 
@@ -62,7 +63,8 @@ move_small a b c = (
   apart (downwards a b c) (upwards a b c) (sum_small a b c 64 16) (sum_small a b c 128 32),
 )
   where
-    sum_small : (a b c one nine : ℕ) → a / one % 2 + 3 * (b / one % 2) + 9 * (a / nine % 2) + 27 * (b / nine % 2) + 81 * (c / nine % 2) ≤ 121
+    sum_small : (a b c one nine : ℕ)
+        → a / one % 2 + 3 * (b / one % 2) + 9 * (a / nine % 2) + 27 * (b / nine % 2) + 81 * (c / nine % 2) ≤ 121
     sum_small a b c one nine = parts_small (a / one) (b / one) (a / nine) (b / nine) (c / nine)
       where
         parts_small : (p q r s t : ℕ) → p % 2 + 3 * (q % 2) + 9 * (r % 2) + 27 * (s % 2) + 81 * (t % 2) ≤ 121
@@ -111,7 +113,8 @@ long-needle true true m run number near = refl
 long-needle true false m run number near = refl
 long-needle false true m run number near =
     let few = near refl in
-    long-none (nat_lt 3 (hops LIMIT m)) (fault.FloatTooLong number) (le-ltb 3 (hops LIMIT m) (hops_few (size_of m) run few.0 few.2))
+    long-none (nat_lt 3 (hops LIMIT m)) (fault.FloatTooLong number)
+    (le-ltb 3 (hops LIMIT m) (hops_few (size_of m) run few.0 few.2))
   where
     hops_few : (size run : ℕ) → run ≤ 2 → size ≤ (run + 1) * LIMIT → (size + (LIMIT - 1)) / LIMIT ≤ 3
     hops_few size run few small = omega (arith, few, small)
@@ -191,7 +194,8 @@ stitch_ok : (s : Standing) (jumped : Bool) (run : ℕ) (place m : Point) (rest :
 stitch_ok s jumped run place m (Err f) small near on = tt
 stitch_ok s jumped run place m (Ok course) small near on =
     within-stitch s jumped run place m course.commands near small
-    (λ s' loose here. on s' false (λ tied. subst (λ q. IsNear q 0 (moved place m) false) (sym here) (at_needle (moved place m))))
+    (λ s' loose here. on s' false (λ tied.
+    subst (λ q. IsNear q 0 (moved place m) false) (sym here) (at_needle (moved place m))))
 
 jump_ok : (s : Standing) (jumped : Bool) (run : ℕ) (place m : Point) (rest : Result Course ReadFault)
     → (unsigned_abs m.x ≤ LIMIT) × (unsigned_abs m.y ≤ LIMIT) → run ≢ 2
@@ -293,6 +297,7 @@ not_long (Some (fault.TooManyStops n)) bytes number short = (λ same. cc, λ sam
 not_long (Some (fault.TooLong n)) bytes number short = (λ same. cc, λ same. cc)
 not_long (Some fault.Memory) bytes number short = (λ same. cc, λ same. cc)
 
+-- what was read is not refused for a long stitch or a long float
 pub read_is_within_reach : ReadIsWithinReach
 read_is_within_reach bytes = by_length (nat_lt (length bytes) HEADER_LENGTH)
     (reads_from HEADER_LENGTH 0 0 origin (drop HEADER_LENGTH bytes))
@@ -305,4 +310,5 @@ read_is_within_reach bytes = by_length (nat_lt (length bytes) HEADER_LENGTH)
     by_length true course within = tt
     by_length false (Err f) within = tt
     by_length false (Ok c) within = λ number.
-        not_long (first_refusal reach (acts_along c.commands)) (file_of (label_of bytes) (acts_along c.commands)) number (within 1)
+        not_long (first_refusal reach (acts_along c.commands))
+        (file_of (label_of bytes) (acts_along c.commands)) number (within 1)

@@ -23,7 +23,8 @@ use Rattle.dst_codec.proofs.SpellingLemmas.{within_parts}
 use Rattle.dst_codec.proofs.laws.Acts.{are_told, not_refused, or_else_none}
 
 -- the fold over commands gives no other acts
-pub told : (n : ℕ) (loose jumped : Bool) (commands : List Command) → IsTrue (are_told loose (acts_from n loose jumped commands))
+pub told : (n : ℕ) (loose jumped : Bool) (commands : List Command)
+    → IsTrue (are_told loose (acts_from n loose jumped commands))
 told n loose jumped [] = refl
 told n true true (Stitch p ∷ rest) = told (n + 1) false false rest
 told n true false (Stitch p ∷ rest) = told (n + 1) false false rest

@@ -140,8 +140,8 @@ goes_hops at count run place m there n rest loose jumped acts lies to free few o
     let end : moved place (part_of m n n) ≡ there = ap (moved place) (part_all m n lies.splits.some) ∙ to in
     let whole = goes_parts n at count run place m n 0 n (stitch_record origin ++ rest) loose jumped
     (act.Needle there (true && not loose) ∷ acts) lies (omega arith) (omega arith) free (omega (arith, few))
-    (λ at' count' run' counted ran. subst (λ j. GoesOn at' count' run' (moved place (part_of m n n)) (stitch_record origin ++ rest) loose j
-    (act.Needle there (true && not loose) ∷ acts)) (sym (jumped_once n lies.splits.some))
+    (λ at' count' run' counted ran. subst (λ j. GoesOn at' count' run' (moved place (part_of m n n))
+    (stitch_record origin ++ rest) loose j (act.Needle there (true && not loose) ∷ acts)) (sym (jumped_once n lies.splits.some))
     (goes_stitch at' count' run' (moved place (part_of m n n)) origin there rest loose true acts refl
     (moved-none (moved place (part_of m n n)) ∙ end) (subst (λ q. IsTrue (is_within NEEDLE_LIMIT q)) to lies.there)
     (omega (arith, few, counted)) (on (at' + 3) (count' + 1) (omega (arith, counted))))) in

@@ -99,10 +99,6 @@ goes_stitch at count run place m there rest loose jumped acts near to here few g
   within = within_stitch m rest near goes.within;
 }
 
--- what comes of a jump record by its commands
-abbrev jump_tried : ℕ → ℕ → Point → List ℕ → List Command → ℕ → ℕ → Result Course ReadFault
-jump_tried at count there rest commands many run = tries at count commands (reads_from (at + 3) (count + many) run there rest)
-
 jump_reads : (at count run : ℕ) (place m there : Point) (rest : List ℕ) → IsTrue (is_within LIMIT m)
     → moved place m ≡ there → IsTrue (is_within JUMP_LIMIT there) → (run == 2) ≡ false → count < MAX_COMMANDS
     → reads_from at count run place (jump_record m ++ rest)
@@ -137,7 +133,9 @@ third_reads at count run place m there rest near to here third few =
     ∙ ap (λ q. read_record kind.Jump at count (jumps_of run q)
     (reads_from (at + 3) (count + length (jumps_of run q)) (run + 1) q rest)) to
     ∙ rw (eq-eqb run 2 third)
-    (tried-kept at count Trim (tries at (count + 1) (Jump there ∷ []) (reads_from (at + 3) (count + 2) (run + 1) there rest)) refl (omega (arith, few))
+    (tried-kept at count Trim
+    (tries at (count + 1) (Jump there ∷ []) (reads_from (at + 3) (count + 2) (run + 1) there rest))
+    refl (omega (arith, few))
     ∙ ap (after_commands (Trim ∷ []))
     (tried-kept at (count + 1) (Jump there) (reads_from (at + 3) (count + 2) (run + 1) there rest) here few))
 
