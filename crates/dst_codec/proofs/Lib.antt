@@ -7,3 +7,4 @@ mod SpellingFacts
 pub mod SpellingLemmas
 pub mod SurveyLemmas
 mod WritingFacts
+pub mod laws
