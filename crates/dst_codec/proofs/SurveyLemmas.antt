@@ -1,5 +1,5 @@
 -- A survey of acts, one after the other, comes to the numbers of all of them.
-use Rattle.std.proofs.Common.{◌≡◌, ℕ, zero, suc, ◌+◌, ◌<◌, ◌≤◌, get_or, max, Option, Some, None, IfSome, sym, Bool, true, false, List, [], ◌∷◌, ◌++◌, length, map, IsTrue, ◌==◌, refl, ap, ◌∙◌, arith, length-append, zero-add, if◌then◌else◌, nat_le}
+use Rattle.std.proofs.Common.{◌≡◌, ℕ, zero, suc, ◌+◌, ◌<◌, ◌≤◌, get_or, max, Option, Some, None, option_to_list, sym, Bool, true, false, List, [], ◌∷◌, ◌++◌, length, map, IsTrue, ◌==◌, refl, ap, ◌∙◌, arith, length-append, zero-add, if◌then◌else◌, nat_le}
 use Rattle.std.proofs.Math.Nat.{zero-max, max-zero}
 use Rattle.std.proofs.lemmas.Bool.{and_parts, and_from, eqb-true}
 use Rattle.std.proofs.lemmas.List.{length-map}
@@ -10,13 +10,15 @@ use Rattle.design_model.specs.declared.act.NumberedAct.{NumberedAct}
 use Rattle.design_model.specs.declared.command.Command.{Command}
 use Rattle.design_model.specs.declared.command.Command.TheVariants.{Stitch, Jump, Trim, Stop}
 use Rattle.design_model.specs.declared.point.Point.{Point}
-use Rattle.design_model.specs.Acts.{acts_from, listed, numbered}
+use Rattle.design_model.specs.Acts.{acts_from}
 use Rattle.design_model.specs.Commands.{is_in_range}
 use Rattle.design_model.specs.Points.{origin, move_between}
 use Rattle.format_traits.specs.declared.fault.WriteFault.{WriteFault}
 use Rattle.format_traits.specs.Placing.{is_act_in_range, hops, parts, parts_from, place_along, place_after, is_loose_after}
 use Rattle.format_traits.specs.Refusals.{stops_of, refusal_at, refusal_from, first_refusal}
 use Rattle.format_traits.specs.Rooms.{act_room, needle_room, room_from}
+use Rattle.format_traits.specs.declared.act_walk.ActWalk.{ActWalk}
+use Rattle.format_traits.specs.Walks.{acts_after}
 use Rattle.dst_codec.specs.declared.dst.TheConstants.{LIMIT}
 use Rattle.dst_codec.specs.declared.header.Extents.{Extents}
 use Rattle.dst_codec.specs.declared.header.HeaderNumbers.{HeaderNumbers}
@@ -143,43 +145,29 @@ numbers_in-surveyed acts =
       extents-surveyed empty_survey acts,
     ) (simp (zero-max, zero-add))
 
--- the act of a command in range is in range
-pub act_in_range : (command : Command) (r : Option Act) (loose jumped loose_new jumped_new : Bool)
-    → IsTrue (is_in_range command)
-    → acts_from 0 loose jumped (command ∷ []) ≡ listed 0 r ++ acts_from (0 + 1) loose_new jumped_new []
-    → IfSome r (λ a. IsTrue (is_act_in_range a))
-act_in_range command None loose jumped loose_new jumped_new here is = tt
-act_in_range command (Some a) loose jumped loose_new jumped_new here is =
-    let all : IsTrue (are_in_range (acts_from 0 loose jumped (command ∷ []))) =
-    acts_in_range 0 loose jumped (command ∷ []) (and_from (is_in_range command) true here refl) in
-    (and_parts (is_act_in_range a) true (rw is at all)).0
-
 -- the survey after the last command
-pub finished : (rest : List Command) (n : ℕ) (loose jumped : Bool) (s : Survey) (acts : List NumberedAct)
+pub finished : (rest : List Command) (w : ActWalk) (s : Survey) (acts : List NumberedAct)
     (numbers : HeaderNumbers) → length rest < 1
-    → surveyed s (acts_from n loose jumped rest) ≡ surveyed empty_survey acts
-    → refusal_from reach s.standing (acts_from n loose jumped rest) ≡ first_refusal reach acts
+    → surveyed s (acts_after w rest) ≡ surveyed empty_survey acts
+    → refusal_from reach s.standing (acts_after w rest) ≡ first_refusal reach acts
     → numbers ≡ numbers_in s
     → (first_refusal reach acts ≡ None) × (numbers ≡ numbers_of acts (length (records_of acts) + 1))
-finished [] n loose jumped s acts numbers short is refusal same =
+finished [] w s acts numbers short is refusal same =
     (sym refusal, same ∙ ap numbers_in is ∙ numbers_in-surveyed acts)
-finished (command ∷ rest) n loose jumped s acts numbers short is refusal same =
+finished (command ∷ rest) w s acts numbers short is refusal same =
     absurd (let no : ⊥ = omega (arith, short) in no)
 
 -- the first command whose act is refused
-pub refused : (rest : List Command) (d : Command) (n : ℕ) (loose jumped loose_new jumped_new : Bool)
-    (r : Option Act) (a : Act) (f : WriteFault) (s : Survey) (acts : List NumberedAct)
-    → 1 ≤ length rest
-    → ((n : ℕ) (after : List Command) → acts_from n loose jumped (get_or rest 0 d ∷ after)
-    ≡ listed n r ++ acts_from (n + 1) loose_new jumped_new after)
+pub refused : (rest : List Command) (d : Command) (w w' : ActWalk) (r : Option NumberedAct) (a : NumberedAct)
+    (f : WriteFault) (s : Survey) (acts : List NumberedAct) → 1 ≤ length rest
+    → ((after : List Command) → acts_after w (get_or rest 0 d ∷ after) ≡ option_to_list r ++ acts_after w' after)
     → r ≡ Some a
-    → refusal_at reach s.standing (numbered n a) ≡ Some f
-    → refusal_from reach s.standing (acts_from n loose jumped rest) ≡ first_refusal reach acts
+    → refusal_at reach s.standing a ≡ Some f
+    → refusal_from reach s.standing (acts_after w rest) ≡ first_refusal reach acts
     → first_refusal reach acts ≡ Some f
-refused [] d n loose jumped loose_new jumped_new r a f s acts there steps is here refusal =
-    absurd (let no : ⊥ = omega (arith, there) in no)
-refused (command ∷ rest) d n loose jumped loose_new jumped_new r a f s acts there steps is here refusal =
-    sym refusal ∙ rw (steps n rest, is, here) refl
+refused [] d w w' r a f s acts there steps is here refusal = absurd (let no : ⊥ = omega (arith, there) in no)
+refused (command ∷ rest) d w w' r a f s acts there steps is here refusal =
+    sym refusal ∙ rw (steps rest, is, here) refl
 
 loose_small : (few : Bool) (jumps : ℕ) → jumps + 1 ≤ (if few then jumps + 1 else jumps + 2)
 loose_small true jumps = omega arith

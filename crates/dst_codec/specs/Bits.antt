@@ -5,8 +5,9 @@
 --   first   y+1    y-1    y+9    y-9    x-9    x+9    x-1    x+1
 --   second  y+3    y-3    y+27   y-27   x-27   x+27   x-3    x+3
 --   third   flag   flag   y+81   y-81   x-81   x+81   set    set
-use Rattle.std.specs.Prelude.{ℕ, ◌+◌, ◌*◌, ◌/◌, ◌%◌, pos, ◌-ℤ◌, ◌==◌, if◌then◌else◌}
+use Rattle.std.specs.Prelude.{ℕ, ◌+◌, ◌*◌, ◌/◌, ◌%◌, pos, ◌-ℤ◌, List, [], ◌∷◌, ◌==◌, if◌then◌else◌}
 use Rattle.design_model.specs.declared.point.Point.{Point}
+use Rattle.design_model.specs.Points.{origin}
 use Rattle.dst_codec.specs.declared.record_kind.RecordKind.{RecordKind}
 use Rattle.dst_codec.specs.declared.record_kind.RecordKind.TheVariants as kind
 
@@ -38,6 +39,11 @@ move_of first second third = record {
   x = pos (rightwards first second third) -ℤ pos (leftwards first second third);
   y = pos (downwards first second third) -ℤ pos (upwards first second third);
 }
+
+-- the move of a record's bytes
+abbrev pub move_in : List ℕ → Point
+move_in (first ∷ second ∷ third ∷ rest) = move_of first second third
+move_in _ = origin
 
 -- the kind of a record by its third byte: all bits but 2 and 3 are set at the end; else the two low
 -- bits are set, and the two flags decide; all else is a stitch

@@ -5,6 +5,7 @@ pub mod Header
 pub mod Reading
 pub mod Writing
 pub mod Surveys
+pub mod Steps
 pub mod Lines
 pub mod Format
 pub mod Laws

@@ -2,14 +2,18 @@
 //! upwards, a design's downwards.
 #![tactic(auto)]
 
+mod bits;
 mod dst;
 mod header;
+mod reading;
 mod record_kind;
 mod records;
 mod spelling;
 mod survey;
 #[cfg(test)]
 mod tests;
+mod writing;
 
+pub use bits::decode_move;
 pub use dst::{Dst, LIMIT, MAX_FLOAT_HOPS, MAX_STOPS};
 pub use spelling::encode_move;

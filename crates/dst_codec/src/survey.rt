@@ -1,9 +1,8 @@
-ghost use Rattle.std.specs.Prelude.{◌≡◌, ◌≤◌, ◌+◌, ◌∷◌, ◌++◌, ℕ, List, length, IsTrue, OnOk, IfOk, IfSome};
+ghost use Rattle.std.specs.Prelude.{◌≡◌, ◌≤◌, ◌+◌, length, IsTrue, OnOk, IfOk};
 ghost use Rattle.std.specs.List.{list_all};
 ghost use Rattle.design_model.specs.declared.design.TheConstants.{MAX_COMMANDS};
 ghost use Rattle.design_model.specs.declared.point.TheConstants.{NEEDLE_LIMIT};
-ghost use Rattle.design_model.specs.declared.command.Command.{Command as CommandValue};
-ghost use Rattle.design_model.specs.Acts.{acts_along, acts_from, listed, numbered};
+ghost use Rattle.design_model.specs.Acts.{acts_along};
 ghost use Rattle.design_model.specs.Commands.{is_in_range};
 ghost use Rattle.design_model.specs.Points.{is_within, size_of as size};
 ghost use Rattle.format_traits.specs.declared.placing.TheConstants.{GREATEST_MOVE};
@@ -13,8 +12,8 @@ ghost use Rattle.dst_codec.specs.Surveys.{empty_survey, float_count as float_cou
 
 use crate::dst::{LIMIT, MAX_FLOAT_HOPS, MAX_STOPS};
 use crate::header::{Extents, HeaderNumbers};
-use design_model::{Act, Command, MAX_COMMANDS, NEEDLE_LIMIT, Point, ThreadState};
-use format_traits::{GREATEST_MOVE, Reach, Standing, WriteFault, hops, move_between};
+use design_model::{Act, Command, MAX_COMMANDS, NEEDLE_LIMIT, NumberedAct, Point};
+use format_traits::{ActWalk, GREATEST_MOVE, Reach, Standing, WriteFault, hops, move_between};
 
 /// What the format can write.
 const REACH: Reach = Reach {
@@ -39,30 +38,17 @@ pub fn header_numbers(commands: &[Command]) -> Result<HeaderNumbers, WriteFault>
     ensures last { IfOk result (λ numbers. IsTrue (is_within NEEDLE_LIMIT numbers.last)) }
 {
     let mut survey = Survey::new();
-    let mut thread = ThreadState::new();
-    let mut number: u32 = 0;
+    let mut walk = ActWalk::new();
     let mut rest = commands;
     while let [command, after @ ..] = rest {
-        number += 1;
-        if let Some(act) = next_act(&mut thread, *command) {
-            if let Err(fault) = survey.note(number, act) {
+        if let Some(act) = walk.next(*command) {
+            if let Err(fault) = survey.note(act) {
                 return Err(fault);
             }
         }
         rest = after;
     }
     Ok(survey.numbers())
-}
-
-/// The act of a command whose point is in range, if it is one.
-fn next_act(thread: &mut ThreadState, command: Command) -> Option<Act>
-    requires { IsTrue (is_in_range command) }
-    ensures value { (n : ℕ) (rest : List CommandValue) →
-        acts_from n thread.old.loose thread.old.jumped (command ∷ rest)
-        ≡ listed n result ++ acts_from (n + 1) thread.new.loose thread.new.jumped rest }
-    ensures in_range { IfSome result (λ a. IsTrue (is_act_in_range a)) }
-{
-    thread.step(command)
 }
 
 impl Survey {
@@ -82,24 +68,24 @@ impl Survey {
     }
 
     /// Takes in an act, unless it is refused.
-    fn note(&mut self, number: u32, act: Act) -> Result<(), WriteFault>
+    fn note(&mut self, act: NumberedAct) -> Result<(), WriteFault>
         requires place { IsTrue (is_within NEEDLE_LIMIT self.old.standing.place) }
-        requires act { IsTrue (is_act_in_range act) }
+        requires act { IsTrue (is_act_in_range act.act) }
         requires room { self.old.standing.room ≤ MAX_COMMANDS }
         requires stops { self.old.standing.stops ≤ self.old.standing.room }
         requires records { self.old.records ≤ self.old.standing.room }
-        ensures value { Notes self.old (numbered number act) result self.new }
+        ensures value { Notes self.old act result self.new }
         ensures room { OnOk result (self.new.standing.room ≤ MAX_COMMANDS) }
         ensures stops { OnOk result (self.new.standing.stops ≤ self.new.standing.room) }
         ensures records { OnOk result (self.new.records ≤ self.new.standing.room) }
         ensures place { OnOk result (IsTrue (is_within NEEDLE_LIMIT self.new.standing.place)) }
     {
-        if let Some(fault) = REACH.refusal(&self.standing, number, act) {
+        if let Some(fault) = REACH.refusal(&self.standing, act.number, act.act) {
             return Err(fault);
         }
-        self.records += record_count(&self.standing, act);
-        self.standing = self.standing.after(LIMIT, act);
-        self.extents = self.extents.with(act);
+        self.records += record_count(&self.standing, act.act);
+        self.standing = self.standing.after(LIMIT, act.act);
+        self.extents = self.extents.with(act.act);
         Ok(())
     }
 

@@ -1,3 +1,6 @@
+pub mod ActLemmas
 mod EndingFacts
+pub mod LabelLemmas
 pub mod EndingLemmas
+pub mod PartLemmas
 mod PlacingFacts

@@ -4,6 +4,8 @@ use Rattle.std.specs.List.{list_all}
 use Rattle.design_model.specs.Acts.{acts_of, bare}
 use Rattle.design_model.specs.Designs.{DesignValue}
 use Rattle.design_model.specs.Points.{is_within}
+use Rattle.format_traits.specs.declared.fault.ReadFault.{ReadFault}
+use Rattle.format_traits.specs.declared.fault.ReadFault.TheVariants as read
 use Rattle.format_traits.specs.declared.fault.WriteFault.{WriteFault}
 use Rattle.format_traits.specs.declared.fault.WriteFault.TheVariants as fault
 use Rattle.format_traits.specs.declared.loaded.Loaded.{Loaded}
@@ -27,6 +29,17 @@ Writes model (Err (fault.FloatTooLong number)) = model ≡ Err (fault.FloatTooLo
 Writes model (Err (fault.TooManyStops number)) = model ≡ Err (fault.TooManyStops number)
 Writes model (Err (fault.TooLong number)) = model ≡ Err (fault.TooLong number)
 Writes model (Err fault.Memory) = Unit {0}
+
+-- what a decoding answered is the model's value, unless memory ran out
+abbrev pub Reads : Result Loaded ReadFault → Result Loaded ReadFault → Type 0
+Reads model (Ok loaded) = model ≡ Ok loaded
+Reads model (Err (read.Short at)) = model ≡ Err (read.Short at)
+Reads model (Err (read.Signature at)) = model ≡ Err (read.Signature at)
+Reads model (Err (read.Sequin at)) = model ≡ Err (read.Sequin at)
+Reads model (Err (read.Control at)) = model ≡ Err (read.Control at)
+Reads model (Err (read.Range at)) = model ≡ Err (read.Range at)
+Reads model (Err (read.TooMany at)) = model ≡ Err (read.TooMany at)
+Reads model (Err read.Memory) = Unit {0}
 
 -- what was loaded has the acts of the design, and its file had an end
 pub record IsAgain (d : DesignValue) (loaded : Loaded) : Type 0 where

@@ -1,6 +1,7 @@
 ghost use Rattle.std.specs.Prelude.{◌≡◌, ◌≤◌, List, IfOk, IsOk};
 
-use crate::fault::WriteFault;
+use crate::fault::{ReadFault, WriteFault};
+use crate::loaded::Loaded;
 use design_model::{Bytes, Design};
 use std::alloc::Global;
 
@@ -17,8 +18,8 @@ pub const GREATEST_LIMIT: u32 = 2047;
 pub trait Format: Drop {
     ghost use Rattle.format_traits.specs.declared.format_object.TheConstants.{LEAST_LIMIT, GREATEST_LIMIT};
     ghost use Rattle.format_traits.specs.Meanings.{Meaning};
-    ghost use Rattle.format_traits.specs.PlainDesigns.{IsPlainLine};
-    ghost use Rattle.format_traits.specs.Laws.{IsEnding, Writes, ReadsAgain, MovesWithin};
+    ghost use Rattle.format_traits.specs.PlainDesigns.{IsPlain};
+    ghost use Rattle.format_traits.specs.Laws.{IsEnding, Reads, Writes, ReadsAgain, MovesWithin};
 
     /// What the object reads and writes.
     ghost meaning: { Self → Meaning };
@@ -34,13 +35,19 @@ pub trait Format: Drop {
         ensures least { LEAST_LIMIT ≤ result }
         ensures most { result ≤ GREATEST_LIMIT };
 
-    /// The file of a design that is one plain line.
+    /// What a file's bytes read as.
+    fn decode(&self, alloc: Global, bytes: &[u8]) -> Result<Loaded, ReadFault>
+        ensures { Reads ((meaning self.now).reads bytes.now) result };
+
+    /// The file of a design. The acts are judged in order, and at one act the refusals come in the
+    /// order of `WriteFault`.
     fn encode(&self, alloc: Global, design: &Design) -> Result<Bytes, WriteFault>
-        requires { IsPlainLine (meaning self.now).limit design.now }
         ensures value { Writes ((meaning self.now).writes design.now) result }
 
-        // What is written reads as the same acts, moves within the limit, and is never refused.
+        // What is written reads as the same acts and moves within the limit, and a plain design is
+        // not refused.
         ensures again { IfOk result (λ bytes. ReadsAgain (meaning self.now) design.now bytes) }
         ensures within { IfOk result (λ bytes. MovesWithin (meaning self.now) bytes) }
-        ensures plain { IsOk ((meaning self.now).writes design.now) };
+        ensures plain { IsPlain (meaning self.now).limit design.now
+            → IsOk ((meaning self.now).writes design.now) };
 }

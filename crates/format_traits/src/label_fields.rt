@@ -1,8 +1,10 @@
 ghost use Rattle.std.specs.Prelude.{◌≡◌, ◌++◌, ◌≤◌, length, replicate, OnOk};
 ghost use Rattle.design_model.specs.declared.design.TheConstants.{MAX_LABEL};
-ghost use Rattle.format_traits.specs.LabelFields.{label_field};
+ghost use Rattle.design_model.specs.Designs.{with_label};
+ghost use Rattle.format_traits.specs.LabelFields.{label_field, label_in, shown as shown_as, trimmed as trimmed_text};
 
-use design_model::{Bytes, MAX_LABEL, Memory};
+use arrayvec::ArrayVec;
+use design_model::{Bytes, Design, MAX_LABEL, Memory};
 
 /// Adds so many spaces.
 pub fn put_spaces(out: &mut Bytes, count: usize) -> Result<(), Memory>
@@ -22,4 +24,37 @@ pub fn put_label(out: &mut Bytes, label: &[u8]) -> Result<(), Memory>
     out.append(label)?;
     put_spaces(out, MAX_LABEL - label.len())?;
     Ok(())
+}
+
+/// Sets a design's label to what a label field holds. A byte that no label may hold becomes `?`, and
+/// then the spaces at the end are dropped.
+pub fn read_label(design: &mut Design, field: &[u8])
+    requires { length field.now ≤ MAX_LABEL }
+    ensures { design.new ≡ with_label design.old (label_in field.now) }
+{
+    let mut text: ArrayVec<u8, MAX_LABEL> = ArrayVec::new();
+    for byte in field {
+        text.push(shown(*byte));
+    }
+    design.set_label(trimmed(text.as_slice()));
+}
+
+fn shown(byte: u8) -> u8
+    ensures { result ≡ shown_as byte }
+{
+    if 32 <= byte && byte <= 126 { byte } else { b'?' }
+}
+
+/// A text without the spaces at its end.
+fn trimmed(text: &[u8]) -> &[u8]
+    ensures { result.now ≡ trimmed_text text.now }
+{
+    let mut rest = text;
+    while let [before @ .., last] = rest {
+        if *last != b' ' {
+            return rest;
+        }
+        rest = before;
+    }
+    rest
 }

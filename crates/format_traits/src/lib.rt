@@ -2,9 +2,11 @@
 //! them keeps.
 #![tactic(auto)]
 
+mod act_walk;
 mod boxed;
 mod fault;
 mod format_object;
+mod keeping;
 mod label_fields;
 mod loaded;
 mod lookup;
@@ -13,11 +15,13 @@ mod standing;
 #[cfg(test)]
 mod tests;
 
-pub use boxed::{encode_at, encode_by, ext_at, ext_of, limit_at, limit_of};
+pub use act_walk::ActWalk;
+pub use boxed::{decode_at, decode_by, encode_at, encode_by, ext_at, ext_of, limit_at, limit_of};
 pub use fault::{ReadFault, WriteFault};
 pub use format_object::{Format, GREATEST_LIMIT, LEAST_LIMIT};
-pub use label_fields::{put_label, put_spaces};
+pub use keeping::{keep, keep_both};
+pub use label_fields::{put_label, put_spaces, read_label};
 pub use loaded::Loaded;
 pub use lookup::find;
-pub use placing::{GREATEST_MOVE, hops, move_between, size_of};
+pub use placing::{GREATEST_MOVE, MOST_HOPS, hops, move_between, moved, part_move, size_of};
 pub use standing::{Reach, Standing};

@@ -1,14 +1,18 @@
-ghost use Rattle.std.specs.Prelude.{◌≡◌, ◌<◌, ◌≤◌, ◌-ℤ◌, IsTrue, unsigned_abs};
-ghost use Rattle.design_model.specs.declared.point.TheConstants.{NEEDLE_LIMIT};
+ghost use Rattle.std.specs.Prelude.{◌≡◌, ◌<◌, ◌≤◌, ◌+◌, ◌*◌, ℕ, ◌+ℤ◌, ◌-ℤ◌, ◌*ℤ◌, pos, IsTrue, unsigned_abs};
+ghost use Rattle.std.specs.Int.{int_div_euclid};
+ghost use Rattle.design_model.specs.declared.point.TheConstants.{JUMP_LIMIT, NEEDLE_LIMIT};
 ghost use Rattle.design_model.specs.Points.{is_within, move_between as move_of, size_of as size};
 ghost use Rattle.format_traits.specs.declared.format_object.TheConstants.{GREATEST_LIMIT};
-ghost use Rattle.format_traits.specs.Placing.{hops as hops_of};
+ghost use Rattle.format_traits.specs.Placing.{hops as hops_of, moved as moved_to, part_of as part_at};
 
 use crate::format_object::GREATEST_LIMIT;
 use design_model::Point;
 
 /// The greatest move between two needles on each axis, in tenths of a millimetre.
 pub const GREATEST_MOVE: u32 = 60_000;
+
+/// The most hops of a move, at the least limit that a format may have.
+pub const MOST_HOPS: u32 = 496;
 
 /// The move from one needle to another.
 pub fn move_between(from: Point, to: Point) -> Point
@@ -32,6 +36,26 @@ fn difference(from: i32, to: i32) -> i32
     to - from
 }
 
+/// The place after a move.
+pub fn moved(place: Point, step: Point) -> Point
+    requires place { IsTrue (is_within JUMP_LIMIT place) }
+    requires step { size step ≤ GREATEST_MOVE }
+    ensures { result ≡ moved_to place step }
+{
+    Point {
+        x: sum(place.x, step.x),
+        y: sum(place.y, step.y),
+    }
+}
+
+fn sum(place: i32, step: i32) -> i32
+    requires place { unsigned_abs place ≤ JUMP_LIMIT }
+    requires step { unsigned_abs step ≤ GREATEST_MOVE }
+    ensures { result ≡ place +ℤ step }
+{
+    place + step
+}
+
 /// The size of a move: that of its larger axis.
 pub fn size_of(step: Point) -> u32
     ensures { result ≡ size step }
@@ -47,4 +71,62 @@ pub fn hops(limit: u32, step: Point) -> u32
     ensures { result ≡ hops_of limit step }
 {
     (size_of(step) + (limit - 1)) / limit
+}
+
+/// The move of one of the `count` equal parts of a move, after the first `done` of them.
+pub fn part_move(step: Point, count: u32, done: u32) -> Point
+    requires size { size step ≤ GREATEST_MOVE }
+    requires there { done < count }
+    requires count { count ≤ MOST_HOPS }
+    ensures value { result ≡ move_of (part_at step count done) (part_at step count (done + 1)) }
+    ensures near { (limit : ℕ) → size step ≤ limit * count → size result ≤ limit }
+{
+    Point {
+        x: part_step(step.x, count, done),
+        y: part_step(step.y, count, done),
+    }
+}
+
+fn part_step(step: i32, count: u32, done: u32) -> i32
+    requires size { unsigned_abs step ≤ GREATEST_MOVE }
+    requires there { done < count }
+    requires count { count ≤ MOST_HOPS }
+    ensures value { result ≡ int_div_euclid (pos (done + 1) *ℤ step) (pos count)
+        -ℤ int_div_euclid (pos done *ℤ step) (pos count) }
+    ensures near { (limit : ℕ) → unsigned_abs step ≤ limit * count → unsigned_abs result ≤ limit }
+{
+    let end = part(step, count, done + 1);
+    let start = part(step, count, done);
+    less(end, start)
+}
+
+fn less(end: i32, start: i32) -> i32
+    requires end { unsigned_abs end ≤ GREATEST_MOVE }
+    requires start { unsigned_abs start ≤ GREATEST_MOVE }
+    ensures { result ≡ end -ℤ start }
+{
+    end - start
+}
+
+/// The end of the first `done` of the `count` equal parts of a move, rounded towards the lesser
+/// number.
+fn part(step: i32, count: u32, done: u32) -> i32
+    requires size { unsigned_abs step ≤ GREATEST_MOVE }
+    requires there { done ≤ count }
+    requires some { 0 < count }
+    requires count { count ≤ MOST_HOPS }
+    ensures value { result ≡ int_div_euclid (pos done *ℤ step) (pos count) }
+    ensures small { unsigned_abs result ≤ GREATEST_MOVE }
+{
+    floor_part(step, count, done)
+}
+
+fn floor_part(step: i32, count: u32, done: u32) -> i32
+    requires size { unsigned_abs step ≤ GREATEST_MOVE }
+    requires there { done ≤ count }
+    requires some { 0 < count }
+    requires count { count ≤ MOST_HOPS }
+    ensures { result ≡ int_div_euclid (pos done *ℤ step) (pos count) }
+{
+    (done as i32 * step).div_euclid(count as i32)
 }

@@ -2,10 +2,11 @@ use Rattle.std.proofs.Common.{◌≡◌, ◌≤◌, ◌+◌, length, IsTrue}
 use Rattle.std.specs.List.{list_all}
 use Rattle.design_model.specs.declared.design.TheConstants.{MAX_COMMANDS}
 use Rattle.design_model.specs.declared.point.TheConstants.{NEEDLE_LIMIT}
-use Rattle.design_model.specs.Acts.{acts_from, acts_along}
+use Rattle.design_model.specs.Acts.{acts_along}
 use Rattle.design_model.specs.Commands.{is_in_range}
 use Rattle.design_model.specs.Points.{is_within}
 use Rattle.format_traits.specs.Refusals.{refusal_from, first_refusal}
+use Rattle.format_traits.specs.Walks.{acts_after}
 use Rattle.dst_codec.specs.Surveys.{empty_survey}
 use Rattle.dst_codec.specs.Writing.{reach}
 use Rattle.dst_codec.proofs.SurveyLemmas.{surveyed}
@@ -13,15 +14,16 @@ use Rattle.dst_codec.proofs.survey.header_numbers.Given as goal
 
 -- the acts that are left, noted after those so far, come to a survey of all acts
 abbrev pub invariant-loop-rest : goal.invariant-loop-rest
-invariant-loop-rest l = let left = acts_from (l.number + 1) l.thread.loose l.thread.jumped l.rest in record {
-  count : l.number + length l.rest ≡ length l.commands;
+invariant-loop-rest l = record {
+  count : l.walk.number + length l.rest ≡ length l.commands;
   in_range : IsTrue (list_all is_in_range l.rest);
   place : IsTrue (is_within NEEDLE_LIMIT l.survey.standing.place);
   room : l.survey.standing.room ≤ MAX_COMMANDS;
   stops : l.survey.standing.stops ≤ l.survey.standing.room;
   records : l.survey.records ≤ l.survey.standing.room;
-  numbers : surveyed l.survey left ≡ surveyed empty_survey (acts_along l.commands);
-  refusal : refusal_from reach l.survey.standing left ≡ first_refusal reach (acts_along l.commands);
+  numbers : surveyed l.survey (acts_after l.walk l.rest) ≡ surveyed empty_survey (acts_along l.commands);
+  refusal : refusal_from reach l.survey.standing (acts_after l.walk l.rest)
+      ≡ first_refusal reach (acts_along l.commands);
 }
 
 abbrev pub decreases-loop-rest : goal.decreases-loop-rest

@@ -1,0 +1,9 @@
+pub mod Hops
+pub mod Parts
+pub mod Steps
+pub mod Runs
+pub mod Acts
+pub mod Rooms
+pub mod Again
+pub mod Label
+pub mod Reach

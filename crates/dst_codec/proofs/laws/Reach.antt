@@ -1,0 +1,314 @@
+-- No stitch and no float that was read is too long to be written: a stitch is one record's move,
+-- and between a needle and a float's needle at most two jumps are read, since a third is a trim.
+use Rattle.std.proofs.Common.{◌≡◌, ◌≢◌, ℕ, ◌+◌, ◌-◌, ◌*◌, ◌/◌, ◌%◌, ◌≤◌, ℤ, pos, ◌+ℤ◌, ◌-ℤ◌, unsigned_abs, Bool, true, false, not, ◌&&◌, List, [], ◌∷◌, length, drop, Option, Some, None, Result, Ok, Err, IfOk, nat_lt, nat_le, ◌==◌, if◌then◌else◌, refl, sym, subst, arith}
+use Rattle.std.proofs.lemmas.Bool.{eqb-false, le-ltb}
+use Rattle.std.proofs.lemmas.Int.{ints}
+use Rattle.design_model.specs.declared.act.Act.TheVariants as act
+use Rattle.design_model.specs.declared.act.NumberedAct.{NumberedAct}
+use Rattle.design_model.specs.declared.command.Command.{Command}
+use Rattle.design_model.specs.declared.command.Command.TheVariants.{Stitch, Jump, Trim, Stop}
+use Rattle.design_model.specs.declared.design.TheConstants.{MAX_COMMANDS}
+use Rattle.design_model.specs.declared.point.Point.{Point}
+use Rattle.design_model.specs.Acts.{acts_from, acts_along, numbered}
+use Rattle.design_model.specs.Commands.{is_in_range}
+use Rattle.design_model.specs.Points.{origin, move_between, size_of}
+use Rattle.format_traits.specs.declared.fault.ReadFault.{ReadFault}
+use Rattle.format_traits.specs.declared.fault.ReadFault.TheVariants as read
+use Rattle.format_traits.specs.declared.fault.WriteFault.{WriteFault}
+use Rattle.format_traits.specs.declared.fault.WriteFault.TheVariants as fault
+use Rattle.format_traits.specs.declared.standing.Standing.{Standing}
+use Rattle.format_traits.specs.Placing.{moved, hops}
+use Rattle.format_traits.specs.PlainDesigns.{is_same_point}
+use Rattle.format_traits.specs.Readings.{Course, after_commands, tried, tries, loaded_with}
+use Rattle.format_traits.specs.Refusals.{beginning, standing_after, passes, refused_where, needle_refusal, own_refusal, or_else, refusal_at, refusal_from, first_refusal, unless_refused}
+use Rattle.dst_codec.specs.declared.dst.TheConstants.{LIMIT}
+use Rattle.dst_codec.specs.declared.header.TheConstants.{HEADER_LENGTH}
+use Rattle.dst_codec.specs.declared.record_kind.RecordKind.{RecordKind}
+use Rattle.dst_codec.specs.declared.record_kind.RecordKind.TheVariants as kind
+use Rattle.dst_codec.specs.Bits.{move_of, kind_of, rightwards, leftwards, upwards, downwards}
+use Rattle.dst_codec.specs.Laws.{ReadIsWithinReach}
+use Rattle.dst_codec.specs.Reading.{commands_of, run_after, read_record, reads_from, label_of}
+use Rattle.dst_codec.specs.Writing.{reach, file_of, writes}
+
+-- the refusal of a long stitch or a long float
+abbrev pub is_long : Option WriteFault → Bool
+is_long None = false
+is_long (Some (fault.StitchTooLong number)) = true
+is_long (Some (fault.FloatTooLong number)) = true
+is_long (Some (fault.TooManyStops number)) = false
+is_long (Some (fault.TooLong number)) = false
+is_long (Some fault.Memory) = false
+
+long-or_else : (one other : Option WriteFault) → is_long one ≡ false → is_long other ≡ false
+    → is_long (or_else one other) ≡ false
+long-or_else None other first second = second
+long-or_else (Some f) other first second = first
+
+long-stops : (b : Bool) (number : ℕ) → is_long (refused_where b (fault.TooManyStops number)) ≡ false
+long-stops true number = refl
+long-stops false number = refl
+
+long-room : (b : Bool) (number : ℕ) → is_long (refused_where b (fault.TooLong number)) ≡ false
+long-room true number = refl
+long-room false number = refl
+
+long-none : (b : Bool) (f : WriteFault) → b ≡ false → is_long (refused_where b f) ≡ false
+long-none true f is = cc
+long-none false f is = refl
+
+-- a record's move is within the limit
+move_small : (a b c : ℕ) → (unsigned_abs (move_of a b c).x ≤ LIMIT) × (unsigned_abs (move_of a b c).y ≤ LIMIT)
+move_small a b c = (
+  apart (rightwards a b c) (leftwards a b c) (sum_small a b c 1 4) (sum_small a b c 2 8),
+  apart (downwards a b c) (upwards a b c) (sum_small a b c 64 16) (sum_small a b c 128 32),
+)
+  where
+    sum_small : (a b c one nine : ℕ)
+        → a / one % 2 + 3 * (b / one % 2) + 9 * (a / nine % 2) + 27 * (b / nine % 2) + 81 * (c / nine % 2) ≤ 121
+    sum_small a b c one nine = parts_small (a / one) (b / one) (a / nine) (b / nine) (c / nine)
+      where
+        parts_small : (p q r s t : ℕ) → p % 2 + 3 * (q % 2) + 9 * (r % 2) + 27 * (s % 2) + 81 * (t % 2) ≤ 121
+        parts_small p q r s t = omega arith
+
+    apart : (u v : ℕ) → u ≤ LIMIT → v ≤ LIMIT → unsigned_abs (pos u -ℤ pos v) ≤ LIMIT
+    apart u v hu hv = omega (arith, ints)
+
+-- how far a reader can be from the last needle, while the thread is not loose
+pub record IsNear (needle : Point) (run : ℕ) (place : Point) (jumped : Bool) : Type 0 where
+  pub few : run ≤ 2
+  pub still : jumped ≡ false → run ≡ 0
+  pub x : unsigned_abs (place.x -ℤ needle.x) ≤ run * LIMIT
+  pub y : unsigned_abs (place.y -ℤ needle.y) ≤ run * LIMIT
+
+farther : (x z n : ℤ) (run : ℕ) → unsigned_abs (x -ℤ n) ≤ run * LIMIT → unsigned_abs z ≤ LIMIT
+    → unsigned_abs ((x +ℤ z) -ℤ n) ≤ (run + 1) * LIMIT
+farther x z n run near small = omega (arith, ints)
+
+at_needle : (p : Point) → IsNear p 0 p false
+at_needle p = record { few = omega arith; still = λ same. refl; x = none p.x; y = none p.y }
+  where
+    none : (x : ℤ) → unsigned_abs (x -ℤ x) ≤ 0 * LIMIT
+    none x = omega (arith, ints)
+
+-- no act of the commands is refused as long
+abbrev IsWithin : Bool → Standing → List Command → Type 0
+IsWithin jumped s commands = (n : ℕ) → is_long (refusal_from reach s (acts_from n s.loose jumped commands)) ≡ false
+
+-- an act and those after it
+one_more : (s : Standing) (a : NumberedAct) (rest : List NumberedAct) → is_long (own_refusal reach s a.act a.number) ≡ false
+    → is_long (refusal_from reach (standing_after LIMIT s a.act) rest) ≡ false
+    → is_long (refusal_from reach s (a ∷ rest)) ≡ false
+one_more s a rest own more =
+    long-or_else (refusal_at reach s a) (refusal_from reach (standing_after LIMIT s a.act) rest)
+    (long-or_else (own_refusal reach s a.act a.number)
+    (refused_where (nat_lt MAX_COMMANDS (standing_after LIMIT s a.act).room) (fault.TooLong a.number)) own
+    (long-room (nat_lt MAX_COMMANDS (standing_after LIMIT s a.act).room) a.number))
+    more
+
+-- a needle after the next record
+long-needle : (loose jumped : Bool) (m : Point) (run number : ℕ)
+    → (loose ≡ false → (run ≤ 2) × (jumped ≡ false → run ≡ 0) × (size_of m ≤ (run + 1) * LIMIT))
+    → is_long (needle_refusal reach loose (jumped && not loose) m number) ≡ false
+long-needle true true m run number near = refl
+long-needle true false m run number near = refl
+long-needle false true m run number near =
+    let few = near refl in
+    long-none (nat_lt 3 (hops LIMIT m)) (fault.FloatTooLong number)
+    (le-ltb 3 (hops LIMIT m) (hops_few (size_of m) run few.0 few.2))
+  where
+    hops_few : (size run : ℕ) → run ≤ 2 → size ≤ (run + 1) * LIMIT → (size + (LIMIT - 1)) / LIMIT ≤ 3
+    hops_few size run few small = omega (arith, few, small)
+long-needle false false m run number near =
+    let few = near refl in
+    let none : run ≡ 0 = few.1 refl in
+    long-none (nat_lt LIMIT (size_of m)) (fault.StitchTooLong number) (le-ltb LIMIT (size_of m) (omega (arith, few.2, none)))
+
+-- a stitch by a record's move
+within-stitch : (s : Standing) (jumped : Bool) (run : ℕ) (place m : Point) (commands : List Command)
+    → (s.loose ≡ false → IsNear s.place run place jumped)
+    → (unsigned_abs m.x ≤ LIMIT) × (unsigned_abs m.y ≤ LIMIT)
+    → ((s' : Standing) → s'.loose ≡ false → s'.place ≡ moved place m → IsWithin false s' commands)
+    → IsWithin jumped s (Stitch (moved place m) ∷ commands)
+within-stitch s jumped run place m commands near small more = λ n.
+    let a = numbered n (act.Needle (moved place m) (jumped && not s.loose)) in
+    one_more s a (acts_from (n + 1) false false commands)
+    (long-needle s.loose jumped (move_between s.place (moved place m)) run n (λ tied.
+    let is = near tied in
+    let x = farther place.x m.x s.place.x run is.x small.0 in
+    let y = farther place.y m.y s.place.y run is.y small.1 in
+    (is.few, is.still, omega (arith, x, y))))
+    (more (standing_after LIMIT s a.act) refl refl (n + 1))
+
+within-jump : (s : Standing) (jumped : Bool) (there : Point) (commands : List Command)
+    → IsWithin true s commands → IsWithin jumped s (Jump there ∷ commands)
+within-jump s jumped there commands more = λ n. more (n + 1)
+
+-- the third jump of a run
+within-third : (loose : Bool) (s : Standing) (jumped : Bool) (there : Point) (commands : List Command) → s.loose ≡ loose
+    → ((s' : Standing) → s'.loose ≡ true → IsWithin true s' commands)
+    → IsWithin jumped s (Trim ∷ Jump there ∷ commands)
+within-third true s jumped there commands is more = λ n.
+    subst (λ l. is_long (refusal_from reach s (acts_from n l jumped (Trim ∷ Jump there ∷ commands))) ≡ false) (sym is)
+    (subst (λ l. is_long (refusal_from reach s (acts_from (n + 1 + 1) l true commands)) ≡ false) is (more s is (n + 1 + 1)))
+within-third false s jumped there commands is more = λ n.
+    subst (λ l. is_long (refusal_from reach s (acts_from n l jumped (Trim ∷ Jump there ∷ commands))) ≡ false) (sym is)
+    (one_more s (numbered n act.Trim) (acts_from (n + 1 + 1) true true commands) refl
+    (more (standing_after LIMIT s act.Trim) refl (n + 1 + 1)))
+
+-- a stop
+within-stop : (s : Standing) (jumped : Bool) (commands : List Command)
+    → ((s' : Standing) → s'.loose ≡ true → IsWithin false s' commands)
+    → IsWithin jumped s (Stop ∷ commands)
+within-stop s jumped commands more = λ n.
+    one_more s (numbered n act.Stop) (acts_from (n + 1) true false commands)
+    (long-stops (passes reach.stops (s.stops + 1)) n)
+    (more (standing_after LIMIT s act.Stop) refl (n + 1))
+
+-- a command that is tried
+tried_ok : (at count : ℕ) (command : Command) (rest : Result Course ReadFault) (P : List Command → Type 0)
+    → IfOk rest (λ course. P (command ∷ course.commands))
+    → IfOk (tried at count command rest) (λ course. P course.commands)
+tried_ok at count command rest P ok = by_tests (not (is_in_range command)) (nat_le MAX_COMMANDS count) rest ok
+  where
+    by_tests : (b c : Bool) (rest : Result Course ReadFault) → IfOk rest (λ course. P (command ∷ course.commands))
+        → IfOk (if b then Err (read.Range at) else (if c then Err (read.TooMany at) else after_commands (command ∷ []) rest))
+        (λ course. P course.commands)
+    by_tests true c rest ok = tt
+    by_tests false true rest ok = tt
+    by_tests false false (Ok course) ok = ok
+    by_tests false false (Err f) ok = tt
+
+-- what comes of a rest, whatever stands before it
+abbrev RestIsWithin : ℕ → Point → Result Course ReadFault → Type 0
+RestIsWithin run place rest = (s : Standing) (jumped : Bool) → (s.loose ≡ false → IsNear s.place run place jumped)
+    → IfOk rest (λ course. IsWithin jumped s course.commands)
+
+-- a loose thread asks for nothing
+loose_free : (P : Type 0) (s : Standing) → s.loose ≡ true → s.loose ≡ false → P
+loose_free P s loose tied = absurd (let no : ⊥ = cc in no)
+
+stitch_ok : (s : Standing) (jumped : Bool) (run : ℕ) (place m : Point) (rest : Result Course ReadFault)
+    → (unsigned_abs m.x ≤ LIMIT) × (unsigned_abs m.y ≤ LIMIT)
+    → (s.loose ≡ false → IsNear s.place run place jumped) → RestIsWithin 0 (moved place m) rest
+    → IfOk rest (λ course. IsWithin jumped s (Stitch (moved place m) ∷ course.commands))
+stitch_ok s jumped run place m (Err f) small near on = tt
+stitch_ok s jumped run place m (Ok course) small near on =
+    within-stitch s jumped run place m course.commands near small
+    (λ s' loose here. on s' false (λ tied.
+    subst (λ q. IsNear q 0 (moved place m) false) (sym here) (at_needle (moved place m))))
+
+jump_ok : (s : Standing) (jumped : Bool) (run : ℕ) (place m : Point) (rest : Result Course ReadFault)
+    → (unsigned_abs m.x ≤ LIMIT) × (unsigned_abs m.y ≤ LIMIT) → run ≢ 2
+    → (s.loose ≡ false → IsNear s.place run place jumped) → RestIsWithin (run + 1) (moved place m) rest
+    → IfOk rest (λ course. IsWithin jumped s (Jump (moved place m) ∷ course.commands))
+jump_ok s jumped run place m (Err f) small other near on = tt
+jump_ok s jumped run place m (Ok course) small other near on =
+    within-jump s jumped (moved place m) course.commands (on s true (λ tied.
+    let is = near tied in
+    record {
+      few = omega (arith, is.few, other);
+      still = λ same. absurd (let no : ⊥ = cc in no);
+      x = farther place.x m.x s.place.x run is.x small.0;
+      y = farther place.y m.y s.place.y run is.y small.1;
+    }))
+
+third_ok : (s : Standing) (jumped : Bool) (run : ℕ) (there : Point) (rest : Result Course ReadFault)
+    → RestIsWithin (run + 1) there rest
+    → IfOk rest (λ course. IsWithin jumped s (Trim ∷ Jump there ∷ course.commands))
+third_ok s jumped run there (Err f) on = tt
+third_ok s jumped run there (Ok course) on = within-third s.loose s jumped there course.commands refl
+    (λ s' loose. on s' true (loose_free (IsNear s'.place (run + 1) there true) s' loose))
+
+stop_ok : (s : Standing) (jumped : Bool) (there : Point) (rest : Result Course ReadFault) → RestIsWithin 0 there rest
+    → IfOk rest (λ course. IsWithin jumped s (Stop ∷ course.commands))
+stop_ok s jumped there (Err f) on = tt
+stop_ok s jumped there (Ok course) on = within-stop s jumped course.commands
+    (λ s' loose. on s' false (loose_free (IsNear s'.place 0 there false) s' loose))
+
+stop_jump_ok : (s : Standing) (jumped : Bool) (there : Point) (rest : Result Course ReadFault) → RestIsWithin 0 there rest
+    → IfOk rest (λ course. IsWithin jumped s (Stop ∷ Jump there ∷ course.commands))
+stop_jump_ok s jumped there (Err f) on = tt
+stop_jump_ok s jumped there (Ok course) on = within-stop s jumped (Jump there ∷ course.commands)
+    (λ s' loose. within-jump s' false there course.commands
+    (on s' true (loose_free (IsNear s'.place 0 there true) s' loose)))
+
+-- a jump record, by whether it is the third of its run
+jumps_ok : (third : Bool) (at count run : ℕ) (place m : Point) (s : Standing) (jumped : Bool) (rest : Result Course ReadFault)
+    → (run == 2) ≡ third → (unsigned_abs m.x ≤ LIMIT) × (unsigned_abs m.y ≤ LIMIT)
+    → (s.loose ≡ false → IsNear s.place run place jumped) → RestIsWithin (run + 1) (moved place m) rest
+    → IfOk (tries at count (if third then Trim ∷ Jump (moved place m) ∷ [] else Jump (moved place m) ∷ []) rest)
+    (λ course. IsWithin jumped s course.commands)
+jumps_ok true at count run place m s jumped rest is small near on =
+    tried_ok at count Trim (tried at (count + 1) (Jump (moved place m)) rest) (IsWithin jumped s)
+    (tried_ok at (count + 1) (Jump (moved place m)) rest (λ commands. IsWithin jumped s (Trim ∷ commands))
+    (third_ok s jumped run (moved place m) rest on))
+jumps_ok false at count run place m s jumped rest is small near on =
+    tried_ok at count (Jump (moved place m)) rest (IsWithin jumped s)
+    (jump_ok s jumped run place m rest small (eqb-false run 2 is) near on)
+
+-- a stop record, by whether it moves
+stops_ok : (still : Bool) (at count : ℕ) (there : Point) (s : Standing) (jumped : Bool) (rest : Result Course ReadFault)
+    → RestIsWithin 0 there rest
+    → IfOk (tries at count (if still then Stop ∷ [] else Stop ∷ Jump there ∷ []) rest)
+    (λ course. IsWithin jumped s course.commands)
+stops_ok true at count there s jumped rest on =
+    tried_ok at count Stop rest (IsWithin jumped s) (stop_ok s jumped there rest on)
+stops_ok false at count there s jumped rest on =
+    tried_ok at count Stop (tried at (count + 1) (Jump there) rest) (IsWithin jumped s)
+    (tried_ok at (count + 1) (Jump there) rest (λ commands. IsWithin jumped s (Stop ∷ commands))
+    (stop_jump_ok s jumped there rest on))
+
+-- a record of each kind
+record_ok : (k : RecordKind) (at count run : ℕ) (place m : Point) (s : Standing) (jumped : Bool)
+    → (unsigned_abs m.x ≤ LIMIT) × (unsigned_abs m.y ≤ LIMIT)
+    → (s.loose ≡ false → IsNear s.place run place jumped)
+    → (rest : Result Course ReadFault) → RestIsWithin (run_after k run) (moved place m) rest
+    → IfOk (read_record k at count (commands_of k run m (moved place m)) rest) (λ course. IsWithin jumped s course.commands)
+record_ok kind.Stitch at count run place m s jumped small near rest on =
+    tried_ok at count (Stitch (moved place m)) rest (IsWithin jumped s) (stitch_ok s jumped run place m rest small near on)
+record_ok kind.Jump at count run place m s jumped small near rest on =
+    jumps_ok (run == 2) at count run place m s jumped rest refl small near on
+record_ok kind.Stop at count run place m s jumped small near rest on =
+    stops_ok (is_same_point m origin) at count (moved place m) s jumped rest on
+record_ok kind.Sequin at count run place m s jumped small near rest on = tt
+record_ok kind.End at count run place m s jumped small near rest on = λ n. refl
+
+-- the records from a place on
+records_ok : (bytes : List ℕ) (at count run : ℕ) (place : Point)
+    → RestIsWithin run place (reads_from at count run place bytes)
+records_ok [] at count run place = λ s jumped near. λ n. refl
+records_ok (a ∷ []) at count run place = λ s jumped near. λ n. refl
+records_ok (a ∷ b ∷ []) at count run place = λ s jumped near. λ n. refl
+records_ok (a ∷ b ∷ c ∷ rest) at count run place = λ s jumped near.
+    let m = move_of a b c in
+    let k = kind_of c in
+    let there = moved place m in
+    record_ok k at count run place m s jumped (move_small a b c) near
+    (reads_from (at + 3) (count + length (commands_of k run m there)) (run_after k run) there rest)
+    (records_ok rest (at + 3) (count + length (commands_of k run m there)) (run_after k run) there)
+
+-- a refusal that is not long
+not_long : (r : Option WriteFault) (bytes : List ℕ) (number : ℕ) → is_long r ≡ false
+    → (unless_refused r bytes ≢ Err (fault.StitchTooLong number)) × (unless_refused r bytes ≢ Err (fault.FloatTooLong number))
+not_long None bytes number short = (λ same. cc, λ same. cc)
+not_long (Some (fault.StitchTooLong n)) bytes number short = absurd (let no : ⊥ = cc in no)
+not_long (Some (fault.FloatTooLong n)) bytes number short = absurd (let no : ⊥ = cc in no)
+not_long (Some (fault.TooManyStops n)) bytes number short = (λ same. cc, λ same. cc)
+not_long (Some (fault.TooLong n)) bytes number short = (λ same. cc, λ same. cc)
+not_long (Some fault.Memory) bytes number short = (λ same. cc, λ same. cc)
+
+-- what was read is not refused for a long stitch or a long float
+pub read_is_within_reach : ReadIsWithinReach
+read_is_within_reach bytes = by_length (nat_lt (length bytes) HEADER_LENGTH)
+    (reads_from HEADER_LENGTH 0 0 origin (drop HEADER_LENGTH bytes))
+    (records_ok (drop HEADER_LENGTH bytes) HEADER_LENGTH 0 0 origin beginning false
+    (loose_free (IsNear origin 0 origin false) beginning refl))
+  where
+    by_length : (b : Bool) (course : Result Course ReadFault) → IfOk course (λ c. IsWithin false beginning c.commands)
+        → IfOk (if b then Err (read.Short (length bytes)) else loaded_with (label_of bytes) [] course) (λ loaded. (number : ℕ)
+        → (writes loaded.design ≢ Err (fault.StitchTooLong number)) × (writes loaded.design ≢ Err (fault.FloatTooLong number)))
+    by_length true course within = tt
+    by_length false (Err f) within = tt
+    by_length false (Ok c) within = λ number.
+        not_long (first_refusal reach (acts_along c.commands))
+        (file_of (label_of bytes) (acts_along c.commands)) number (within 1)

@@ -1,0 +1,10 @@
+use Rattle.std.proofs.Common.{◌≡◌, ◌-◌, ◌++◌, map}
+use Rattle.std.specs.List.{concat}
+use Rattle.format_traits.specs.Placing.{parts_from}
+use Rattle.dst_codec.specs.Spelling.{jump_record}
+use Rattle.dst_codec.proofs.records.put_jumps.Given as goal
+
+-- the jumps so far, and those of the parts that are left
+abbrev pub invariant-loop-done : goal.invariant-loop-done
+invariant-loop-done l = l.out ++ concat (map jump_record (parts_from l.step l.count l.done (l.wanted - l.done)))
+    ≡ l.fn.out ++ concat (map jump_record (parts_from l.step l.count 0 l.wanted))

@@ -1,0 +1,34 @@
+-- What it means to add the commands of one record to a design that is being read.
+use Rattle.std.specs.Prelude.{◌≡◌, ◌+◌, ◌≤◌, List, ◌++◌, length, Result, Ok, Err, IsTrue, ℕ}
+use Rattle.std.specs.List.{list_all}
+use Rattle.design_model.specs.declared.command.Command.{Command}
+use Rattle.design_model.specs.declared.design.TheConstants.{MAX_COMMANDS}
+use Rattle.design_model.specs.Commands.{is_in_range}
+use Rattle.design_model.specs.Designs.{DesignValue}
+use Rattle.format_traits.specs.declared.fault.ReadFault.{ReadFault}
+use Rattle.format_traits.specs.declared.fault.ReadFault.TheVariants as fault
+use Rattle.format_traits.specs.Readings.{Course, tries}
+
+-- the design with further commands
+abbrev pub with_commands : DesignValue → List Command → DesignValue
+with_commands d more = record d { commands = d.commands ++ more }
+
+-- the commands are in range, and the design has room for them
+abbrev pub Fit : List Command → DesignValue → Type 0
+Fit commands d = IsTrue (list_all is_in_range commands) × (length d.commands + length commands ≤ MAX_COMMANDS)
+
+-- trying the commands of the record at that offset comes to a refusal
+abbrev pub Refuses : ℕ → List Command → DesignValue → ReadFault → Type 0
+Refuses at commands d f =
+    (rest : Result Course ReadFault) → tries at (length d.commands) commands rest ≡ Err f
+
+-- what each answer means
+abbrev pub Keeps : {T : Type 0} → ℕ → List Command → DesignValue → Result T ReadFault → DesignValue → Type 0
+Keeps at commands old (Ok _) new = Fit commands old × (new ≡ with_commands old commands)
+Keeps at commands old (Err (fault.Short a)) new = Refuses at commands old (fault.Short a)
+Keeps at commands old (Err (fault.Signature a)) new = Refuses at commands old (fault.Signature a)
+Keeps at commands old (Err (fault.Sequin a)) new = Refuses at commands old (fault.Sequin a)
+Keeps at commands old (Err (fault.Control a)) new = Refuses at commands old (fault.Control a)
+Keeps at commands old (Err (fault.Range a)) new = Refuses at commands old (fault.Range a)
+Keeps at commands old (Err (fault.TooMany a)) new = Refuses at commands old (fault.TooMany a)
+Keeps at commands old (Err fault.Memory) new = Unit {0}

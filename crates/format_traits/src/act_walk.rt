@@ -1,0 +1,49 @@
+ghost use Rattle.std.specs.Prelude.{◌≡◌, ◌∷◌, ◌++◌, ◌+◌, ◌<◌, ◌^◌, List, IsTrue, IfSome, option_to_list};
+ghost use Rattle.design_model.specs.declared.command.Command.{Command as CommandValue};
+ghost use Rattle.design_model.specs.Acts.{acts_along};
+ghost use Rattle.design_model.specs.Commands.{is_in_range};
+ghost use Rattle.format_traits.specs.Placing.{is_act_in_range};
+ghost use Rattle.format_traits.specs.Walks.{acts_after};
+
+use design_model::{Command, NumberedAct, ThreadState};
+
+/// A walk through the commands of a design, which gives their acts.
+#[derive(Clone, Copy, Debug, PartialEq, Eq)]
+pub struct ActWalk {
+    /// The commands so far.
+    pub number: u32,
+    /// How the thread stands after them.
+    pub thread: ThreadState,
+}
+
+impl ActWalk {
+    /// Before the first command.
+    pub fn new() -> Self
+        ensures first { (commands : List CommandValue) → acts_after result commands ≡ acts_along commands }
+        ensures number { result.number ≡ 0 }
+    {
+        ActWalk {
+            number: 0,
+            thread: ThreadState::new(),
+        }
+    }
+
+    /// The act of the next command, if it is one.
+    pub fn next(&mut self, command: Command) -> Option<NumberedAct>
+        requires number { self.old.number + 1 < 2 ^ 32 }
+        requires in_range { IsTrue (is_in_range command) }
+        ensures value { (rest : List CommandValue) → acts_after self.old (command ∷ rest)
+            ≡ option_to_list result ++ acts_after self.new rest }
+        ensures number { self.new.number ≡ self.old.number + 1 }
+        ensures in_range { IfSome result (λ a. IsTrue (is_act_in_range a.act)) }
+    {
+        self.number += 1;
+        match self.thread.step(command) {
+            Some(act) => Some(NumberedAct {
+                number: self.number,
+                act,
+            }),
+            None => None,
+        }
+    }
+}
