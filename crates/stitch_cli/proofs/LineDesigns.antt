@@ -12,8 +12,9 @@ use Rattle.design_model.specs.Points.{is_within, move_between, origin}
 use Rattle.format_traits.specs.declared.fault.ReadFault.{ReadFault}
 use Rattle.format_traits.specs.declared.loaded.Loaded.{Loaded}
 use Rattle.format_traits.specs.Laws.{IsAgain}
-use Rattle.format_traits.specs.PlainDesigns.{IsPlainLine, is_line_from}
+use Rattle.format_traits.specs.PlainDesigns.{IsPlain, are_plain_from}
 use Rattle.format_traits.specs.Placing.{hops}
+use Rattle.format_traits.specs.Refusals.{stops_of}
 use Rattle.format_traits.specs.Rooms.{loose_room, room_from}
 use Rattle.line_graph.specs.declared.pass.Pass.{Pass}
 use Rattle.line_graph.specs.Drawings.{DrawingValue, first_of, points_of}
@@ -67,12 +68,17 @@ within_more small large m more within = both _ _
     (le_more (unsigned_abs m.x) small large more (left _ (nat_le (unsigned_abs m.y) small) within))
     (le_more (unsigned_abs m.y) small large more (right (nat_le (unsigned_abs m.x) small) _ within))
 
--- close points are a plain line to its trim
-close_is_line : (step limit : ℕ) (p : Point) (rest : List Point) → step ≤ limit → KeepsClose step p rest
-    → IsTrue (is_line_from limit p (map (λ q. Stitch q) rest ++ Trim ∷ []))
-close_is_line step limit p [] more close = refl
-close_is_line step limit p (q ∷ rest) more close = both _ _
-    (within_more step limit (move_between p q) more close.0) (close_is_line step limit q rest more close.1)
+-- close points are plain needles to the trim
+close_is_plain : (step limit n : ℕ) (p : Point) (rest : List Point) → step ≤ limit → KeepsClose step p rest
+    → IsTrue (are_plain_from limit false p (acts_from n false false (map (λ q. Stitch q) rest ++ Trim ∷ [])))
+close_is_plain step limit n p [] more close = refl
+close_is_plain step limit n p (q ∷ rest) more close = both _ _
+    (within_more step limit (move_between p q) more close.0) (close_is_plain step limit (n + 1) q rest more close.1)
+
+-- there is no stop among them
+no_stops : (n : ℕ) (rest : List Point) → stops_of (acts_from n false false (map (λ q. Stitch q) rest ++ Trim ∷ [])) ≡ 0
+no_stops n [] = refl
+no_stops n (q ∷ rest) = let more = no_stops (n + 1) rest in omega (arith, more)
 
 -- each further stitch takes one place, and the trim four
 room_along : (limit n : ℕ) (p : Point) (rest : List Point)
@@ -90,17 +96,19 @@ loose_on_the_spot hop none = rw none refl
 -- the design of a line from the origin whose points are close is plain
 pub line_is_plain : (step limit thread : ℕ) (points : List Point) → 1 ≤ limit → step ≤ limit
     → first_of points ≡ Some origin → AreClose step points → length points ≤ 200001
-    → IsPlainLine limit (line_design thread points)
+    → IsPlain limit (line_design thread points)
 line_is_plain step limit thread [] some more first close few = cc
 line_is_plain step limit thread (p ∷ rest) some more first close few =
     let at : p ≡ origin = cc in
-    subst (λ (q : Point). KeepsClose step q rest → IsPlainLine limit (line_design thread (q ∷ rest))) (sym at)
+    subst (λ (q : Point). KeepsClose step q rest → IsPlain limit (line_design thread (q ∷ rest))) (sym at)
     (λ (near : KeepsClose step origin rest). record {
-      line = close_is_line step limit origin rest more near;
+      needles = close_is_plain step limit 2 origin rest more near;
+      stops = let none : stops_of (acts_from 2 false false (map (λ q. Stitch q) rest ++ Trim ∷ [])) ≡ 0 = no_stops 2 rest in
+              omega (arith, none);
       room = let along : room_from limit false origin (acts_from 2 false false (map (λ q. Stitch q) rest ++ Trim ∷ [])) ≡ length rest + 4
-          = room_along limit 2 origin rest in
-          let spot : loose_room (hops limit (move_between origin origin)) ≡ 1 = loose_on_the_spot _ (no_hops limit some) in
-          omega (arith, along, spot, few);
+                 = room_along limit 2 origin rest in
+             let spot : loose_room (hops limit (move_between origin origin)) ≡ 1 = loose_on_the_spot _ (no_hops limit some) in
+             omega (arith, along, spot, few);
     }) close
 
 -- a line with a first point has needles

@@ -4,7 +4,7 @@ use Rattle.design_model.specs.declared.command.Command.TheVariants.{Stitch, Trim
 use Rattle.design_model.specs.declared.point.Point.{Point}
 use Rattle.design_model.specs.Designs.{DesignValue}
 use Rattle.format_traits.specs.Meanings.{Meaning}
-use Rattle.format_traits.specs.PlainDesigns.{IsPlainLine}
+use Rattle.format_traits.specs.PlainDesigns.{IsPlain}
 use Rattle.line_graph.specs.Drawings.{DrawingValue}
 use Rattle.line_graph.specs.Laws.{along_first}
 use Rattle.outside_io.specs.Blames.{read_of, write_of}
@@ -29,7 +29,7 @@ line_design thread points = record {
 
 -- every format whose limit is not below the step can write the design
 abbrev pub IsPlainAbove : ℕ → DesignValue → Type 0
-IsPlainAbove step design = (limit : ℕ) → step ≤ limit → IsPlainLine limit design
+IsPlainAbove step design = (limit : ℕ) → step ≤ limit → IsPlain limit design
 
 -- the reading of a drawing's file
 abbrev pub ReadsDrawing : List ℕ → StoreSight → StoreSight → Result DrawingValue Stop → Type 0

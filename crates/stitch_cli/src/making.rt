@@ -1,5 +1,5 @@
 ghost use Rattle.std.specs.Prelude.{◌≡◌, ◌∷◌, [], IfOk};
-ghost use Rattle.format_traits.specs.PlainDesigns.{IsPlainLine};
+ghost use Rattle.format_traits.specs.PlainDesigns.{IsPlain};
 ghost use Rattle.line_graph.specs.Laws.{AreNeedlesOf, along_first};
 ghost use Rattle.line_graph.specs.Loops.{IsLoop};
 ghost use Rattle.line_graph.specs.Sewing.{sewn_design};
@@ -77,7 +77,7 @@ fn write_design(
 ) -> Result<Bytes, Memory>
     requires closed { IsLoop drawing.now }
     requires sewn { design.now ≡ sewn_design drawing.now (along_first ∷ []) }
-    requires plain { IsPlainLine (meaning format.now).limit design.now }
+    requires plain { IsPlain (meaning format.now).limit design.now }
     ensures { IfOk result (SewsIn (meaning format.now) drawing.now along_first) }
 {
     let _step = drawing.step();
