@@ -5,6 +5,7 @@
 mod bits;
 mod dst;
 mod header;
+mod promises;
 mod reading;
 mod record_kind;
 mod records;
@@ -16,4 +17,5 @@ mod writing;
 
 pub use bits::decode_move;
 pub use dst::{Dst, LIMIT, MAX_FLOAT_HOPS, MAX_STOPS};
+pub use promises::{label_reads_again, read_is_within_reach, written_reads_again};
 pub use spelling::encode_move;

@@ -1,4 +1,5 @@
-ghost use Rattle.format_traits.specs.Laws.{Writes};
+ghost use Rattle.format_traits.specs.Laws.{KeepsLaws, Writes};
+ghost use Rattle.dst_codec.specs.Format.{dst};
 ghost use Rattle.dst_codec.specs.Writing.{writes};
 
 use crate::header::new_header;
@@ -13,7 +14,8 @@ const END: [u8; 3] = [0, 0, 0xF3];
 
 /// The file of a design. No memory is asked for before all acts are accepted.
 pub fn write_file(alloc: Global, design: &Design) -> Result<Bytes, WriteFault>
-    ensures { Writes (writes design.now) result }
+    ensures value { Writes (writes design.now) result }
+    ensures laws { KeepsLaws dst design.now }
 {
     let numbers = match header_numbers(design.commands()) {
         Ok(numbers) => numbers,
