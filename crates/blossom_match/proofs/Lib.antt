@@ -1,0 +1,2 @@
+pub mod MatchingFacts
+pub mod TableLemmas

@@ -1,0 +1,33 @@
+-- Tables of distances, in whole steps. Places are numbered from 0.
+use Rattle.std.specs.Prelude.{◌≡◌, ◌≢◌, ◌==◌, ◌&&◌, ◌||◌, ℕ, ◌+◌, ◌*◌, ◌<◌, ◌≤◌, length, slice_index, replicate, if◌then◌else◌}
+
+use Rattle.blossom_match.specs.TableValue.{TableValue}
+use Rattle.blossom_match.specs.declared.table.TheConstants.{MAX_DISTANCE, MAX_PLACES}
+
+-- the distance of two places
+abbrev pub entry : TableValue → ℕ → ℕ → ℕ
+entry t a b = slice_index t.cells (a * t.places + b)
+
+-- n places, and all distances 0
+abbrev pub empty_table : ℕ → TableValue
+empty_table n = record { places = n; cells = replicate (n * n) 0 }
+
+-- the entry of x and y once that of a and b is d, both ways
+abbrev pub after_set : TableValue → ℕ → ℕ → ℕ → ℕ → ℕ → ℕ
+after_set t a b d x y = if (x == a && y == b) || (x == b && y == a) then d else entry t x y
+
+-- what each table keeps
+pub record IsTable (t : TableValue) : Type 0 where
+  pub few : t.places ≤ MAX_PLACES
+  pub filled : length t.cells ≡ t.places * t.places
+  pub alike : (a b : ℕ) → a < t.places → b < t.places → entry t a b ≡ entry t b a
+  pub bare : (a : ℕ) → a < t.places → entry t a a ≡ 0
+  pub short : (a b : ℕ) → a < t.places → b < t.places → entry t a b ≤ MAX_DISTANCE
+
+-- different places are at least one step apart
+abbrev pub PlacesDiffer : TableValue → Type 0
+PlacesDiffer t = (a b : ℕ) → a < t.places → b < t.places → a ≢ b → 1 ≤ entry t a b
+
+-- no way round by a third place is shorter
+abbrev pub KeepsTriangles : TableValue → Type 0
+KeepsTriangles t = (a b c : ℕ) → a < t.places → b < t.places → c < t.places → entry t a c ≤ entry t a b + entry t b c

@@ -1,0 +1,11 @@
+//! Least perfect matchings of a table of distances, with moats that show that no matching costs
+//! less.
+#![tactic(auto)]
+
+mod matching;
+mod table;
+#[cfg(test)]
+mod tests;
+
+pub use matching::{Matching, Moat, Moats, Pair, Pairs};
+pub use table::{DistTable, MAX_DISTANCE, MAX_PLACES};
