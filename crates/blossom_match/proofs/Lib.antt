@@ -1,2 +1,5 @@
+pub mod ListLemmas
+pub mod SumLemmas
+pub mod RingLemmas
 pub mod MatchingFacts
 pub mod TableLemmas

@@ -2,3 +2,10 @@
 pub mod Matchings
 pub mod Tables
 pub mod TableValue
+-- the rest is for the search alone
+pub mod Lists
+pub mod Bands
+pub mod Rings
+pub mod Sizes
+pub mod Couples
+pub mod Opens

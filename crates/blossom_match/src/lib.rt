@@ -2,7 +2,9 @@
 //! less.
 #![tactic(auto)]
 
+mod couples;
 mod matching;
+mod nest;
 mod table;
 #[cfg(test)]
 mod tests;
