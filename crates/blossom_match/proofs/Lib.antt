@@ -3,3 +3,4 @@ pub mod SumLemmas
 pub mod RingLemmas
 pub mod MatchingFacts
 pub mod TableLemmas
+pub mod OpenLemmas

@@ -64,13 +64,13 @@ pub members_size : (ps : List Part) → AllKept ps → (length (members_in ps) +
 members_size [] all = refl
 members_size (p ∷ ps) all = omega (arith, length-append p.nest.members (members_in ps), members_size ps all.1, all.0.odd)
 
-none_in : (x : ℕ) (ps : List Part) → AllKept ps → count x (members_in ps) ≡ 0 → NoneHold x (bands_in ps)
+pub none_in : (x : ℕ) (ps : List Part) → AllKept ps → count x (members_in ps) ≡ 0 → NoneHold x (bands_in ps)
 none_in x [] all none = tt
 none_in x (p ∷ ps) all none =
     let c = count-append x p.nest.members (members_in ps) in
     NoneHold-append x (bands p.nest) (bands_in ps) (none_hold x p.nest all.0 (omega (arith, c))) (none_in x ps all.1 (omega (arith, c)))
 
-made_kept : (ms : List ℕ) (w : ℕ) (ps : List Part) → IsMade ms ps → Kept (nest_of ms w ps)
+pub made_kept : (ms : List ℕ) (w : ℕ) (ps : List Part) → IsMade ms ps → Kept (nest_of ms w ps)
 made_kept ms w [] one = record { odd = omega (arith, one); covered = λ x none. tt; single = λ e. one }
 made_kept ms w (p ∷ ps) made = record {
     odd = omega (arith, ap (λ (xs : List ℕ). length xs) made.0, members_size (p ∷ ps) made.1.kept, made.1.odd);

@@ -9,3 +9,4 @@ pub mod Rings
 pub mod Sizes
 pub mod Couples
 pub mod Opens
+pub mod Taken

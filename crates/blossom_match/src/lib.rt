@@ -5,7 +5,10 @@
 mod couples;
 mod matching;
 mod nest;
+mod opening;
+mod ring;
 mod table;
+mod taking;
 #[cfg(test)]
 mod tests;
 

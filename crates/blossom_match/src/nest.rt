@@ -1,6 +1,6 @@
 ghost use Rattle.std.specs.Prelude.{◌≡◌, ◌≤◌, ◌+◌, ◌<◌, ◌^◌, IsTrue, false, length, nat_lt, IfOk};
 ghost use Rattle.blossom_match.specs.Bands.{count, with_width, Kept};
-ghost use Rattle.blossom_match.specs.Rings.{back_of, members_in, nest_of, single_of, IsRing, PartsAre};
+ghost use Rattle.blossom_match.specs.Rings.{back_of, members_in, nest_of, single_of, IsMade, IsRing, PartsAre};
 
 use design_model::Memory;
 use std::alloc::Global;
@@ -139,6 +139,15 @@ impl Nest {
             width,
             parts,
         }
+    }
+
+    /// The members, and the parts that the set is made of.
+    pub fn into_shell(self) -> (Vec<u32>, Vec<Part>)
+        ensures made { self ≡ nest_of result.0.items self.width result.1.items }
+        ensures kept { IsMade result.0.items result.1.items }
+    {
+        let Nest { members, width: _, parts } = self;
+        (members, parts)
     }
 
     /// The parts of a ring.
