@@ -4,3 +4,5 @@ pub mod RingLemmas
 pub mod MatchingFacts
 pub mod TableLemmas
 pub mod OpenLemmas
+pub mod MoatLemmas
+pub mod TakenLemmas
