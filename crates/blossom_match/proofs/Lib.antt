@@ -6,3 +6,6 @@ pub mod TableLemmas
 pub mod OpenLemmas
 pub mod MoatLemmas
 pub mod TakenLemmas
+pub mod TreeLemmas
+pub mod AugmentLemmas
+pub mod CoupleLemmas

@@ -1,5 +1,5 @@
--- One entry of a table is set, both ways.
-use Rattle.std.proofs.Common.{◌≡◌, ◌≢◌, ℕ, ◌+◌, ◌*◌, ◌<◌, ◌≤◌, ◌&&◌, ◌||◌, Bool, true, false, cond, eqb, List, length, set, get_or, arith, refl, sym, ap, subst, ◌∙◌, get_or-set_other, get_or-set_same, inl, inr, ◌⊎◌}
+-- One entry of a table is set.
+use Rattle.std.proofs.Common.{◌≡◌, ◌≢◌, ℕ, ◌+◌, ◌*◌, ◌<◌, ◌≤◌, ◌&&◌, ◌||◌, Bool, true, false, cond, eqb, List, length, max, min, set, get_or, arith, refl, sym, ap, subst, ◌∙◌, get_or-set_other, get_or-set_same}
 use Rattle.std.proofs.Math.Nat.{mul-le-mul_right}
 use Rattle.std.proofs.lemmas.Bool.{eqb-true, eqb-false, eq-eqb}
 use Rattle.std.proofs.lemmas.List.{length-set}
@@ -39,96 +39,74 @@ made_true true true e f g = cc
 made_true true false e f g = cc
 made_true false q e f g = cc
 
-swapped : (p q r s : Bool) → ((p && q) || (r && s)) ≡ ((s && r) || (q && p))
-swapped true true true true = refl
-swapped true true true false = refl
-swapped true true false true = refl
-swapped true true false false = refl
-swapped true false true true = refl
-swapped true false true false = refl
-swapped true false false true = refl
-swapped true false false false = refl
-swapped false true true true = refl
-swapped false true true false = refl
-swapped false true false true = refl
-swapped false true false false = refl
-swapped false false true true = refl
-swapped false false true false = refl
-swapped false false false true = refl
-swapped false false false false = refl
+-- two numbers are told by the lower and the higher of them
+other_two : (p : Bool) (a b x y : ℕ) → eqb x a ≡ p → (eqb x a && eqb y b) ≡ false → (eqb x b && eqb y a) ≡ false → min x y ≡ min a b → max x y ≡ max a b → ⊥
+other_two true a b x y is no_first no_second e f =
+    let ex : x ≡ a = eqb-true x a is in
+    let ey : y ≡ b = omega (arith, ex, e, f) in
+    made_true (eqb x a) (eqb y b) no_first is (eq-eqb y b ey)
+other_two false a b x y is no_first no_second e f =
+    let ne : x ≢ a = eqb-false x a is in
+    let ex : x ≡ b = omega (arith, ne, e, f) in
+    let ey : y ≡ a = omega (arith, ne, e, f) in
+    made_true (eqb x b) (eqb y a) no_second (eq-eqb x b ex) (eq-eqb y a ey)
 
-abbrev cells_set : List ℕ → ℕ → ℕ → ℕ → ℕ → List ℕ
-cells_set cells n a b d = set (set cells (a * n + b) d) (b * n + a) d
+set_same : (cells : List ℕ) (i k d : ℕ) → i < length cells → k ≡ i → get_or (set cells i d) k 0 ≡ d
+set_same cells i k d low e = ap (λ (m : ℕ). get_or (set cells i d) m 0) e ∙ get_or-set_same cells i d 0 low
 
--- what the list has at a cell that is one of the two, or neither
-set_there : (cells : List ℕ) (i j k d : ℕ) → i < length cells → k ≡ i → k ≢ j → get_or (set (set cells i d) j d) k 0 ≡ d
-set_there cells i j k d low e ne =
-    get_or-set_other (set cells i d) j k d 0 ne ∙ ap (λ (m : ℕ). get_or (set cells i d) m 0) e ∙ get_or-set_same cells i d 0 low
+one_cell : (n k m i j : ℕ) → k ≡ i → m ≡ j → k * n + m ≡ i * n + j
+one_cell n k m i j e f = ap (λ (r : ℕ). r * n + m) e ∙ ap (λ (r : ℕ). i * n + r) f
 
-set_back : (cells : List ℕ) (i j k d : ℕ) → j < length cells → k ≡ j → get_or (set (set cells i d) j d) k 0 ≡ d
-set_back cells i j k d low e =
-    ap (λ (m : ℕ). get_or (set (set cells i d) j d) m 0) e ∙ get_or-set_same (set cells i d) j d 0 (omega (arith, length-set cells i d))
-
-set_elsewhere : (cells : List ℕ) (i j k d : ℕ) → k ≢ i → k ≢ j → get_or (set (set cells i d) j d) k 0 ≡ get_or cells k 0
-set_elsewhere cells i j k d ni nj = get_or-set_other (set cells i d) j k d 0 nj ∙ get_or-set_other cells i k d 0 ni
-
-not_cell : (n a b x y : ℕ) → b < n → y < n → (eqb x a && eqb y b) ≡ false → x * n + y ≢ a * n + b
-not_cell n a b x y lb ly off e =
-    let same = same_cell n a b x y lb ly e in
-    made_true (eqb x a) (eqb y b) off (eq-eqb x a same.0) (eq-eqb y b same.1)
-
-is_cell : (n a b x y : ℕ) → (eqb x a && eqb y b) ≡ true → x * n + y ≡ a * n + b
-is_cell n a b x y at =
-    let both = both_true (eqb x a) (eqb y b) at in
-    let row : x * n ≡ a * n = ap (λ (r : ℕ). r * n) (eqb-true x a both.0) in
-    omega (arith, row, eqb-true y b both.1)
-
-by_tests : (t u : Bool) (cells : List ℕ) (n a b d x y : ℕ) → length cells ≡ n * n → a ≢ b → a < n → b < n → x < n → y < n →
+by_tests : (t u : Bool) (cells : List ℕ) (n a b d x y : ℕ) → length cells ≡ n * n → a < n → b < n → x < n → y < n →
     (eqb x a && eqb y b) ≡ t → (eqb x b && eqb y a) ≡ u →
-    get_or (set (set cells (a * n + b) d) (b * n + a) d) (x * n + y) 0 ≡ cond (t || u) d (get_or cells (x * n + y) 0)
-by_tests true u cells n a b d x y len ne la lb lx ly e f =
+    get_or (set cells (min a b * n + max a b) d) (min x y * n + max x y) 0 ≡ cond (t || u) d (get_or cells (min x y * n + max x y) 0)
+by_tests true u cells n a b d x y len la lb lx ly e f =
     let both = both_true (eqb x a) (eqb y b) e in
     let ex : x ≡ a = eqb-true x a both.0 in
-    set_there cells (a * n + b) (b * n + a) (x * n + y) d (omega (arith, in_cells n a b la lb)) (is_cell n a b x y e)
-        (λ g. ne (sym ex ∙ (same_cell n b a x y la ly g).0))
-by_tests false true cells n a b d x y len ne la lb lx ly e f =
-    set_back cells (a * n + b) (b * n + a) (x * n + y) d (omega (arith, in_cells n b a lb la)) (is_cell n b a x y f)
-by_tests false false cells n a b d x y len ne la lb lx ly e f =
-    set_elsewhere cells (a * n + b) (b * n + a) (x * n + y) d (not_cell n a b x y lb ly e) (not_cell n b a x y la ly f)
+    let ey : y ≡ b = eqb-true y b both.1 in
+    set_same cells (min a b * n + max a b) (min x y * n + max x y) d (omega (arith, in_cells n (min a b) (max a b) (omega arith) (omega arith)))
+        (one_cell n (min x y) (max x y) (min a b) (max a b) (omega arith) (omega arith))
+by_tests false true cells n a b d x y len la lb lx ly e f =
+    let both = both_true (eqb x b) (eqb y a) f in
+    let ex : x ≡ b = eqb-true x b both.0 in
+    let ey : y ≡ a = eqb-true y a both.1 in
+    set_same cells (min a b * n + max a b) (min x y * n + max x y) d (omega (arith, in_cells n (min a b) (max a b) (omega arith) (omega arith)))
+        (one_cell n (min x y) (max x y) (min a b) (max a b) (omega arith) (omega arith))
+by_tests false false cells n a b d x y len la lb lx ly e f =
+    get_or-set_other cells (min a b * n + max a b) (min x y * n + max x y) d 0
+        (λ g. let s = same_cell n (min a b) (max a b) (min x y) (max x y) (omega arith) (omega arith) g in other_two (eqb x a) a b x y refl e f s.0 s.1)
 
-abbrev pub set_cells : TableValue → ℕ → ℕ → ℕ → TableValue
-set_cells t a b d = record { places = t.places; cells = set (set t.cells (a * t.places + b) d) (b * t.places + a) d }
+abbrev set_cells : TableValue → ℕ → ℕ → ℕ → TableValue
+set_cells t a b d = record { places = t.places; cells = set t.cells (min a b * t.places + max a b) d }
 
-pub entry-set_cells : (t : TableValue) → IsTable t → (a b d x y : ℕ) → a ≢ b → a < t.places → b < t.places → x < t.places → y < t.places →
+entry-set_cells : (t : TableValue) → IsTable t → (a b d x y : ℕ) → a < t.places → b < t.places → x < t.places → y < t.places →
     entry (set_cells t a b d) x y ≡ after_set t a b d x y
-entry-set_cells t is a b d x y ne la lb lx ly =
-    by_tests (eqb x a && eqb y b) (eqb x b && eqb y a) t.cells t.places a b d x y is.filled ne la lb lx ly refl refl
-
-swapped_set : (t : TableValue) → IsTable t → (a b d x y : ℕ) → x < t.places → y < t.places → after_set t a b d x y ≡ after_set t a b d y x
-swapped_set t is a b d x y lx ly =
-    ap (λ (p : Bool). cond p d (entry t x y)) (swapped (eqb x a) (eqb y b) (eqb x b) (eqb y a))
-        ∙ ap (λ (k : ℕ). cond ((eqb y a && eqb x b) || (eqb y b && eqb x a)) d k) (is.alike x y lx ly)
-
--- a place is not two different places
-never_twice : (t u : Bool) (a b x d k : ℕ) → a ≢ b → (eqb x a && eqb x b) ≡ t → (eqb x b && eqb x a) ≡ u → k ≡ 0 → cond (t || u) d k ≡ 0
-never_twice true u a b x d k ne e f is =
-    let both = both_true (eqb x a) (eqb x b) e in
-    absurd (ne (sym (eqb-true x a both.0) ∙ eqb-true x b both.1))
-never_twice false true a b x d k ne e f is =
-    let both = both_true (eqb x b) (eqb x a) f in
-    absurd (ne (sym (eqb-true x a both.1) ∙ eqb-true x b both.0))
-never_twice false false a b x d k ne e f is = is
+entry-set_cells t is a b d x y la lb lx ly =
+    by_tests (eqb x a && eqb y b) (eqb x b && eqb y a) t.cells t.places a b d x y is.filled la lb lx ly refl refl
 
 short_either : (p : Bool) (d k m : ℕ) → d ≤ m → k ≤ m → cond p d k ≤ m
 short_either true d k m p q = p
 short_either false d k m p q = q
 
-pub set_keeps : (t : TableValue) → IsTable t → (a b d : ℕ) → a ≢ b → a < t.places → b < t.places → d ≤ MAX_DISTANCE → IsTable (set_cells t a b d)
-set_keeps t is a b d ne la lb low =
-    let at = λ (x y : ℕ) (lx : x < t.places) (ly : y < t.places). entry-set_cells t is a b d x y ne la lb lx ly in
-    record {
+set_keeps : (t : TableValue) → IsTable t → (a b d : ℕ) → a < t.places → b < t.places → d ≤ MAX_DISTANCE → IsTable (set_cells t a b d)
+set_keeps t is a b d la lb low = record {
     few = is.few;
-    filled = omega (arith, is.filled, length-set t.cells (a * t.places + b) d, length-set (set t.cells (a * t.places + b) d) (b * t.places + a) d);
-    alike = λ x y lx ly. at x y lx ly ∙ swapped_set t is a b d x y lx ly ∙ sym (at y x ly lx);
-    bare = λ x lx. at x x lx lx ∙ never_twice (eqb x a && eqb x b) (eqb x b && eqb x a) a b x d (entry t x x) ne refl refl (is.bare x lx);
-    short = λ x y lx ly. rw (at x y lx ly) (short_either ((eqb x a && eqb y b) || (eqb x b && eqb y a)) d (entry t x y) MAX_DISTANCE low (is.short x y lx ly)) }
+    filled = omega (arith, is.filled, length-set t.cells (min a b * t.places + max a b) d);
+    short = λ x y lx ly. rw (entry-set_cells t is a b d x y la lb lx ly) (short_either ((eqb x a && eqb y b) || (eqb x b && eqb y a)) d (entry t x y) MAX_DISTANCE low (is.short x y lx ly)) }
+
+-- the same where the cell has a name
+abbrev pub set_at : TableValue → ℕ → ℕ → TableValue
+set_at t at d = record { places = t.places; cells = set t.cells at d }
+
+pub entry-set_at : (t : TableValue) → IsTable t → (a b d at x y : ℕ) → at ≡ min a b * t.places + max a b → a < t.places → b < t.places → x < t.places → y < t.places →
+    entry (set_at t at d) x y ≡ after_set t a b d x y
+entry-set_at t is a b d at x y e la lb lx ly = ap (λ (k : ℕ). entry (set_at t k d) x y) e ∙ entry-set_cells t is a b d x y la lb lx ly
+
+pub set_at_keeps : (t : TableValue) → IsTable t → (a b d at : ℕ) → at ≡ min a b * t.places + max a b → a < t.places → b < t.places → d ≤ MAX_DISTANCE → IsTable (set_at t at d)
+set_at_keeps t is a b d at e la lb low = subst (λ (k : ℕ). IsTable (set_at t k d)) (sym e) (set_keeps t is a b d la lb low)
+
+-- the entry of two places does not depend on their order
+pub entry-comm : (t : TableValue) (a b : ℕ) → entry t a b ≡ entry t b a
+entry-comm t a b =
+    let e : min a b * t.places + max a b ≡ min b a * t.places + max b a = one_cell t.places (min a b) (max a b) (min b a) (max b a) (omega arith) (omega arith) in
+    ap (λ (k : ℕ). get_or t.cells k 0) e

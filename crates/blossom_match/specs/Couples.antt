@@ -1,5 +1,5 @@
 -- Sets in pairs.
-use Rattle.std.specs.Prelude.{◌≡◌, ℕ, ◌+◌, ◌*◌, List, [], ◌∷◌, ◌++◌}
+use Rattle.std.specs.Prelude.{◌≡◌, ℕ, ◌+◌, ◌*◌, ◌≤◌, List, [], ◌∷◌, ◌++◌, drop}
 use Rattle.blossom_match.specs.Lists.{Each}
 use Rattle.blossom_match.specs.Bands.{Band, bands, count, height, IsPaid}
 use Rattle.blossom_match.specs.declared.nest.Part.{Part}
@@ -31,3 +31,12 @@ pub record IsSettled (d : ℕ → ℕ → ℕ) (c : Couple) : Type 0 where
   pub link : 2 * d c.link.from c.link.to ≡ height c.link.from (bands c.first) + height c.link.to (bands c.second)
   pub first : IsPaid d c.first.tolls
   pub second : IsPaid d c.second.tolls
+
+-- the first couple holds the place
+abbrev pub FirstCoupleHolds : ℕ → List Couple → Type 0
+FirstCoupleHolds place [] = ⊥
+FirstCoupleHolds place (c ∷ cs) = 1 ≤ count place c.first.members + count place c.second.members
+
+-- the couple at the index holds the place
+abbrev pub CoupleHolds : ℕ → List Couple → ℕ → Type 0
+CoupleHolds place cs i = FirstCoupleHolds place (drop i cs)

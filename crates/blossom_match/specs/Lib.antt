@@ -10,3 +10,5 @@ pub mod Sizes
 pub mod Couples
 pub mod Opens
 pub mod Taken
+pub mod Sound
+pub mod Trees

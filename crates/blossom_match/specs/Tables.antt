@@ -1,12 +1,12 @@
 -- Tables of distances, in whole steps. Places are numbered from 0.
-use Rattle.std.specs.Prelude.{◌≡◌, ◌≢◌, ◌==◌, ◌&&◌, ◌||◌, ℕ, ◌+◌, ◌*◌, ◌<◌, ◌≤◌, length, slice_index, replicate, if◌then◌else◌}
+use Rattle.std.specs.Prelude.{◌≡◌, ◌≢◌, ◌==◌, ◌&&◌, ◌||◌, ℕ, ◌+◌, ◌*◌, ◌<◌, ◌≤◌, length, max, min, slice_index, replicate, if◌then◌else◌}
 
 use Rattle.blossom_match.specs.TableValue.{TableValue}
 use Rattle.blossom_match.specs.declared.table.TheConstants.{MAX_DISTANCE, MAX_PLACES}
 
--- the distance of two places
+-- the distance of two places, whichever is named first
 abbrev pub entry : TableValue → ℕ → ℕ → ℕ
-entry t a b = slice_index t.cells (a * t.places + b)
+entry t a b = slice_index t.cells (min a b * t.places + max a b)
 
 -- n places, and all distances 0
 abbrev pub empty_table : ℕ → TableValue
@@ -20,8 +20,6 @@ after_set t a b d x y = if (x == a && y == b) || (x == b && y == a) then d else 
 pub record IsTable (t : TableValue) : Type 0 where
   pub few : t.places ≤ MAX_PLACES
   pub filled : length t.cells ≡ t.places * t.places
-  pub alike : (a b : ℕ) → a < t.places → b < t.places → entry t a b ≡ entry t b a
-  pub bare : (a : ℕ) → a < t.places → entry t a a ≡ 0
   pub short : (a b : ℕ) → a < t.places → b < t.places → entry t a b ≤ MAX_DISTANCE
 
 -- different places are at least one step apart

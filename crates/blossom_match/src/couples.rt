@@ -2,6 +2,11 @@ ghost use Rattle.std.specs.Prelude.{◌≡◌, IfOk};
 ghost use Rattle.std.specs.Vec.Iter.{into_iter_items};
 ghost use Rattle.blossom_match.specs.Couples.{couples_along};
 
+ghost use Rattle.std.specs.Prelude.{◌≤◌, ◌<◌, ◌+◌, length};
+ghost use Rattle.blossom_match.specs.Bands.{count};
+ghost use Rattle.blossom_match.specs.Couples.{couple_members, CoupleHolds};
+ghost use Rattle.blossom_match.specs.Trees.{TakesOut};
+
 use crate::nest::{Link, Nest, Part};
 use design_model::Memory;
 use std::alloc::Global;
@@ -30,4 +35,26 @@ pub fn pair_off(alloc: Global, parts: std::vec::IntoIter<Part>) -> Result<Vec<Co
         }
     }
     Ok(out)
+}
+
+fn couple_with(couples: &[Couple], place: u32) -> usize
+    requires { 1 ≤ count place (couple_members couples.now) }
+    ensures within { result < length couples.now }
+    ensures there { CoupleHolds place couples.now result }
+{
+    for (i, c) in couples.iter().enumerate() {
+        if c.first.holds(place) || c.second.holds(place) {
+            return i;
+        }
+    }
+    unreachable!()
+}
+
+/// Takes out the couple that holds the place.
+pub fn take_couple(couples: &mut Vec<Couple>, place: u32) -> Couple
+    requires { 1 ≤ count place (couple_members couples.old.items) }
+    ensures { TakesOut place couples.old.items couples.new.items result }
+{
+    let at = couple_with(couples, place);
+    couples.remove(at)
 }

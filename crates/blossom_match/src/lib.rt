@@ -2,6 +2,7 @@
 //! less.
 #![tactic(auto)]
 
+mod branches;
 mod couples;
 mod matching;
 mod nest;

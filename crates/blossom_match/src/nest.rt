@@ -109,6 +109,7 @@ impl Nest {
 
     /// Whether the place is a member.
     pub fn holds(&self, place: u32) -> bool
+        ensures value { result ≡ nat_lt 0 (count place self.now.members) }
         ensures yes { IsTrue result → 1 ≤ count place self.now.members }
         ensures no { result ≡ false → count place self.now.members ≡ 0 }
     {

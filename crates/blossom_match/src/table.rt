@@ -1,4 +1,4 @@
-ghost use Rattle.std.specs.Prelude.{◌≡◌, ◌≢◌, ℕ, ◌<◌, ◌≤◌, IfOk};
+ghost use Rattle.std.specs.Prelude.{◌≡◌, ◌≢◌, ℕ, ◌+◌, ◌*◌, ◌<◌, ◌≤◌, length, max, min, IfOk};
 ghost use Rattle.blossom_match.specs.Tables.{empty_table, entry, after_set};
 ghost use Rattle.blossom_match.specs.declared.table.TheConstants.{MAX_DISTANCE, MAX_PLACES};
 
@@ -57,10 +57,8 @@ impl DistTable {
         ensures places { self.new.places ≡ self.old.places }
         ensures entries { (x y : ℕ) → x < self.old.places → y < self.old.places → entry self.new x y ≡ after_set self.old a b d x y }
     {
-        let there = a as usize * self.places as usize + b as usize;
-        let back = b as usize * self.places as usize + a as usize;
-        self.cells[there] = d;
-        self.cells[back] = d;
+        let at = self.cell(a, b);
+        self.cells[at] = d;
     }
 
     /// The entry of two places.
@@ -70,6 +68,16 @@ impl DistTable {
         ensures value { result ≡ entry self.now a b }
         ensures short { result ≤ MAX_DISTANCE }
     {
-        self.cells[a as usize * self.places as usize + b as usize]
+        self.cells[self.cell(a, b)]
+    }
+
+    /// Where the entry of two places stands: in the row of the lower one.
+    fn cell(&self, a: u32, b: u32) -> usize
+        requires a_in { a < self.now.places }
+        requires b_in { b < self.now.places }
+        ensures value { result ≡ min a b * self.now.places + max a b }
+        ensures within { result < length self.now.cells }
+    {
+        a.min(b) as usize * self.places as usize + a.max(b) as usize
     }
 }
