@@ -9,3 +9,5 @@ pub mod TakenLemmas
 pub mod TreeLemmas
 pub mod AugmentLemmas
 pub mod CoupleLemmas
+pub mod ClosingLemmas
+pub mod ShrinkLemmas

@@ -12,3 +12,4 @@ pub mod Opens
 pub mod Taken
 pub mod Sound
 pub mod Trees
+pub mod Shrinks

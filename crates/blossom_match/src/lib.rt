@@ -8,6 +8,7 @@ mod matching;
 mod nest;
 mod opening;
 mod ring;
+mod shrinking;
 mod table;
 mod taking;
 #[cfg(test)]
