@@ -11,3 +11,6 @@ pub mod AugmentLemmas
 pub mod CoupleLemmas
 pub mod ClosingLemmas
 pub mod ShrinkLemmas
+pub mod MirrorLemmas
+pub mod LayLemmas
+pub mod ExpandLemmas

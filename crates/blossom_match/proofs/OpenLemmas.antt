@@ -18,7 +18,7 @@ bands_in-append F add [] qs = omega (arith, add [] [], add [] (bands_in qs))
 bands_in-append F add (p ∷ ps) qs =
     omega (arith, bands_in-append F add ps qs, add (bands p.nest) (bands_in (ps ++ qs)), add (bands p.nest) (bands_in ps))
 
-bands_turned : (F : List Band → ℕ) → Adds F → (i : ℕ) (ps : List Part) → F (bands_in (drop i ps ++ take i ps)) ≡ F (bands_in ps)
+pub bands_turned : (F : List Band → ℕ) → Adds F → (i : ℕ) (ps : List Part) → F (bands_in (drop i ps ++ take i ps)) ≡ F (bands_in ps)
 bands_turned F add i ps =
     omega (arith, bands_in-append F add (drop i ps) (take i ps), bands_in-append F add (take i ps) (drop i ps), ap (λ (qs : List Part). F (bands_in qs)) (take-append-drop i ps))
 

@@ -13,3 +13,4 @@ pub mod Taken
 pub mod Sound
 pub mod Trees
 pub mod Shrinks
+pub mod Lays

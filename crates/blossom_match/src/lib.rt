@@ -4,6 +4,7 @@
 
 mod branches;
 mod couples;
+mod expanding;
 mod matching;
 mod nest;
 mod opening;

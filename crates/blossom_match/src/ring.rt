@@ -1,8 +1,11 @@
-ghost use Rattle.std.specs.Prelude.{◌≡◌, ◌≤◌, ◌<◌, length};
+ghost use Rattle.std.specs.Prelude.{◌≡◌, ◌≤◌, ◌<◌, length, IfOk};
 ghost use Rattle.blossom_match.specs.Bands.{count};
 ghost use Rattle.blossom_match.specs.Rings.{members_in, FirstHolds, HoldsAt, IsTurned};
 
 use crate::nest::Part;
+use design_model::Memory;
+use std::alloc::Global;
+use std::collections::VecDeque;
 
 /// The index of the part that holds the place.
 pub fn part_with(parts: &[Part], place: u32) -> usize
@@ -28,4 +31,16 @@ pub fn turned_to(parts: Vec<Part>, place: u32) -> Vec<Part>
     let at = part_with(&ring, place);
     ring.rotate_left(at);
     ring
+}
+
+/// The parts of a chain as a vector.
+pub fn listed(alloc: Global, chain: VecDeque<Part>) -> Result<Vec<Part>, Memory>
+    ensures { IfOk result (λ ps. ps.items ≡ chain.items) }
+{
+    let mut parts = Vec::new(alloc);
+    let mut left = chain;
+    while let Some(p) = left.pop_front() {
+        parts.push(p)?;
+    }
+    Ok(parts)
 }

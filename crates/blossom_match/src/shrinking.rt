@@ -4,6 +4,7 @@ ghost use Rattle.blossom_match.specs.Shrinks.{Closable, Shrinking, Shrinks};
 
 use crate::branches::{Branch, give_back};
 use crate::nest::{Link, Nest, Part, ring_of};
+use crate::ring::listed;
 use design_model::Memory;
 use std::alloc::Global;
 use std::collections::VecDeque;
@@ -75,14 +76,11 @@ fn close(alloc: Global, top: Nest, way: Link, chain: VecDeque<Part>, to: u32) ->
     ensures { IfOk result (λ s. s ≡ nest_of (members_in (record { nest = top; next = way } ∷ chain.items)) 0 (record { nest = top; next = way } ∷ chain.items)) }
 {
     top.know();
-    let mut parts = Vec::new(alloc);
-    parts.push(Part {
+    let mut ring = chain;
+    ring.push_front(Part {
         nest: top,
         next: way,
     })?;
-    let mut left = chain;
-    while let Some(p) = left.pop_front() {
-        parts.push(p)?;
-    }
+    let parts = listed(alloc, ring)?;
     ring_of(alloc, parts)
 }
