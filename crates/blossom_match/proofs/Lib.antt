@@ -14,3 +14,4 @@ pub mod ShrinkLemmas
 pub mod MirrorLemmas
 pub mod LayLemmas
 pub mod ExpandLemmas
+pub mod SearchLemmas

@@ -14,3 +14,4 @@ pub mod Sound
 pub mod Trees
 pub mod Shrinks
 pub mod Lays
+pub mod Searches

@@ -9,6 +9,7 @@ mod matching;
 mod nest;
 mod opening;
 mod ring;
+mod search;
 mod shrinking;
 mod table;
 mod taking;
