@@ -15,3 +15,5 @@ pub mod MirrorLemmas
 pub mod LayLemmas
 pub mod ExpandLemmas
 pub mod SearchLemmas
+pub mod RaisedLemmas
+pub mod ScanLemmas

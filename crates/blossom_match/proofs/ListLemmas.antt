@@ -1,5 +1,5 @@
 -- Facts of each item of joined lists.
-use Rattle.std.proofs.Common.{◌≡◌, ℕ, suc, zero, List, [], ◌∷◌, ◌++◌, take, drop, length, refl}
+use Rattle.std.proofs.Common.{◌≡◌, ℕ, suc, zero, List, [], ◌∷◌, ◌++◌, take, drop, length, refl, ◌+◌, ◌<◌, get_or, drop-cons, add-one, sym, ap, ◌∙◌}
 use Rattle.blossom_match.specs.Lists.{Each, EachPair}
 
 pub each-append : {X : Type 0} (P : X → Type 0) (xs ys : List X) → Each P xs → Each P ys → Each P (xs ++ ys)
@@ -37,3 +37,7 @@ each-map P Q f (x ∷ xs) p = (f x p.0, each-map P Q f xs p.1)
 pub pairs-append : {X : Type 0} (R : X → X → Type 0) (xs ys : List X) → EachPair R xs → EachPair R ys → Each (λ (x : X). Each (R x) ys) xs → EachPair R (xs ++ ys)
 pairs-append R [] ys p q across = q
 pairs-append R (x ∷ xs) ys p q across = (each-append (R x) xs ys p.0 across.0, pairs-append R xs ys p.1 q across.1)
+
+-- the item at the index comes first among those that are left
+pub drop_here : {X : Type 0} (xs : List X) (i : ℕ) (x : X) → i < length xs → x ≡ get_or xs i x → drop i xs ≡ x ∷ drop (i + 1) xs
+drop_here {X} xs i x low is = rw add-one (drop-cons xs i x low ∙ ap (λ (y : X). y ∷ drop (suc i) xs) (sym is))

@@ -24,7 +24,7 @@ use Rattle.blossom_match.proofs.SumLemmas.{count-append, height-append, hit_is, 
 use Rattle.blossom_match.proofs.RingLemmas.{made_kept}
 use Rattle.blossom_match.proofs.ShrinkLemmas.{tight_back}
 use Rattle.blossom_match.proofs.TableLemmas.{entry-comm}
-use Rattle.blossom_match.proofs.TreeLemmas.{branch_bands_push, couple_bands-append, couple_members-append, grown_push, inner_bands_push, inner_members_push, outer_members_push}
+use Rattle.blossom_match.proofs.TreeLemmas.{base_in, branch_bands_push, couple_bands-append, couple_members-append, grown_push, inner_bands_push, inner_members_push, outer_members_push}
 
 pub shrunk : (link : Link) (s r : Search) → Shrinks link s.root r.root s.tree.items r.tree.items → r.rest.items ≡ s.rest.items → r.free.items ≡ s.free.items → Advances s (Shrink link) r
 shrunk link s r sh e f = record {
@@ -174,10 +174,6 @@ low_couples d h x (c ∷ cs) f none =
     let i = count-append x c.second.members (couple_members cs) in
     omega (arith, low x c.first f.0.first.kept (omega (arith, o, i, none)), low x c.second f.0.second.kept (omega (arith, o, i, none)), low_couples d h x cs f.1 (omega (arith, o, i, none)),
         height-append x (bands c.first) (bands c.second ++ couple_bands cs), height-append x (bands c.second) (couple_bands cs))
-
-base_in : (x : ℕ) (base : List ℕ) (tree : List Branch) → count x base ≤ count x (outer_members base tree)
-base_in x base [] = omega arith
-base_in x base (b ∷ bs) = omega (arith, base_in x base bs, count-append x b.outer.members (outer_members base bs))
 
 pub low_free : (t : TableValue) (h : ℕ → ℕ) (s : Search) (x : ℕ) → IsSearch t h s → 1 ≤ count x s.free.items → h x ≡ 0
 low_free t h s x i some =

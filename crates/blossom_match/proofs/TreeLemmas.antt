@@ -119,3 +119,9 @@ couple_members-append x (a ∷ xs) ys =
 pub grown_push : (base : List ℕ) (bs : List Branch) (b : Branch) → IsGrown base bs → 1 ≤ count b.up.from (outer_members base bs) → count b.up.to b.inner.members ≡ 1 →
     count b.pair.from b.inner.members ≡ 1 → count b.pair.to b.outer.members ≡ 1 → IsGrown base (bs ++ b ∷ [])
 grown_push base bs b g f u i o = grown-append base bs (b ∷ []) g (f, u, i, o, tt)
+
+-- the places at the start are among the outer ones
+pub base_in : (x : ℕ) (base : List ℕ) (tree : List Branch) → count x base ≤ count x (outer_members base tree)
+base_in x base [] = omega arith
+base_in x base (b ∷ bs) = omega (arith, base_in x base bs, count-append x b.outer.members (outer_members base bs))
+

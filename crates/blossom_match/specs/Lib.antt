@@ -15,3 +15,4 @@ pub mod Trees
 pub mod Shrinks
 pub mod Lays
 pub mod Searches
+pub mod Bounds

@@ -5,6 +5,8 @@
 mod branches;
 mod couples;
 mod expanding;
+mod heights;
+mod least;
 mod matching;
 mod nest;
 mod opening;
