@@ -17,3 +17,4 @@ pub mod ExpandLemmas
 pub mod SearchLemmas
 pub mod RaisedLemmas
 pub mod ScanLemmas
+pub mod BoundLemmas

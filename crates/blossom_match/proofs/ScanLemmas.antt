@@ -89,13 +89,13 @@ pub rows_done : (t : TableValue) (hs : List ℕ) (k : Kind) (xs ys : List ℕ) (
 rows_done t hs k xs ys o n s = subst (λ (zs : List ℕ). Scans t hs k zs ys o n) (take-length xs) s
 
 -- outer sets that do not hold one of the places do not hold both
-around_none : (a b : ℕ) (base : List ℕ) (bs : List Branch) → count b (outer_members base bs) ≡ 0 → around a b bs ≡ 0
+pub around_none : (a b : ℕ) (base : List ℕ) (bs : List Branch) → count b (outer_members base bs) ≡ 0 → around a b bs ≡ 0
 around_none a b base [] none = refl
 around_none a b base (c ∷ cs) none =
     let n = count-append b c.outer.members (outer_members base cs) in
     omega (arith, around_none a b base cs (omega (arith, n, none)), n, none)
 
-around_append : (a b : ℕ) (xs ys : List Branch) → around a b (xs ++ ys) ≡ around a b xs + around a b ys
+pub around_append : (a b : ℕ) (xs ys : List Branch) → around a b (xs ++ ys) ≡ around a b xs + around a b ys
 around_append a b [] ys = omega arith
 around_append a b (c ∷ xs) ys = omega (arith, around_append a b xs ys)
 

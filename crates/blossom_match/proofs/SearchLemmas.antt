@@ -157,7 +157,7 @@ hung link s r c out g e f =
     free = f }
 
 -- a place in no set has height 0
-low_branches : (d : ℕ → ℕ → ℕ) (h : ℕ → ℕ) (x : ℕ) (base : List ℕ) (tree : List Branch) → Each (IsFirm d h) tree → count x (outer_members base tree) ≡ 0 → count x (inner_members tree) ≡ 0 →
+pub low_branches : (d : ℕ → ℕ → ℕ) (h : ℕ → ℕ) (x : ℕ) (base : List ℕ) (tree : List Branch) → Each (IsFirm d h) tree → count x (outer_members base tree) ≡ 0 → count x (inner_members tree) ≡ 0 →
     height x (branch_bands tree) ≡ 0
 low_branches d h x base [] f none empty = refl
 low_branches d h x base (b ∷ bs) f none empty =

@@ -183,7 +183,7 @@ ring_sums F add top way chain ring e =
     omega (arith, ap (λ (s : NestValue). F (bands s)) e, add (record { members = members_in (part_of top way ∷ chain); width = 0 } ∷ []) (bands_in (part_of top way ∷ chain)), add (bands top) (bands_in chain))
 
 -- the heights of two places in the tree are both even or both odd
-two_even : (d : ℕ → ℕ → ℕ) (h : ℕ → ℕ) (root : NestValue) (tree : List Branch) → IsGrown root.members tree → IsSound d h root → Each (IsFirm d h) tree → (x y : ℕ) →
+pub two_even : (d : ℕ → ℕ → ℕ) (h : ℕ → ℕ) (root : NestValue) (tree : List Branch) → IsGrown root.members tree → IsSound d h root → Each (IsFirm d h) tree → (x y : ℕ) →
     1 ≤ count x (outer_members root.members tree) + count x (inner_members tree) → 1 ≤ count y (outer_members root.members tree) + count y (inner_members tree) → (h x + h y) % 2 ≡ 0
 two_even d h root tree g s f x y hx hy =
     let r = some_member root.members (omega (arith, s.kept.odd)) in

@@ -3,6 +3,7 @@ ghost use Rattle.blossom_match.specs.Bands.{bands, count, height};
 ghost use Rattle.blossom_match.specs.Rings.{bands_in, members_in};
 ghost use Rattle.blossom_match.specs.Couples.{couple_bands, couple_members};
 ghost use Rattle.blossom_match.specs.Trees.{branch_bands, inner_members, outer_members};
+ghost use Rattle.blossom_match.specs.Searches.{outers};
 ghost use Rattle.blossom_match.specs.Bounds.{height_of, FitHeights};
 
 use crate::branches::Branch;
@@ -19,10 +20,18 @@ pub fn heights_of(alloc: Global, n: u32, s: &Search) -> Result<Vec<u32>, Memory>
     ensures len { IfOk result (λ hs. length hs.items ≡ n) }
 {
     let mut heights = vec![in alloc; 0; n as usize]?;
-    add_heights(&s.root, &mut heights);
-    add_branches(&s.tree, &mut heights);
-    add_couples(&s.rest, &mut heights);
+    add_all(s, &mut heights);
     Ok(heights)
+}
+
+fn add_all(s: &Search, heights: &mut [u32])
+    requires within { (x : ℕ) → 1 ≤ count x (outers s.now) + count x (inner_members s.now.tree.items) + count x (couple_members s.now.rest.items) → x < length heights.old }
+    requires fits { (x : ℕ) → slice_index heights.old x + height_of s.now x < 2 ^ 32 }
+    ensures { (x : ℕ) → slice_index heights.new x ≡ slice_index heights.old x + height_of s.now x }
+{
+    add_heights(&s.root, heights);
+    add_branches(&s.tree, heights);
+    add_couples(&s.rest, heights);
 }
 
 fn add_branches(tree: &[Branch], heights: &mut [u32])

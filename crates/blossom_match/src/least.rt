@@ -3,7 +3,7 @@ ghost use Rattle.blossom_match.specs.Bands.{count};
 ghost use Rattle.blossom_match.specs.Couples.{couple_members};
 ghost use Rattle.blossom_match.specs.Tables.{entry};
 ghost use Rattle.blossom_match.specs.Trees.{outer_members};
-ghost use Rattle.blossom_match.specs.Bounds.{Bounds, CanCross, CanOffer, CanSearch, Crosses, Found, Narrows, NarrowsAt, Scans};
+ghost use Rattle.blossom_match.specs.Bounds.{height_of, Bounds, CanCross, CanOffer, CanSearch, Crosses, Found, Narrows, NarrowsAt, Scans};
 ghost use Rattle.blossom_match.specs.Searches.{IsSearch};
 ghost use Rattle.blossom_match.specs.declared.least.Kind.TheVariants as kind;
 
@@ -37,11 +37,20 @@ pub fn least(alloc: Global, t: &DistTable, s: &Search) -> Result<Change, Memory>
     ensures { IfOk result (λ c. (h : ℕ → ℕ) → IsSearch t.now h s.now → Bounds t.now h s.now c) }
 {
     let heights = heights_of(alloc, t.places(), s)?;
-    let first = first_change(t, &heights, s.root.members(), &s.free);
-    let Crossing { outers, best } = scan_outers(alloc, t, &heights, &s.root, &s.tree, first)?;
+    least_at(alloc, t, &heights, s)
+}
+
+fn least_at(alloc: Global, t: &DistTable, heights: &[u32], s: &Search) -> Result<Change, Memory>
+    requires can { CanSearch t.now s.now }
+    requires len { length heights.now ≡ t.now.places }
+    requires value { (x : ℕ) → slice_index heights.now x ≡ height_of s.now x }
+    ensures { IfOk result (λ c. (h : ℕ → ℕ) → IsSearch t.now h s.now → Bounds t.now h s.now c) }
+{
+    let first = first_change(t, heights, s.root.members(), &s.free);
+    let Crossing { outers, best } = scan_outers(alloc, t, heights, &s.root, &s.tree, first)?;
     let coupled = members_coupled(alloc, &s.rest)?;
-    let grown = scan(t, &heights, &outers, &coupled, Kind::Grow, best);
-    let met = scan(t, &heights, &outers, &s.free, Kind::Meet, grown);
+    let grown = scan(t, heights, &outers, &coupled, Kind::Grow, best);
+    let met = scan(t, heights, &outers, &s.free, Kind::Meet, grown);
     Ok(scan_rings(&s.tree, met))
 }
 

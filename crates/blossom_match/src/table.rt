@@ -1,5 +1,5 @@
 ghost use Rattle.std.specs.Prelude.{◌≡◌, ◌≢◌, ℕ, ◌+◌, ◌*◌, ◌<◌, ◌≤◌, length, max, min, IfOk};
-ghost use Rattle.blossom_match.specs.Tables.{empty_table, entry, after_set};
+ghost use Rattle.blossom_match.specs.Tables.{empty_table, entry, after_set, IsTable};
 ghost use Rattle.blossom_match.specs.declared.table.TheConstants.{MAX_DISTANCE, MAX_PLACES};
 
 use design_model::Memory;
@@ -43,7 +43,7 @@ impl DistTable {
     /// The number of places.
     pub fn places(&self) -> u32
         ensures value { result ≡ self.now.places }
-        ensures few { result ≤ MAX_PLACES }
+        ensures table { IsTable self.now }
     {
         self.places
     }
