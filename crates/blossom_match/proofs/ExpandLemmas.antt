@@ -68,7 +68,7 @@ grown-left : (base : List ℕ) (xs ys : List Branch) → IsGrown base (xs ++ ys)
 grown-left base [] ys g = tt
 grown-left base (b ∷ xs) ys g = (g.0, g.1, g.2, g.3, grown-left (b.outer.members ++ base) xs ys g.4)
 
-grown-right : (base : List ℕ) (xs ys : List Branch) → IsGrown base (xs ++ ys) → IsGrown (outer_members base xs) ys
+pub grown-right : (base : List ℕ) (xs ys : List Branch) → IsGrown base (xs ++ ys) → IsGrown (outer_members base xs) ys
 grown-right base [] ys g = g
 grown-right base (b ∷ xs) ys g =
     grown_more (outer_members (b.outer.members ++ base) xs) (b.outer.members ++ outer_members base xs) ys

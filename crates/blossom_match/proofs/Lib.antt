@@ -18,3 +18,4 @@ pub mod SearchLemmas
 pub mod RaisedLemmas
 pub mod ScanLemmas
 pub mod BoundLemmas
+pub mod WidthLemmas

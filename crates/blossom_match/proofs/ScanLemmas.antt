@@ -100,7 +100,7 @@ around_append a b [] ys = omega arith
 around_append a b (c ∷ xs) ys = omega (arith, around_append a b xs ys)
 
 -- no outer set holds a place of those before and a place of this one
-apart_from : (a b : ℕ) (root : NestValue) (bs : List Branch) (c : Branch) (after : List Branch) → ((x : ℕ) → count x (outer_members root.members (bs ++ c ∷ after)) ≤ 1) →
+pub apart_from : (a b : ℕ) (root : NestValue) (bs : List Branch) (c : Branch) (after : List Branch) → ((x : ℕ) → count x (outer_members root.members (bs ++ c ∷ after)) ≤ 1) →
     1 ≤ count a (outer_members root.members bs) → 1 ≤ count b c.outer.members → holding a b root (bs ++ c ∷ after) ≡ 0
 apart_from a b root bs c after once ha hb =
     let at = λ (x : ℕ). outer-append x root.members bs (c ∷ after) in

@@ -16,3 +16,5 @@ pub mod Shrinks
 pub mod Lays
 pub mod Searches
 pub mod Bounds
+pub mod Widths
+pub mod Phases

@@ -1,5 +1,5 @@
 -- Tables of distances, in whole steps. Places are numbered from 0.
-use Rattle.std.specs.Prelude.{◌≡◌, ◌≢◌, ◌==◌, ◌&&◌, ◌||◌, ℕ, ◌+◌, ◌*◌, ◌<◌, ◌≤◌, length, max, min, slice_index, replicate, if◌then◌else◌}
+use Rattle.std.specs.Prelude.{◌≡◌, ◌==◌, ◌&&◌, ◌||◌, ℕ, ◌+◌, ◌*◌, ◌<◌, ◌≤◌, length, max, min, slice_index, replicate, if◌then◌else◌}
 
 use Rattle.blossom_match.specs.TableValue.{TableValue}
 use Rattle.blossom_match.specs.declared.table.TheConstants.{MAX_DISTANCE, MAX_PLACES}
@@ -22,10 +22,11 @@ pub record IsTable (t : TableValue) : Type 0 where
   pub filled : length t.cells ≡ t.places * t.places
   pub short : (a b : ℕ) → a < t.places → b < t.places → entry t a b ≤ MAX_DISTANCE
 
--- different places are at least one step apart
-abbrev pub PlacesDiffer : TableValue → Type 0
-PlacesDiffer t = (a b : ℕ) → a < t.places → b < t.places → a ≢ b → 1 ≤ entry t a b
-
 -- no way round by a third place is shorter
 abbrev pub KeepsTriangles : TableValue → Type 0
 KeepsTriangles t = (a b c : ℕ) → a < t.places → b < t.places → c < t.places → entry t a c ≤ entry t a b + entry t b c
+
+-- a table without shorter ways round
+pub record IsMetric (t : TableValue) : Type 0 where
+  pub table : IsTable t
+  pub triangles : KeepsTriangles t

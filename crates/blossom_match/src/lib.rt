@@ -10,11 +10,14 @@ mod least;
 mod matching;
 mod nest;
 mod opening;
+mod pairing;
+mod phase;
 mod ring;
 mod search;
 mod shrinking;
 mod table;
 mod taking;
+mod widening;
 #[cfg(test)]
 mod tests;
 
