@@ -19,3 +19,4 @@ pub mod RaisedLemmas
 pub mod ScanLemmas
 pub mod BoundLemmas
 pub mod WidthLemmas
+pub mod EndLemmas

@@ -21,5 +21,5 @@ mod widening;
 #[cfg(test)]
 mod tests;
 
-pub use matching::{Matching, Moat, Moats, Pair, Pairs};
+pub use matching::{Matching, Moat, Moats, Pair, Pairs, match_all};
 pub use table::{DistTable, MAX_DISTANCE, MAX_PLACES};
