@@ -1,15 +1,13 @@
 -- Augmenting, branch by branch from the newest.
-use Rattle.std.proofs.Common.{◌≡◌, ℕ, ◌+◌, ◌≤◌, List, [], ◌∷◌, ◌++◌, length, arith, sym, subst}
-use Rattle.blossom_match.specs.Lists.{Each}
-use Rattle.blossom_match.specs.Bands.{Adds, Band, NestValue, bands, count}
-use Rattle.blossom_match.specs.Couples.{couple_members, couple_bands, IsJoined}
+use Rattle.std.proofs.Common.{◌≡◌, ◌≤◌, List, [], ◌∷◌, ◌++◌, length, arith, sym, subst}
+use Rattle.blossom_match.specs.Bands.{NestValue, count}
+use Rattle.blossom_match.specs.Couples.{IsJoined}
 use Rattle.blossom_match.specs.Sound.{IsFirm, IsFirmCouple}
-use Rattle.blossom_match.specs.Trees.{outer_members, inner_members, branch_bands, IsGrown, Augmenting, Augments}
+use Rattle.blossom_match.specs.Trees.{Augmenting, Augments}
 use Rattle.blossom_match.specs.declared.nest.Link.{Link}
 use Rattle.blossom_match.specs.declared.couples.Couple.{Couple}
 use Rattle.blossom_match.specs.declared.branches.Branch.{Branch}
 use Rattle.blossom_match.proofs.ListLemmas.{each-left, each-last, each-push}
-use Rattle.blossom_match.proofs.SumLemmas.{count-append}
 use Rattle.blossom_match.proofs.TreeLemmas.{last_of, outer_members_push, inner_members_push, branch_bands_push, couple_members_push, couple_bands_push}
 
 -- what is left to do does the rest
@@ -28,11 +26,12 @@ matched root hand way bs b now new can here a =
     let one : count way.from b.outer.members ≡ 1 = omega (arith, can.once way.from, outer_members_push way.from root.members bs b) in
     let c = couple_of b.outer hand way in
     record {
-    joined = λ j. a.joined (each-push IsJoined now c j (record { from = one; to = can.to }));
-    firm = λ d h w r m t j. let f = each-last (IsFirm d h) bs b t in
-        a.firm d h f.up r f.inner (each-left (IsFirm d h) bs (b ∷ []) t) (each-push (IsFirmCouple d h) now c j (record { link = w; first = f.outer; second = m }));
-    places = λ x. omega (arith, a.places x, couple_members_push x now c, outer_members_push x root.members bs b, inner_members_push x bs b);
-    sums = λ F add. omega (arith, a.sums F add, couple_bands_push F add now c, branch_bands_push F add bs b) }
+      joined = λ j. a.joined (each-push IsJoined now c j (record { from = one; to = can.to }));
+      firm = λ d h w r m t j. let f = each-last (IsFirm d h) bs b t in
+          a.firm d h f.up r f.inner (each-left (IsFirm d h) bs (b ∷ []) t) (each-push (IsFirmCouple d h) now c j (record { link = w; first = f.outer; second = m }));
+      places = λ x. omega (arith, a.places x, couple_members_push x now c, outer_members_push x root.members bs b, inner_members_push x bs b);
+      sums = λ F add. omega (arith, a.sums F add, couple_bands_push F add now c, branch_bands_push F add bs b);
+    }
 
 kept : (root hand : NestValue) (way : Link) (bs : List Branch) (b : Branch) (now new : List Couple) →
     Augmenting hand way root (bs ++ b ∷ []) →
@@ -41,11 +40,12 @@ kept root hand way bs b now new can a =
     let l = last_of root.members bs b can.grown in
     let c = couple_of b.inner b.outer b.pair in
     record {
-    joined = λ j. a.joined (each-push IsJoined now c j (record { from = l.pair_from; to = l.pair_to }));
-    firm = λ d h w r m t j. let f = each-last (IsFirm d h) bs b t in
-        a.firm d h w r m (each-left (IsFirm d h) bs (b ∷ []) t) (each-push (IsFirmCouple d h) now c j (record { link = f.pair; first = f.inner; second = f.outer }));
-    places = λ x. omega (arith, a.places x, couple_members_push x now c, outer_members_push x root.members bs b, inner_members_push x bs b);
-    sums = λ F add. omega (arith, a.sums F add, couple_bands_push F add now c, branch_bands_push F add bs b) }
+      joined = λ j. a.joined (each-push IsJoined now c j (record { from = l.pair_from; to = l.pair_to }));
+      firm = λ d h w r m t j. let f = each-last (IsFirm d h) bs b t in
+          a.firm d h w r m (each-left (IsFirm d h) bs (b ∷ []) t) (each-push (IsFirmCouple d h) now c j (record { link = f.pair; first = f.inner; second = f.outer }));
+      places = λ x. omega (arith, a.places x, couple_members_push x now c, outer_members_push x root.members bs b, inner_members_push x bs b);
+      sums = λ F add. omega (arith, a.sums F add, couple_bands_push F add now c, branch_bands_push F add bs b);
+    }
 
 pub pairing_matched : (root met : NestValue) (link : Link) (tree : List Branch) (old now next : List Couple) (hand : NestValue) (way : Link) (left bs : List Branch) (b : Branch) →
     Pairing root met link tree old now hand way left → left ≡ bs ++ b ∷ [] → 1 ≤ count way.from b.outer.members →
@@ -54,10 +54,15 @@ pairing_matched root met link tree old now next hand way left bs b p e here f =
     let can = subst (λ (ks : List Branch). Augmenting hand way root ks) e p.can in
     let l = last_of root.members bs b can.grown in
     record {
-    can = record { grown = l.grown; from = l.above; to = l.up_to;
-        once = λ x. omega (arith, can.once x, outer_members_push x root.members bs b, inner_members_push x bs b) };
-    does = λ new a. p.does new (subst (λ (ks : List Branch). Augments root hand way ks now new) (sym e)
-        (matched root hand way bs b now new can here (subst (λ (ks : List Couple). Augments root b.inner b.up bs ks new) f a))) }
+      can = record {
+        grown = l.grown;
+        from = l.above;
+        to = l.up_to;
+        once = λ x. omega (arith, can.once x, outer_members_push x root.members bs b, inner_members_push x bs b);
+      };
+      does = λ new a. p.does new (subst (λ (ks : List Branch). Augments root hand way ks now new) (sym e)
+          (matched root hand way bs b now new can here (subst (λ (ks : List Couple). Augments root b.inner b.up bs ks new) f a)));
+    }
 
 pub pairing_kept : (root met : NestValue) (link : Link) (tree : List Branch) (old now next : List Couple) (hand : NestValue) (way : Link) (left bs : List Branch) (b : Branch) →
     Pairing root met link tree old now hand way left → left ≡ bs ++ b ∷ [] → count way.from b.outer.members ≡ 0 →
@@ -66,20 +71,26 @@ pairing_kept root met link tree old now next hand way left bs b p e here f =
     let can = subst (λ (ks : List Branch). Augmenting hand way root ks) e p.can in
     let l = last_of root.members bs b can.grown in
     record {
-    can = record { grown = l.grown; from = omega (arith, can.from, outer_members_push way.from root.members bs b); to = can.to;
-        once = λ x. omega (arith, can.once x, outer_members_push x root.members bs b, inner_members_push x bs b) };
-    does = λ new a. p.does new (subst (λ (ks : List Branch). Augments root hand way ks now new) (sym e)
-        (kept root hand way bs b now new can (subst (λ (ks : List Couple). Augments root hand way bs ks new) f a))) }
+      can = record {
+        grown = l.grown;
+        from = omega (arith, can.from, outer_members_push way.from root.members bs b);
+        to = can.to;
+        once = λ x. omega (arith, can.once x, outer_members_push x root.members bs b, inner_members_push x bs b);
+      };
+      does = λ new a. p.does new (subst (λ (ks : List Branch). Augments root hand way ks now new) (sym e)
+          (kept root hand way bs b now new can (subst (λ (ks : List Couple). Augments root hand way bs ks new) f a)));
+    }
 
 at_root : (root hand : NestValue) (way : Link) (now : List Couple) → Augmenting hand way root [] → Augments root hand way [] now (now ++ couple_of root hand way ∷ [])
 at_root root hand way now can =
     let one : count way.from root.members ≡ 1 = omega (arith, can.from, can.once way.from) in
     let c = couple_of root hand way in
     record {
-    joined = λ j. each-push IsJoined now c j (record { from = one; to = can.to });
-    firm = λ d h w r m t j. each-push (IsFirmCouple d h) now c j (record { link = w; first = r; second = m });
-    places = λ x. omega (arith, couple_members_push x now c);
-    sums = λ F add. omega (arith, couple_bands_push F add now c, add [] []) }
+      joined = λ j. each-push IsJoined now c j (record { from = one; to = can.to });
+      firm = λ d h w r m t j. each-push (IsFirmCouple d h) now c j (record { link = w; first = r; second = m });
+      places = λ x. omega (arith, couple_members_push x now c);
+      sums = λ F add. omega (arith, couple_bands_push F add now c, add [] []);
+    }
 
 pub pairing_done : (root met : NestValue) (link : Link) (tree : List Branch) (old now new : List Couple) (hand : NestValue) (way : Link) (left : List Branch) →
     Pairing root met link tree old now hand way left → length left ≡ 0 → new ≡ now ++ couple_of root hand way ∷ [] → Augments root met link tree old new

@@ -1,27 +1,25 @@
 -- Loads between sets as heights, and the room between places.
-use Rattle.std.proofs.Common.{◌≡◌, ◌≢◌, ℕ, ◌+◌, ◌*◌, ◌^◌, ◌%◌, ◌≤◌, ◌<◌, ◌⊎◌, inl, inr, suc, zero, List, [], ◌∷◌, ◌++◌, length, get_or, min, Bool, true, false, cond, ltb, arith, refl, sym, ap, subst, ◌∙◌}
+use Rattle.std.proofs.Common.{◌≡◌, ◌≢◌, ℕ, ◌+◌, ◌*◌, ◌≤◌, ◌<◌, ◌⊎◌, inl, inr, suc, zero, List, [], ◌∷◌, ◌++◌, get_or, Bool, true, false, cond, ltb, arith, refl, sym, ap, subst}
 use Rattle.std.proofs.lemmas.Bool.{lt-ltb, ltb-true}
 use Rattle.blossom_match.specs.Lists.{Each}
 use Rattle.blossom_match.specs.Bands.{NestValue, Kept, NoneHold, bands, count, height, load}
 use Rattle.blossom_match.specs.Couples.{couple_members, couple_bands}
-use Rattle.blossom_match.specs.Sound.{IsFirm, IsFirmCouple, IsSound}
+use Rattle.blossom_match.specs.Sound.{IsFirm, IsFirmCouple}
 use Rattle.blossom_match.specs.Trees.{around, both, branch_bands, inner_members, outer_members}
 use Rattle.blossom_match.specs.Searches.{holding_both, is_place, outers, IsSearch}
 use Rattle.blossom_match.specs.TableValue.{TableValue}
 use Rattle.blossom_match.specs.Tables.{entry, IsTable}
-use Rattle.blossom_match.specs.Bounds.{height_of, holding, Bounds, CanCross, CanOffer, CanSearch, Crossed, Crosses, FitHeights, Found, IsDue, Narrows, RingIsDue, RingIsWide, Scans}
+use Rattle.blossom_match.specs.Bounds.{Bounds, CanCross, CanOffer, CanSearch, Crossed, Crosses, FitHeights, Found, IsDue, Narrows, RingIsDue, Scans}
 use Rattle.blossom_match.specs.declared.table.TheConstants.{MAX_DISTANCE}
 use Rattle.blossom_match.specs.declared.couples.Couple.{Couple}
 use Rattle.blossom_match.specs.declared.branches.Branch.{Branch}
 use Rattle.blossom_match.specs.declared.search.Search.{Search}
 use Rattle.blossom_match.specs.declared.search.Step.{Step}
-use Rattle.blossom_match.specs.declared.search.Step.TheVariants.{Meet, Grow, Shrink, Expand}
 use Rattle.blossom_match.specs.declared.least.Change.{Change}
 use Rattle.blossom_match.specs.declared.least.Kind.TheVariants as kind
-use Rattle.blossom_match.proofs.ListLemmas.{each-map}
-use Rattle.blossom_match.proofs.SumLemmas.{count-append, height-append, hit_same, load-append, load_across, load_along, load_alone, low, none_hold, some_member, NoneHold-append}
+use Rattle.blossom_match.proofs.SumLemmas.{count-append, height-append, load-append, load_across, load_along, load_alone, low, none_hold, some_member, NoneHold-append}
 use Rattle.blossom_match.proofs.ScanLemmas.{around_none}
-use Rattle.blossom_match.proofs.SearchLemmas.{is_one, low_branches, low_couples, low_free}
+use Rattle.blossom_match.proofs.SearchLemmas.{is_one, low_branches, low_couples}
 use Rattle.blossom_match.proofs.ShrinkLemmas.{two_even}
 use Rattle.blossom_match.proofs.TreeLemmas.{base_in}
 
@@ -38,11 +36,18 @@ load_branches : (d : ℕ → ℕ → ℕ) (h : ℕ → ℕ) (a b : ℕ) (tree : 
 load_branches d h a b [] f none apart = refl
 load_branches d h a b (c ∷ cs) f none apart =
     let n = count-append a c.inner.members (inner_members cs) in
-    omega (arith, load_across a b c.inner f.0.inner.kept (omega (arith, n, none)), load_either a b c.outer f.0.outer.kept (omega (arith, apart)),
-        load_branches d h a b cs f.1 (omega (arith, n, none)) (omega (arith, apart)),
-        load-append a b (bands c.inner) (bands c.outer ++ branch_bands cs), load-append a b (bands c.outer) (branch_bands cs),
-        height-append a (bands c.inner) (bands c.outer ++ branch_bands cs), height-append a (bands c.outer) (branch_bands cs),
-        height-append b (bands c.inner) (bands c.outer ++ branch_bands cs), height-append b (bands c.outer) (branch_bands cs))
+    omega (
+      arith,
+      load_across a b c.inner f.0.inner.kept (omega (arith, n, none)),
+      load_either a b c.outer f.0.outer.kept (omega (arith, apart)),
+      load_branches d h a b cs f.1 (omega (arith, n, none)) (omega (arith, apart)),
+      load-append a b (bands c.inner) (bands c.outer ++ branch_bands cs),
+      load-append a b (bands c.outer) (branch_bands cs),
+      height-append a (bands c.inner) (bands c.outer ++ branch_bands cs),
+      height-append a (bands c.outer) (branch_bands cs),
+      height-append b (bands c.inner) (bands c.outer ++ branch_bands cs),
+      height-append b (bands c.outer) (branch_bands cs),
+    )
 
 load_couples : (d : ℕ → ℕ → ℕ) (h : ℕ → ℕ) (a b : ℕ) (cs : List Couple) → Each (IsFirmCouple d h) cs → count a (couple_members cs) ≡ 0 →
     load a b (couple_bands cs) ≡ height a (couple_bands cs) + height b (couple_bands cs)
@@ -50,11 +55,18 @@ load_couples d h a b [] f none = refl
 load_couples d h a b (c ∷ cs) f none =
     let n = count-append a c.first.members (c.second.members ++ couple_members cs) in
     let m = count-append a c.second.members (couple_members cs) in
-    omega (arith, load_across a b c.first f.0.first.kept (omega (arith, n, none)), load_across a b c.second f.0.second.kept (omega (arith, n, m, none)),
-        load_couples d h a b cs f.1 (omega (arith, n, m, none)),
-        load-append a b (bands c.first) (bands c.second ++ couple_bands cs), load-append a b (bands c.second) (couple_bands cs),
-        height-append a (bands c.first) (bands c.second ++ couple_bands cs), height-append a (bands c.second) (couple_bands cs),
-        height-append b (bands c.first) (bands c.second ++ couple_bands cs), height-append b (bands c.second) (couple_bands cs))
+    omega (
+      arith,
+      load_across a b c.first f.0.first.kept (omega (arith, n, none)),
+      load_across a b c.second f.0.second.kept (omega (arith, n, m, none)),
+      load_couples d h a b cs f.1 (omega (arith, n, m, none)),
+      load-append a b (bands c.first) (bands c.second ++ couple_bands cs),
+      load-append a b (bands c.second) (couple_bands cs),
+      height-append a (bands c.first) (bands c.second ++ couple_bands cs),
+      height-append a (bands c.second) (couple_bands cs),
+      height-append b (bands c.first) (bands c.second ++ couple_bands cs),
+      height-append b (bands c.second) (couple_bands cs),
+    )
 
 -- all widths between two places
 abbrev pub load_of : Search → ℕ → ℕ → ℕ
@@ -64,9 +76,14 @@ load_of s a b = load a b (bands s.root) + load a b (branch_bands s.tree.items) +
 pub loads_apart : (t : TableValue) (h : ℕ → ℕ) (s : Search) (a b : ℕ) → IsSearch t h s → 1 ≤ count a (outers s) → holding_both a b s ≡ 0 → load_of s a b ≡ h a + h b
 loads_apart t h s a b i ha apart =
     let one = is_one t a in
-    omega (arith, i.tall a, i.tall b, load_either a b s.root i.root.kept (omega (arith, apart)),
-        load_branches (entry t) h a b s.tree.items i.tree (omega (arith, i.places a, one, ha)) (omega (arith, apart)),
-        load_couples (entry t) h a b s.rest.items i.rest (omega (arith, i.places a, one, ha)))
+    omega (
+      arith,
+      i.tall a,
+      i.tall b,
+      load_either a b s.root i.root.kept (omega (arith, apart)),
+      load_branches (entry t) h a b s.tree.items i.tree (omega (arith, i.places a, one, ha)) (omega (arith, apart)),
+      load_couples (entry t) h a b s.rest.items i.rest (omega (arith, i.places a, one, ha)),
+    )
 
 pub not_both : (s : Search) (a b : ℕ) → count b (outers s) ≡ 0 → holding_both a b s ≡ 0
 not_both s a b none = omega (arith, around_none a b s.root.members s.tree.items none, base_in b s.root.members s.tree.items, none)
@@ -121,26 +138,30 @@ HeightsAre hs h = (x : ℕ) → get_or hs x 0 ≡ h x
 
 pub offer_free : (t : TableValue) (h : ℕ → ℕ) (s : Search) (hs : List ℕ) → IsSearch t h s → HeightsAre hs h → (a b : ℕ) → 1 ≤ count a (outers s) → 1 ≤ count b s.free.items → CanOffer t hs kind.Meet a b
 offer_free t h s hs i at a b ha hb = record {
-    a_in = place_in t a (omega (arith, i.places a, ha));
-    b_in = place_in t b (omega (arith, i.places b, hb));
-    room = omega (arith, at a, at b, free_room t h s a b i ha hb);
-    whole = omega arith }
+  a_in = place_in t a (omega (arith, i.places a, ha));
+  b_in = place_in t b (omega (arith, i.places b, hb));
+  room = omega (arith, at a, at b, free_room t h s a b i ha hb);
+  whole = omega arith;
+}
 
 pub offer_coupled : (t : TableValue) (h : ℕ → ℕ) (s : Search) (hs : List ℕ) → IsSearch t h s → HeightsAre hs h → (a b : ℕ) → 1 ≤ count a (outers s) → 1 ≤ count b (couple_members s.rest.items) → CanOffer t hs kind.Grow a b
 offer_coupled t h s hs i at a b ha hb = record {
-    a_in = place_in t a (omega (arith, i.places a, ha));
-    b_in = place_in t b (omega (arith, i.places b, hb));
-    room = omega (arith, at a, at b, coupled_room t h s a b i ha hb);
-    whole = omega arith }
+  a_in = place_in t a (omega (arith, i.places a, ha));
+  b_in = place_in t b (omega (arith, i.places b, hb));
+  room = omega (arith, at a, at b, coupled_room t h s a b i ha hb);
+  whole = omega arith;
+}
 
 pub can_cross : (t : TableValue) (h : ℕ → ℕ) (s : Search) (hs : List ℕ) → IsSearch t h s → HeightsAre hs h → CanCross t hs s.root s.tree.items
 can_cross t h s hs i at = record {
-    offer = λ a b ha hb apart. record {
-        a_in = place_in t a (omega (arith, i.places a, ha));
-        b_in = place_in t b (omega (arith, i.places b, hb));
-        room = omega (arith, at a, at b, outer_room t h s a b i ha hb apart);
-        whole = omega (arith, at a, at b, two_even (entry t) h s.root s.tree.items i.grown i.root i.tree a b (omega (arith, ha)) (omega (arith, hb))) };
-    once = λ x. omega (arith, i.places x, is_one t x) }
+  offer = λ a b ha hb apart. record {
+    a_in = place_in t a (omega (arith, i.places a, ha));
+    b_in = place_in t b (omega (arith, i.places b, hb));
+    room = omega (arith, at a, at b, outer_room t h s a b i ha hb apart);
+    whole = omega (arith, at a, at b, two_even (entry t) h s.root s.tree.items i.grown i.root i.tree a b (omega (arith, ha)) (omega (arith, hb)));
+  };
+  once = λ x. omega (arith, i.places x, is_one t x);
+}
 
 none_branches : (d : ℕ → ℕ → ℕ) (h : ℕ → ℕ) (x : ℕ) (base : List ℕ) (tree : List Branch) → Each (IsFirm d h) tree → count x (outer_members base tree) ≡ 0 → count x (inner_members tree) ≡ 0 → NoneHold x (branch_bands tree)
 none_branches d h x base [] f none empty = tt
@@ -148,8 +169,8 @@ none_branches d h x base (b ∷ bs) f none empty =
     let o = count-append x b.outer.members (outer_members base bs) in
     let i = count-append x b.inner.members (inner_members bs) in
     NoneHold-append x (bands b.inner) (bands b.outer ++ branch_bands bs) (none_hold x b.inner f.0.inner.kept (omega (arith, i, empty)))
-        (NoneHold-append x (bands b.outer) (branch_bands bs) (none_hold x b.outer f.0.outer.kept (omega (arith, o, none)))
-            (none_branches d h x base bs f.1 (omega (arith, o, none)) (omega (arith, i, empty))))
+    (NoneHold-append x (bands b.outer) (branch_bands bs) (none_hold x b.outer f.0.outer.kept (omega (arith, o, none)))
+    (none_branches d h x base bs f.1 (omega (arith, o, none)) (omega (arith, i, empty))))
 
 none_couples : (d : ℕ → ℕ → ℕ) (h : ℕ → ℕ) (x : ℕ) (cs : List Couple) → Each (IsFirmCouple d h) cs → count x (couple_members cs) ≡ 0 → NoneHold x (couple_bands cs)
 none_couples d h x [] f none = tt
@@ -157,23 +178,32 @@ none_couples d h x (c ∷ cs) f none =
     let o = count-append x c.first.members (c.second.members ++ couple_members cs) in
     let i = count-append x c.second.members (couple_members cs) in
     NoneHold-append x (bands c.first) (bands c.second ++ couple_bands cs) (none_hold x c.first f.0.first.kept (omega (arith, o, none)))
-        (NoneHold-append x (bands c.second) (couple_bands cs) (none_hold x c.second f.0.second.kept (omega (arith, o, i, none))) (none_couples d h x cs f.1 (omega (arith, o, i, none))))
+    (NoneHold-append x (bands c.second) (couple_bands cs) (none_hold x c.second f.0.second.kept (omega (arith, o, i, none))) (none_couples d h x cs f.1 (omega (arith, o, i, none))))
 
 -- to a free place the load is the height
 load_free : (t : TableValue) (h : ℕ → ℕ) (s : Search) (x f : ℕ) → IsSearch t h s → 1 ≤ count f s.free.items → load_of s x f ≡ h x
 load_free t h s x f i hf =
     let one = is_one t f in
     let o : count f (outers s) ≡ 0 = omega (arith, i.places f, one, hf) in
-    omega (arith, i.tall x, load_alone x f (bands s.root) (none_hold f s.root i.root.kept (omega (arith, base_in f s.root.members s.tree.items, o))),
-        load_alone x f (branch_bands s.tree.items) (none_branches (entry t) h f s.root.members s.tree.items i.tree o (omega (arith, i.places f, one, hf))),
-        load_alone x f (couple_bands s.rest.items) (none_couples (entry t) h f s.rest.items i.rest (omega (arith, i.places f, one, hf))))
+    omega (
+      arith,
+      i.tall x,
+      load_alone x f (bands s.root) (none_hold f s.root i.root.kept (omega (arith, base_in f s.root.members s.tree.items, o))),
+      load_alone x f (branch_bands s.tree.items) (none_branches (entry t) h f s.root.members s.tree.items i.tree o (omega (arith, i.places f, one, hf))),
+      load_alone x f (couple_bands s.rest.items) (none_couples (entry t) h f s.rest.items i.rest (omega (arith, i.places f, one, hf))),
+    )
 
 -- a number that is no place has no height
 high_case : (n : ℕ) (t : TableValue) (h : ℕ → ℕ) (s : Search) (x f : ℕ) → IsTable t → IsSearch t h s → 1 ≤ count f s.free.items → count x (outers s) + count x (inner_members s.tree.items) + count x (couple_members s.rest.items) ≡ n →
     h x ≤ 2 * MAX_DISTANCE
 high_case zero t h s x f is i hf e =
-    omega (arith, i.tall x, low x s.root i.root.kept (omega (arith, base_in x s.root.members s.tree.items, e)), low_branches (entry t) h x s.root.members s.tree.items i.tree (omega (arith, e)) (omega (arith, e)),
-        low_couples (entry t) h x s.rest.items i.rest (omega (arith, e)))
+    omega (
+      arith,
+      i.tall x,
+      low x s.root i.root.kept (omega (arith, base_in x s.root.members s.tree.items, e)),
+      low_branches (entry t) h x s.root.members s.tree.items i.tree (omega (arith, e)) (omega (arith, e)),
+      low_couples (entry t) h x s.rest.items i.rest (omega (arith, e)),
+    )
 high_case (suc n) t h s x f is i hf e =
     let lx = place_in t x (omega (arith, i.places x, e)) in
     let lf = place_in t f (omega (arith, i.places f, hf)) in
@@ -188,8 +218,9 @@ pub fit_heights : (t : TableValue) (s : Search) → IsTable t → CanSearch t s 
 fit_heights t s is can =
     let f = some_member s.free.items can.some in
     record {
-    within = λ x some. place_in t x (omega (arith, can.search.places x, some));
-    fits = λ x. omega (arith, can.search.tall x, height_limit t can.h s x f.0 is can.search f.1) }
+      within = λ x some. place_in t x (omega (arith, can.search.places x, some));
+      fits = λ x. omega (arith, can.search.tall x, height_limit t can.h s x f.0 is can.search f.1);
+    }
 
 due_found : (t : TableValue) (h : ℕ → ℕ) (s : Search) (hs xs : List ℕ) (c : Change) → HeightsAre hs h → ((x : ℕ) → count x xs ≤ count x (outers s)) → Found t hs kind.Meet xs s.free.items c → IsDue t h s c.by c.step
 due_found t h s hs xs c at within f = subst (λ (st : Step). IsDue t h s c.by st) (sym f.step) (omega (arith, f.in_xs, within f.a), f.in_ys, omega (arith, f.exact, at f.a, at f.b))
@@ -214,16 +245,17 @@ pub bounds_of : (t : TableValue) (h : ℕ → ℕ) (s : Search) (hs found couple
 bounds_of t h s hs found coupled first best grown met new i at one crosses same e grows meets narrows =
     let g = subst (λ (xs : List ℕ). Scans t hs kind.Grow found xs best grown) e grows in
     record {
-    one = λ a b ha hb. either_room (h a + h b + new.by ≤ 2 * entry t a b) (count b (couple_members s.rest.items)) (count b s.free.items)
-        (λ here. omega (arith, at a, at b, g.wide a b (omega (arith, same a, ha)) here, meets.less, narrows.less))
-        (λ here. omega (arith, at a, at b, meets.wide a b (omega (arith, same a, ha)) here, narrows.less)) hb;
-    two = λ a b ha hb apart. omega (arith, at a, at b, crosses.wide a b ha hb apart, g.less, meets.less, narrows.less);
-    rings = narrows.wide;
-    due = still t h s (RingIsDue s.tree.items) met new
-        (still t h s (Found t hs kind.Meet found s.free.items) grown met
-            (still t h s (Found t hs kind.Grow found (couple_members s.rest.items)) best grown
-                (still t h s (Crossed t hs s.root s.tree.items) first best (due_found t h s hs s.root.members first at (λ x. base_in x s.root.members s.tree.items) one)
-                    (λ c f. due_crossed t h s hs c at f) crosses.is)
-                (λ c f. due_grown t h s hs found c at (λ x. omega (arith, same x)) f) g.is)
-            (λ c f. due_found t h s hs found c at (λ x. omega (arith, same x)) f) meets.is)
-        (λ c f. due_ring t h s c f) narrows.is }
+      one = λ a b ha hb. either_room (h a + h b + new.by ≤ 2 * entry t a b) (count b (couple_members s.rest.items)) (count b s.free.items)
+          (λ here. omega (arith, at a, at b, g.wide a b (omega (arith, same a, ha)) here, meets.less, narrows.less))
+          (λ here. omega (arith, at a, at b, meets.wide a b (omega (arith, same a, ha)) here, narrows.less)) hb;
+      two = λ a b ha hb apart. omega (arith, at a, at b, crosses.wide a b ha hb apart, g.less, meets.less, narrows.less);
+      rings = narrows.wide;
+      due = still t h s (RingIsDue s.tree.items) met new
+          (still t h s (Found t hs kind.Meet found s.free.items) grown met
+          (still t h s (Found t hs kind.Grow found (couple_members s.rest.items)) best grown
+          (still t h s (Crossed t hs s.root s.tree.items) first best (due_found t h s hs s.root.members first at (λ x. base_in x s.root.members s.tree.items) one)
+          (λ c f. due_crossed t h s hs c at f) crosses.is)
+          (λ c f. due_grown t h s hs found c at (λ x. omega (arith, same x)) f) g.is)
+          (λ c f. due_found t h s hs found c at (λ x. omega (arith, same x)) f) meets.is)
+          (λ c f. due_ring t h s c f) narrows.is;
+    }

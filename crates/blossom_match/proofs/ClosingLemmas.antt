@@ -1,7 +1,7 @@
 -- Chains that close into rings, and the sets that they make.
-use Rattle.std.proofs.Common.{◌≡◌, ℕ, ◌+◌, ◌*◌, ◌%◌, ◌<◌, ◌≤◌, zero, suc, List, [], ◌∷◌, ◌++◌, length, arith, refl, sym, ap, subst, ◌∙◌}
+use Rattle.std.proofs.Common.{◌≡◌, ℕ, ◌+◌, ◌%◌, ◌≤◌, zero, suc, List, [], ◌∷◌, ◌++◌, arith, refl, sym, subst}
 use Rattle.blossom_match.specs.Lists.{Each}
-use Rattle.blossom_match.specs.Bands.{NestValue, bands, count, height, IsPaid, Kept}
+use Rattle.blossom_match.specs.Bands.{bands, count, height, IsPaid}
 use Rattle.blossom_match.specs.Rings.{members_in, bands_in, tolls_in, Linked, ring_tolls, tolls_along, IsLinkedRing, IsRing, AllKept, nest_of}
 use Rattle.blossom_match.specs.Sound.{IsFirm, IsFirmPart, IsSound, IsTight}
 use Rattle.blossom_match.specs.Shrinks.{Leads}
@@ -86,13 +86,14 @@ local_in d h x (p ∷ ps) kept f once some =
 pub ring_sound : (d : ℕ → ℕ → ℕ) (h : ℕ → ℕ) (p : Part) (ps : List Part) → IsRing (p ∷ ps) → ((x : ℕ) → count x (members_in (p ∷ ps)) ≤ 1) → Each (IsFirmPart d h) (p ∷ ps) →
     ((x y : ℕ) → 1 ≤ count x (members_in (p ∷ ps)) → 1 ≤ count y (members_in (p ∷ ps)) → (h x + h y) % 2 ≡ 0) → IsSound d h (nest_of (members_in (p ∷ ps)) 0 (p ∷ ps))
 ring_sound d h p ps ring once firm even = record {
-    kept = made_kept (members_in (p ∷ ps)) 0 (p ∷ ps) (refl, ring);
-    paid = IsPaid-append d (ring_tolls (p ∷ ps)) (tolls_in (p ∷ ps))
-        (ring_is_paid d h p ps ring.linked (each-map (IsFirmPart d h) (IsLocal h) (λ q f. f.nest.local) (p ∷ ps) firm)
-            (each-map (IsFirmPart d h) (λ (k : Part). IsTight d h k.next) (λ q f. f.next) (p ∷ ps) firm))
-        (paid_inside d h (p ∷ ps) firm);
-    local = λ x some. omega (arith, local_in d h x (p ∷ ps) ring.kept firm (once x) some);
-    even = even }
+  kept = made_kept (members_in (p ∷ ps)) 0 (p ∷ ps) (refl, ring);
+  paid = IsPaid-append d (ring_tolls (p ∷ ps)) (tolls_in (p ∷ ps))
+      (ring_is_paid d h p ps ring.linked (each-map (IsFirmPart d h) (IsLocal h) (λ q f. f.nest.local) (p ∷ ps) firm)
+      (each-map (IsFirmPart d h) (λ (k : Part). IsTight d h k.next) (λ q f. f.next) (p ∷ ps) firm))
+      (paid_inside d h (p ∷ ps) firm);
+  local = λ x some. omega (arith, local_in d h x (p ∷ ps) ring.kept firm (once x) some);
+  even = even;
+}
 
 with_more : (n k m : ℕ) → (1 ≤ n → k % 2 ≡ 0) → (1 ≤ m → k % 2 ≡ 0) → 1 ≤ n + m → k % 2 ≡ 0
 with_more zero k m one two some = two (omega arith)
@@ -109,10 +110,10 @@ tree_even d h r base [] g f even x some = even x (omega (arith, some))
 tree_even d h r base (b ∷ bs) g f even x some =
     let up : (h r + h b.up.to) % 2 ≡ 0 = omega (arith, even b.up.from g.0, f.0.up) in
     let inside : (y : ℕ) → 1 ≤ count y b.inner.members → (h r + h y) % 2 ≡ 0 =
-        λ y here. omega (arith, up, f.0.inner.even b.up.to y (omega (arith, g.1)) here) in
+    λ y here. omega (arith, up, f.0.inner.even b.up.to y (omega (arith, g.1)) here) in
     let across : (h r + h b.pair.to) % 2 ≡ 0 = omega (arith, inside b.pair.from (omega (arith, g.2)), f.0.pair) in
     let outside : (y : ℕ) → 1 ≤ count y b.outer.members → (h r + h y) % 2 ≡ 0 =
-        λ y here. omega (arith, across, f.0.outer.even b.pair.to y (omega (arith, g.3)) here) in
+    λ y here. omega (arith, across, f.0.outer.even b.pair.to y (omega (arith, g.3)) here) in
     even_case (count x b.inner.members) (h r + h x) (count x (inner_members bs)) (count x (outer_members (b.outer.members ++ base) bs)) (inside x)
-        (tree_even d h r (b.outer.members ++ base) bs g.4 f.1 (λ y here. with_more (count y b.outer.members) (h r + h y) (count y base) (outside y) (even y) (omega (arith, here, count-append y b.outer.members base))) x)
-        (omega (arith, some, count-append x b.inner.members (inner_members bs), count-append x b.outer.members (outer_members base bs), outer_members_base x b.outer.members base bs))
+    (tree_even d h r (b.outer.members ++ base) bs g.4 f.1 (λ y here. with_more (count y b.outer.members) (h r + h y) (count y base) (outside y) (even y) (omega (arith, here, count-append y b.outer.members base))) x)
+    (omega (arith, some, count-append x b.inner.members (inner_members bs), count-append x b.outer.members (outer_members base bs), outer_members_base x b.outer.members base bs))

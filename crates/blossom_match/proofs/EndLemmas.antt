@@ -1,19 +1,19 @@
 -- Searches one after another, and the matching at their end.
-use Rattle.std.proofs.Common.{◌≡◌, ◌≢◌, ℕ, ◌+◌, ◌*◌, ◌%◌, ◌≤◌, ◌<◌, suc, zero, List, [], ◌∷◌, ◌++◌, length, Bool, true, false, cond, eqb, ltb, arith, refl, sym, ap, subst, ◌∙◌}
+use Rattle.std.proofs.Common.{◌≡◌, ◌≢◌, ℕ, ◌+◌, ◌*◌, ◌≤◌, ◌<◌, List, [], ◌∷◌, ◌++◌, length, Bool, true, false, cond, eqb, ltb, arith, refl, sym, ap, subst, ◌∙◌}
 use Rattle.std.specs.List.{All, AllPairs}
 use Rattle.std.proofs.lemmas.Bool.{eqb-true, eqb-false, ltb-true, ltb-false}
 use Rattle.std.proofs.lemmas.List.Elements.{All-nil, All-cons}
 use Rattle.std.proofs.lemmas.List.Kept.{AllPairs-cons}
 use Rattle.blossom_match.specs.Lists.{Each, EachPair}
-use Rattle.blossom_match.specs.Bands.{Band, apart, count, hit, load, total}
+use Rattle.blossom_match.specs.Bands.{Band, apart, count, hit, load}
 use Rattle.blossom_match.specs.Couples.{couple_members, couple_bands, IsJoined, IsSettled}
 use Rattle.blossom_match.specs.Sound.{IsFirmCouple}
-use Rattle.blossom_match.specs.Searches.{is_place, Advances, CanStep, Ends, IsSearch, IsStanding}
+use Rattle.blossom_match.specs.Searches.{is_place, CanStep, IsSearch, IsStanding}
 use Rattle.blossom_match.specs.Bounds.{Bounds, CanSearch}
 use Rattle.blossom_match.specs.Widths.{CanWiden, StepsOn, Widens}
 use Rattle.blossom_match.specs.Phases.{Begins, Goes, Leads, Stands}
 use Rattle.blossom_match.specs.Taken.{IsOddIn, LieIn, TakesCouples}
-use Rattle.blossom_match.specs.Matchings.{load_on, AreLaminar, IsMatching, IsOddMoat}
+use Rattle.blossom_match.specs.Matchings.{AreLaminar, IsMatching, IsOddMoat}
 use Rattle.blossom_match.specs.TableValue.{TableValue}
 use Rattle.blossom_match.specs.Tables.{entry, IsMetric}
 use Rattle.blossom_match.specs.declared.couples.Couple.{Couple}
@@ -44,11 +44,12 @@ places_more x n xs new e f =
 pub begins : (t : TableValue) (place : ℕ) (couples : List Couple) (free : List ℕ) (s : Search) → Stands t couples (free ++ place ∷ []) → 1 ≤ length free → Begins place couples free s → CanSearch t s
 begins t place couples free s st some b =
     let at = subst (λ (cs : List Couple). IsStanding t st.h cs (s.free.items ++ place ∷ [])) (sym b.rest)
-        (subst (λ (xs : List ℕ). IsStanding t st.h couples (xs ++ place ∷ [])) (sym b.free) st.standing) in
+    (subst (λ (xs : List ℕ). IsStanding t st.h couples (xs ++ place ∷ [])) (sym b.free) st.standing) in
     record {
-    h = st.h;
-    search = begun t st.h place s at b.root b.tree;
-    some = omega (arith, some, ap (λ (xs : List ℕ). length xs) b.free) }
+      h = st.h;
+      search = begun t st.h place s at b.root b.tree;
+      some = omega (arith, some, ap (λ (xs : List ℕ). length xs) b.free);
+    }
 
 steps_of : (t : TableValue) (s wide : Search) (c : Change) → IsMetric t → (can : CanSearch t s) → ((h : ℕ → ℕ) → IsSearch t h s → Bounds t h s c) → Widens s c wide → StepsOn t c wide
 steps_of t s wide c m can bounds w = w.search t can.h m.table m.triangles can.search (bounds can.h can.search) can.some
@@ -72,22 +73,28 @@ goes t s wide c (Done r) m can bounds w l =
 
 -- no couple yet, and all places free
 pub all_free : (t : TableValue) (free : List ℕ) → ((x : ℕ) → count x free ≡ is_place t x) → Stands t [] free
-all_free t free places = record { h = λ x. 0; standing = record {
+all_free t free places = record {
+  h = λ x. 0;
+  standing = record {
     tall = λ x. refl;
     places = λ x. omega (arith, places x);
     joined = tt;
     firm = tt;
-    loads = λ a b la lb ne. omega arith } }
+    loads = λ a b la lb ne. omega arith;
+  };
+}
 
 -- each couple's links are paid
 settled : (d : ℕ → ℕ → ℕ) (h : ℕ → ℕ) (cs : List Couple) → Each IsJoined cs → Each (IsFirmCouple d h) cs → Each (IsSettled d) cs
 settled d h [] j f = tt
-settled d h (c ∷ cs) j f =
-    (record {
-        link = omega (arith, f.0.link, f.0.first.local c.link.from (omega (arith, j.0.from)), f.0.second.local c.link.to (omega (arith, j.0.to)));
-        first = f.0.first.paid;
-        second = f.0.second.paid },
-        settled d h cs j.1 f.1)
+settled d h (c ∷ cs) j f = (
+  record {
+    link = omega (arith, f.0.link, f.0.first.local c.link.from (omega (arith, j.0.from)), f.0.second.local c.link.to (omega (arith, j.0.to)));
+    first = f.0.first.paid;
+    second = f.0.second.paid;
+  },
+  settled d h cs j.1 f.1,
+)
 
 missing : (x : ℕ) (xs : List ℕ) → count x xs ≡ 0 → All (λ (y : ℕ). x ≢ y) xs
 missing x [] none = All-nil (λ (y : ℕ). x ≢ y)
@@ -108,10 +115,11 @@ odd_moats : (n : ℕ) (all : List ℕ) (moats : List Moat) → ((x : ℕ) → co
 odd_moats n all [] once low each = All-nil (IsOddMoat n)
 odd_moats n all (m ∷ moats) once low each =
     All-cons (IsOddMoat n) m moats (record {
-        odd = each.0.odd;
-        different = different m.members (λ x. omega (arith, each.0.within x, once x));
-        below = below n m.members all each.0.within low;
-        wide = each.0.wide }) (odd_moats n all moats once low each.1)
+      odd = each.0.odd;
+      different = different m.members (λ x. omega (arith, each.0.within x, once x));
+      below = below n m.members all each.0.within low;
+      wide = each.0.wide;
+    }) (odd_moats n all moats once low each.1)
 
 each_all : {X : Type 0} (P : X → Type 0) (xs : List X) → Each P xs → All P xs
 each_all P [] e = All-nil P
@@ -140,11 +148,12 @@ matched t cs pairs moats s k =
     let places = λ (x : ℕ). st.places x in
     let lie = subst (λ (ms : List Moat). LieIn (couple_members cs) ms) (sym k.is) k.lie in
     record {
-    paired = λ x. omega (arith, k.places x, places x);
-    odd = odd_moats t.places (couple_members cs) moats (λ x. omega (arith, places x, is_one t x)) (λ x some. place_in t x (omega (arith, places x, some))) lie.each;
-    laminar = pairs_all AreLaminar moats lie.apart;
-    loads = λ a b la lb. omega (arith, k.loads a b, load_case (eqb a b) t s.h cs a b refl st la lb);
-    paid = omega (arith, k.widths, k.paid t (settled (entry t) s.h cs st.joined st.firm)) }
+      paired = λ x. omega (arith, k.places x, places x);
+      odd = odd_moats t.places (couple_members cs) moats (λ x. omega (arith, places x, is_one t x)) (λ x some. place_in t x (omega (arith, places x, some))) lie.each;
+      laminar = pairs_all AreLaminar moats lie.apart;
+      loads = λ a b la lb. omega (arith, k.loads a b, load_case (eqb a b) t s.h cs a b refl st la lb);
+      paid = omega (arith, k.widths, k.paid t (settled (entry t) s.h cs st.joined st.firm));
+    }
 
 pub once_each : (t : TableValue) (cs : List Couple) → Stands t cs [] → (x : ℕ) → count x (couple_members cs) ≤ 1
 once_each t cs s x = omega (arith, s.standing.places x, is_one t x)

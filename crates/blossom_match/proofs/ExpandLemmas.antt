@@ -1,12 +1,12 @@
 -- An inner set that comes apart, between the branches before and after it.
-use Rattle.std.proofs.Common.{◌≡◌, ℕ, ◌+◌, ◌*◌, ◌%◌, ◌≤◌, ◌<◌, suc, zero, List, [], ◌∷◌, ◌++◌, length, take, drop, arith, refl, sym, ap, subst, ◌∙◌, append_assoc, length-append, add-one}
-use Rattle.std.proofs.lemmas.List.{append-nil, length-take, take-append-drop}
+use Rattle.std.proofs.Common.{◌≡◌, ℕ, ◌+◌, ◌%◌, ◌≤◌, ◌<◌, suc, zero, List, [], ◌∷◌, ◌++◌, length, take, drop, arith, refl, sym, ap, subst, ◌∙◌, append_assoc, length-append}
+use Rattle.std.proofs.lemmas.List.{length-take, take-append-drop}
 use Rattle.blossom_match.specs.Lists.{Each}
-use Rattle.blossom_match.specs.Bands.{Adds, Band, NestValue, Toll, bands, count, height, IsPaid, Kept}
-use Rattle.blossom_match.specs.Rings.{members_in, bands_in, tolls_in, nest_of, ring_tolls, AllKept, FirstHolds, IsRing, IsLinkedRing, Linked}
-use Rattle.blossom_match.specs.Couples.{couple_members, couple_bands, IsJoined}
-use Rattle.blossom_match.specs.Sound.{IsFirm, IsFirmCouple, IsFirmPart, IsSound, IsSymmetric, IsTight}
-use Rattle.blossom_match.specs.Trees.{outer_members, inner_members, branch_bands, inner_bands, IsGrown}
+use Rattle.blossom_match.specs.Bands.{Adds, Band, NestValue, bands, count, height, IsPaid}
+use Rattle.blossom_match.specs.Rings.{members_in, bands_in, tolls_in, nest_of, ring_tolls, AllKept, FirstHolds, IsRing}
+use Rattle.blossom_match.specs.Couples.{IsJoined}
+use Rattle.blossom_match.specs.Sound.{IsFirm, IsFirmCouple, IsFirmPart, IsSound, IsTight}
+use Rattle.blossom_match.specs.Trees.{outer_members, inner_members, IsGrown}
 use Rattle.blossom_match.specs.Lays.{CanLay, Expanding, Expands, FirstComesApart, GoesEvenly, Lays, WayInto}
 use Rattle.blossom_match.specs.declared.nest.Link.{Link}
 use Rattle.blossom_match.specs.declared.nest.Part.{Part}
@@ -24,10 +24,11 @@ parts_local : (h : ℕ → ℕ) (ps : List Part) → AllKept ps → ((x : ℕ) �
 parts_local h [] kept once at = tt
 parts_local h (p ∷ ps) kept once at =
     let c = λ (x : ℕ). count-append x p.nest.members (members_in ps) in
-    let s = λ (x : ℕ). height-append x (bands p.nest) (bands_in ps) in
-    (λ x here. omega (arith, at x (omega (arith, c x, here)), s x, none_tall x (bands_in ps) (none_in x ps kept.1 (omega (arith, c x, once x, here)))),
-        parts_local h ps kept.1 (λ x. omega (arith, once x, c x))
-            (λ x here. omega (arith, at x (omega (arith, c x, here)), s x, low x p.nest kept.0 (omega (arith, c x, once x, here)))))
+    let s = λ (x : ℕ). height-append x (bands p.nest) (bands_in ps) in (
+      λ x here. omega (arith, at x (omega (arith, c x, here)), s x, none_tall x (bands_in ps) (none_in x ps kept.1 (omega (arith, c x, once x, here)))),
+      parts_local h ps kept.1 (λ x. omega (arith, once x, c x))
+          (λ x here. omega (arith, at x (omega (arith, c x, here)), s x, low x p.nest kept.0 (omega (arith, c x, once x, here)))),
+    )
 
 AllLocal_on : (h : ℕ → ℕ) (qs : List Part) (p : Part) → AllLocal h qs → IsLocal h p → AllLocal h (qs ++ p ∷ [])
 AllLocal_on h [] p a b = (b, tt)
@@ -41,10 +42,18 @@ firm_each : (d : ℕ → ℕ → ℕ) (h : ℕ → ℕ) (ps : List Part) → All
     ((x y : ℕ) → 1 ≤ count x (members_in ps) → 1 ≤ count y (members_in ps) → (h x + h y) % 2 ≡ 0) → Each (IsFirmPart d h) ps
 firm_each d h [] kept at t paid even = tt
 firm_each d h (p ∷ ps) kept at t paid even =
-    let c = λ (x : ℕ). count-append x p.nest.members (members_in ps) in
-    (record { next = t.0; nest = record { kept = kept.0; paid = IsPaid-left d p.nest.tolls (tolls_in ps) paid; local = at.0;
-        even = λ x y hx hy. even x y (omega (arith, c x, hx)) (omega (arith, c y, hy)) } },
-        firm_each d h ps kept.1 at.1 t.1 (IsPaid-right d p.nest.tolls (tolls_in ps) paid) (λ x y hx hy. even x y (omega (arith, c x, hx)) (omega (arith, c y, hy))))
+    let c = λ (x : ℕ). count-append x p.nest.members (members_in ps) in (
+      record {
+        next = t.0;
+        nest = record {
+          kept = kept.0;
+          paid = IsPaid-left d p.nest.tolls (tolls_in ps) paid;
+          local = at.0;
+          even = λ x y hx hy. even x y (omega (arith, c x, hx)) (omega (arith, c y, hy));
+        };
+      },
+      firm_each d h ps kept.1 at.1 t.1 (IsPaid-right d p.nest.tolls (tolls_in ps) paid) (λ x y hx hy. even x y (omega (arith, c x, hx)) (omega (arith, c y, hy))),
+    )
 
 -- the parts of a sound ring without a width are firm
 parts_firm : (d : ℕ → ℕ → ℕ) (h : ℕ → ℕ) (ps : List Part) → IsRing ps → ((x : ℕ) → count x (members_in ps) ≤ 1) → IsSound d h (nest_of (members_in ps) 0 ps) → Each (IsFirmPart d h) ps
@@ -72,7 +81,7 @@ pub grown-right : (base : List ℕ) (xs ys : List Branch) → IsGrown base (xs +
 grown-right base [] ys g = g
 grown-right base (b ∷ xs) ys g =
     grown_more (outer_members (b.outer.members ++ base) xs) (b.outer.members ++ outer_members base xs) ys
-        (λ x. omega (arith, outer_members_base x b.outer.members base xs, count-append x b.outer.members (outer_members base xs))) (grown-right (b.outer.members ++ base) xs ys g.4)
+    (λ x. omega (arith, outer_members_base x b.outer.members base xs, count-append x b.outer.members (outer_members base xs))) (grown-right (b.outer.members ++ base) xs ys g.4)
 
 -- the tree as the branches before, the one that comes apart and those after it
 pub record SplitAt (root : NestValue) (old bs : List Branch) (b : Branch) (later : List Branch) : Type 0 where
@@ -91,7 +100,7 @@ pub split_at : (root : NestValue) (old kept bs : List Branch) (b : Branch) (late
     kept ≡ bs ++ b ∷ [] → SplitAt root old bs b later
 split_at root old kept bs b later at ex e f g =
     let is : old ≡ (bs ++ b ∷ []) ++ later =
-        sym (take-append-drop (at + 1) old) ∙ ap (λ (ks : List Branch). ks ++ drop (at + 1) old) (sym e ∙ g) ∙ ap (λ (ks : List Branch). (bs ++ b ∷ []) ++ ks) (sym f) in
+    sym (take-append-drop (at + 1) old) ∙ ap (λ (ks : List Branch). ks ++ drop (at + 1) old) (sym e ∙ g) ∙ ap (λ (ks : List Branch). (bs ++ b ∷ []) ++ ks) (sym f) in
     let low = apart_within at old ex.apart in
     let size : length bs ≡ at = omega (arith, low, length-take (at + 1) old, ap (λ (ks : List Branch). length ks) e, ap (λ (ks : List Branch). length ks) g, length-append bs (b ∷ [])) in
     let rest : drop at old ≡ b ∷ later = ap (λ (ks : List Branch). drop at ks) (is ∙ append_assoc bs (b ∷ []) later) ∙ ap (λ (i : ℕ). drop i (bs ++ b ∷ later)) (sym size) ∙ drop_past bs (b ∷ later) in
@@ -99,16 +108,17 @@ split_at root old kept bs b later at ex e f g =
     let grown = subst (λ (ks : List Branch). IsGrown root.members ks) is ex.grown in
     let l = last_of root.members bs b (grown-left root.members (bs ++ b ∷ []) later grown) in
     record {
-    is = is;
-    zero_wide = apart.0;
-    some = apart.1;
-    before = l.grown;
-    above = l.above;
-    up_to = l.up_to;
-    pair_from = l.pair_from;
-    pair_to = l.pair_to;
-    after = grown-right root.members (bs ++ b ∷ []) later grown;
-    once = λ x. omega (arith, ex.once x, ap (λ (ks : List Branch). count x (inner_members ks)) is, inner-append x (bs ++ b ∷ []) later, inner_members_push x bs b) }
+      is = is;
+      zero_wide = apart.0;
+      some = apart.1;
+      before = l.grown;
+      above = l.above;
+      up_to = l.up_to;
+      pair_from = l.pair_from;
+      pair_to = l.pair_to;
+      after = grown-right root.members (bs ++ b ∷ []) later grown;
+      once = λ x. omega (arith, ex.once x, ap (λ (ks : List Branch). count x (inner_members ks)) is, inner-append x (bs ++ b ∷ []) later, inner_members_push x bs b);
+    }
 
 into_ring : (way : Link) (ring : List Part) → IsRing ring → FirstHolds way.to ring → ((x : ℕ) → count x (members_in ring) ≤ 1) → WayInto way ring
 into_ring way [] r first once = absurd first
@@ -119,13 +129,14 @@ pub can_lay : (root : NestValue) (old bs : List Branch) (b : Branch) (later : Li
 can_lay root old bs b later parts ring s made g =
     let once = λ (x : ℕ). ap (λ (v : NestValue). count x v.members) made in
     record {
-    grown = s.before;
-    from = s.above;
-    into = into_ring b.up ring g.ring g.first (λ x. omega (arith, g.places x, once x, s.once x));
-    exit = g.last;
-    odd = g.ring.odd;
-    to = s.pair_to;
-    once = λ x. omega (arith, g.places x, once x, s.once x) }
+      grown = s.before;
+      from = s.above;
+      into = into_ring b.up ring g.ring g.first (λ x. omega (arith, g.places x, once x, s.once x));
+      exit = g.last;
+      odd = g.ring.odd;
+      to = s.pair_to;
+      once = λ x. omega (arith, g.places x, once x, s.once x);
+    }
 
 pub expanded : (root : NestValue) (old bs : List Branch) (b : Branch) (later mid new : List Branch) (parts ring : List Part) (was cs now : List Couple) → SplitAt root old bs b later →
     IsRing parts → b.inner ≡ nest_of (members_in parts) b.inner.width parts → GoesEvenly b.up.to b.pair.from parts ring → Lays root bs ring b.up b.pair b.outer mid cs →
@@ -138,20 +149,49 @@ expanded root old bs b later mid new parts ring was cs now s is made g l e f =
     let sizes = λ (ks : List Band). length ks in
     let at = λ (F : List Band → ℕ) (add : Adds F). ap (λ (v : NestValue). F (bands v)) flat in
     subst (λ (ks : List Branch). Expands root old ks was now) (sym f)
-        (subst (λ (cs : List Couple). Expands root old (mid ++ later) was cs) (sym e) (subst (λ (ks : List Branch). Expands root ks (mid ++ later) was (was ++ cs)) (sym s.is) (record {
-    grown = grown-append root.members mid later l.grown (grown_more (outer_members root.members tree) (outer_members root.members mid) later
-        (λ x. omega (arith, l.more x, outer_members_push x root.members bs b)) s.after);
-    joined = λ j. each-append IsJoined was cs j l.joined;
-    places = λ x. omega (arith, outer-append x root.members mid later, inner-append x mid later, couple_members-append x was cs, outer-append x root.members tree later, inner-append x tree later,
-        outer_members_push x root.members bs b, inner_members_push x bs b, l.places x, g.places x, inside x);
-    ring = members_in parts;
-    sums = λ F add. omega (arith, branch_bands-append F add mid later, couple_bands-append F add was cs, branch_bands-append F add tree later, branch_bands_push F add bs b, l.sums F add, g.sums F add,
-        at F add, add (band ∷ []) (bands_in parts));
-    fewer = omega (arith, inner_bands-append sizes size-append mid later, couple_bands-append sizes size-append was cs, inner_bands-append sizes size-append tree later, inner_bands_push sizes size-append bs b,
-        l.fewer, g.sums sizes size-append, at sizes size-append);
-    firm = λ d h sy t c.
-        let front = each-left (IsFirm d h) tree later t in
-        let k = each-last (IsFirm d h) bs b front in
-        let sound = subst (λ (v : NestValue). IsSound d h v) flat k.inner in
-        let r = l.firm d h (each-left (IsFirm d h) bs (b ∷ []) front) k.up k.pair (g.firm d h sy (parts_firm d h parts is (λ x. omega (arith, inside x, s.once x)) sound)) k.outer in
-        (each-append (IsFirm d h) mid later r.0 (each-right (IsFirm d h) tree later t), each-append (IsFirmCouple d h) was cs c r.1) })))
+    (subst (λ (cs : List Couple). Expands root old (mid ++ later) was cs) (sym e) (subst (λ (ks : List Branch). Expands root ks (mid ++ later) was (was ++ cs)) (sym s.is) (record {
+      grown = grown-append root.members mid later l.grown (grown_more (outer_members root.members tree) (outer_members root.members mid) later
+          (λ x. omega (arith, l.more x, outer_members_push x root.members bs b)) s.after);
+      joined = λ j. each-append IsJoined was cs j l.joined;
+      places = λ x. omega (
+        arith,
+        outer-append x root.members mid later,
+        inner-append x mid later,
+        couple_members-append x was cs,
+        outer-append x root.members tree later,
+        inner-append x tree later,
+        outer_members_push x root.members bs b,
+        inner_members_push x bs b,
+        l.places x,
+        g.places x,
+        inside x,
+      );
+      ring = members_in parts;
+      sums = λ F add. omega (
+        arith,
+        branch_bands-append F add mid later,
+        couple_bands-append F add was cs,
+        branch_bands-append F add tree later,
+        branch_bands_push F add bs b,
+        l.sums F add,
+        g.sums F add,
+        at F add,
+        add (band ∷ []) (bands_in parts),
+      );
+      fewer = omega (
+        arith,
+        inner_bands-append sizes size-append mid later,
+        couple_bands-append sizes size-append was cs,
+        inner_bands-append sizes size-append tree later,
+        inner_bands_push sizes size-append bs b,
+        l.fewer,
+        g.sums sizes size-append,
+        at sizes size-append,
+      );
+      firm = λ d h sy t c.
+          let front = each-left (IsFirm d h) tree later t in
+          let k = each-last (IsFirm d h) bs b front in
+          let sound = subst (λ (v : NestValue). IsSound d h v) flat k.inner in
+          let r = l.firm d h (each-left (IsFirm d h) bs (b ∷ []) front) k.up k.pair (g.firm d h sy (parts_firm d h parts is (λ x. omega (arith, inside x, s.once x)) sound)) k.outer in
+          (each-append (IsFirm d h) mid later r.0 (each-right (IsFirm d h) tree later t), each-append (IsFirmCouple d h) was cs c r.1);
+    })))

@@ -5,7 +5,6 @@ use Rattle.blossom_match.specs.Bands.{Band, NestValue, bands, count}
 use Rattle.blossom_match.specs.Rings.{members_in, bands_in, Linked}
 use Rattle.blossom_match.specs.Couples.{couples_along, IsJoined}
 use Rattle.blossom_match.specs.Sound.{IsFirm, IsFirmCouple, IsFirmPart}
-use Rattle.blossom_match.specs.Trees.{outer_members, IsGrown}
 use Rattle.blossom_match.specs.Lays.{EvenlyHolds, WayInto, CanLay, Lays}
 use Rattle.blossom_match.specs.declared.nest.Link.{Link}
 use Rattle.blossom_match.specs.declared.nest.Part.{Part}
@@ -52,28 +51,36 @@ can_more root now p q ps way pair outer c none =
     let b = branch_of way p.nest p.next q.nest in
     let e = not_here pair.from p q ps c.exit none in
     record {
-    grown = grown_push root.members now b c.grown c.from c.into.0 c.into.1.0.0 c.into.1.0.1;
-    from = omega (arith, source_of q ps pair.from e c.into.1.1, outer_members_push q.next.from root.members now b);
-    into = into_next q ps pair.from e c.into.1.1;
-    exit = e;
-    odd = omega (arith, c.odd);
-    to = c.to;
-    once = λ x. omega (arith, c.once x, count-append x p.nest.members (q.nest.members ++ members_in ps), count-append x q.nest.members (members_in ps)) }
+      grown = grown_push root.members now b c.grown c.from c.into.0 c.into.1.0.0 c.into.1.0.1;
+      from = omega (arith, source_of q ps pair.from e c.into.1.1, outer_members_push q.next.from root.members now b);
+      into = into_next q ps pair.from e c.into.1.1;
+      exit = e;
+      odd = omega (arith, c.odd);
+      to = c.to;
+      once = λ x. omega (arith, c.once x, count-append x p.nest.members (q.nest.members ++ members_in ps), count-append x q.nest.members (members_in ps));
+    }
 
 does_more : (root : NestValue) (now : List Branch) (p q : Part) (ps : List Part) (way pair : Link) (outer : NestValue) (new : List Branch) (cs : List Couple) →
     Lays root (now ++ branch_of way p.nest p.next q.nest ∷ []) ps q.next pair outer new cs → Lays root now (p ∷ q ∷ ps) way pair outer new cs
 does_more root now p q ps way pair outer new cs l =
     let b = branch_of way p.nest p.next q.nest in
     record {
-    grown = l.grown;
-    joined = l.joined;
-    places = λ x. omega (arith, l.places x, outer_members_push x root.members now b, inner_members_push x now b,
-        count-append x p.nest.members (q.nest.members ++ members_in ps), count-append x q.nest.members (members_in ps));
-    more = λ x. omega (arith, l.more x, outer_members_push x root.members now b);
-    sums = λ F add. omega (arith, l.sums F add, branch_bands_push F add now b, add (bands p.nest) ((bands q.nest) ++ bands_in ps), add (bands q.nest) (bands_in ps));
-    fewer = omega (arith, l.fewer, inner_bands_push (λ (ks : List Band). length ks) size-append now b, size-append (bands p.nest) (bands q.nest ++ bands_in ps), size-append (bands q.nest) (bands_in ps));
-    firm = λ d h t w a parts o. l.firm d h
-        (each-push (IsFirm d h) now b t (record { up = w; pair = parts.0.next; inner = parts.0.nest; outer = parts.1.0.nest })) parts.1.0.next a parts.1.1 o }
+      grown = l.grown;
+      joined = l.joined;
+      places = λ x. omega (
+        arith,
+        l.places x,
+        outer_members_push x root.members now b,
+        inner_members_push x now b,
+        count-append x p.nest.members (q.nest.members ++ members_in ps),
+        count-append x q.nest.members (members_in ps),
+      );
+      more = λ x. omega (arith, l.more x, outer_members_push x root.members now b);
+      sums = λ F add. omega (arith, l.sums F add, branch_bands_push F add now b, add (bands p.nest) ((bands q.nest) ++ bands_in ps), add (bands q.nest) (bands_in ps));
+      fewer = omega (arith, l.fewer, inner_bands_push (λ (ks : List Band). length ks) size-append now b, size-append (bands p.nest) (bands q.nest ++ bands_in ps), size-append (bands q.nest) (bands_in ps));
+      firm = λ d h t w a parts o. l.firm d h
+          (each-push (IsFirm d h) now b t (record { up = w; pair = parts.0.next; inner = parts.0.nest; outer = parts.1.0.nest })) parts.1.0.next a parts.1.1 o;
+    }
 
 pub laying_more : (root : NestValue) (old : List Branch) (ring : List Part) (up pair : Link) (outer : NestValue) (now : List Branch) (left after rest : List Part) (p q : Part) (way : Link) (next : List Branch) →
     Laying root old ring up pair outer now left way → left ≡ p ∷ after → after ≡ q ∷ rest → count pair.from p.nest.members ≡ 0 →
@@ -82,8 +89,9 @@ laying_more root old ring up pair outer now left after rest p q way next l e f n
     let is : left ≡ p ∷ q ∷ rest = e ∙ ap (λ (ps : List Part). p ∷ ps) f in
     let m = subst (λ (ps : List Part). Laying root old ring up pair outer now ps way) is l in
     subst (λ (bs : List Branch). Laying root old ring up pair outer bs rest q.next) (sym g) (record {
-        can = can_more root now p q rest way pair outer m.can none;
-        does = λ new cs k. m.does new cs (does_more root now p q rest way pair outer new cs k) })
+      can = can_more root now p q rest way pair outer m.can none;
+      does = λ new cs k. m.does new cs (does_more root now p q rest way pair outer new cs k);
+    })
 
 coupled_joined : (p : Part) (ps : List Part) → length ps % 2 ≡ 0 → Linked p ps → Each IsJoined (couples_along ps)
 coupled_joined p [] even l = tt
@@ -104,13 +112,14 @@ lays_last root now p ps way pair outer c here =
     let even : length ps % 2 ≡ 0 = omega (arith, c.odd) in
     let one : count pair.from p.nest.members ≡ 1 = omega (arith, c.once pair.from, count-append pair.from p.nest.members (members_in ps)) in
     record {
-    grown = grown_push root.members now b c.grown c.from c.into.0 one c.to;
-    joined = coupled_joined p ps even c.into.1;
-    places = λ x. omega (arith, outer_members_push x root.members now b, inner_members_push x now b, members_coupled x ps even, count-append x p.nest.members (members_in ps));
-    more = λ x. omega (arith, outer_members_push x root.members now b);
-    sums = λ F add. omega (arith, branch_bands_push F add now b, bands_coupled F add ps even, add (bands p.nest) (bands_in ps));
-    fewer = omega (arith, inner_bands_push (λ (ks : List Band). length ks) size-append now b, bands_coupled (λ (ks : List Band). length ks) size-append ps even, size-append (bands p.nest) (bands_in ps));
-    firm = λ d h t w a parts o. (each-push (IsFirm d h) now b t (record { up = w; pair = a; inner = parts.0.nest; outer = o }), coupled_firm d h ps parts.1) }
+      grown = grown_push root.members now b c.grown c.from c.into.0 one c.to;
+      joined = coupled_joined p ps even c.into.1;
+      places = λ x. omega (arith, outer_members_push x root.members now b, inner_members_push x now b, members_coupled x ps even, count-append x p.nest.members (members_in ps));
+      more = λ x. omega (arith, outer_members_push x root.members now b);
+      sums = λ F add. omega (arith, branch_bands_push F add now b, bands_coupled F add ps even, add (bands p.nest) (bands_in ps));
+      fewer = omega (arith, inner_bands_push (λ (ks : List Band). length ks) size-append now b, bands_coupled (λ (ks : List Band). length ks) size-append ps even, size-append (bands p.nest) (bands_in ps));
+      firm = λ d h t w a parts o. (each-push (IsFirm d h) now b t (record { up = w; pair = a; inner = parts.0.nest; outer = o }), coupled_firm d h ps parts.1);
+    }
 
 pub laid : (root : NestValue) (old : List Branch) (ring : List Part) (up pair : Link) (outer top : NestValue) (now : List Branch) (left rest : List Part) (p : Part) (way : Link) (new : List Branch) (cs : List Couple) →
     top ≡ outer → Laying root old ring up pair outer now left way → left ≡ p ∷ rest → 1 ≤ count pair.from p.nest.members →

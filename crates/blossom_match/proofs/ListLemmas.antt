@@ -1,5 +1,5 @@
 -- Facts of each item of joined lists.
-use Rattle.std.proofs.Common.{◌≡◌, ℕ, suc, zero, List, [], ◌∷◌, ◌++◌, take, drop, length, refl, ◌+◌, ◌<◌, get_or, drop-cons, add-one, sym, ap, ◌∙◌}
+use Rattle.std.proofs.Common.{◌≡◌, ℕ, suc, zero, List, [], ◌∷◌, ◌++◌, take, drop, length, ◌+◌, ◌<◌, get_or, drop-cons, add-one, sym, ap, ◌∙◌}
 use Rattle.blossom_match.specs.Lists.{Each, EachPair}
 
 pub each-append : {X : Type 0} (P : X → Type 0) (xs ys : List X) → Each P xs → Each P ys → Each P (xs ++ ys)

@@ -1,9 +1,9 @@
 -- Rings told the other way round, and the parity of their parts.
-use Rattle.std.proofs.Common.{◌≡◌, ℕ, ◌+◌, ◌%◌, ◌≤◌, ◌<◌, ◌⊎◌, inl, inr, suc, zero, List, [], ◌∷◌, ◌++◌, length, take, drop, arith, refl, sym, ap, subst, ◌∙◌, append_assoc, length-append}
-use Rattle.std.proofs.lemmas.List.{append-nil, length-take, take-append-drop}
+use Rattle.std.proofs.Common.{◌≡◌, ℕ, ◌+◌, ◌%◌, ◌≤◌, ◌<◌, inl, inr, List, [], ◌∷◌, ◌++◌, length, take, drop, arith, refl, sym, ap, subst, ◌∙◌, append_assoc, length-append}
+use Rattle.std.proofs.lemmas.List.{length-take, take-append-drop}
 use Rattle.blossom_match.specs.Lists.{Each}
-use Rattle.blossom_match.specs.Bands.{Adds, Band, NestValue, bands, count, Kept}
-use Rattle.blossom_match.specs.Rings.{back_of, members_in, bands_in, AllKept, FirstHolds, HoldsAt, IsLinkedRing, IsRing, IsTurned, Joins, Linked}
+use Rattle.blossom_match.specs.Bands.{Adds, Band, NestValue, bands, count}
+use Rattle.blossom_match.specs.Rings.{back_of, members_in, bands_in, AllKept, FirstHolds, HoldsAt, IsLinkedRing, IsRing, IsTurned, Linked}
 use Rattle.blossom_match.specs.Sound.{IsFirmPart, IsSymmetric, IsTight}
 use Rattle.blossom_match.specs.Lays.{EvenlyHolds, GoesEvenly, last_link, mirror_of, told_back}
 use Rattle.blossom_match.specs.declared.nest.Link.{Link}
@@ -69,7 +69,7 @@ told_linked : (e : Part) (x : ℕ) (p a : Part) (qs told : List Part) → a.nest
 told_linked e x p a [] told same l m here = (m, subst (λ (n : NestValue). count x n.members ≡ 1) (sym same) here)
 told_linked e x p a (q ∷ qs) told same l m here =
     told_linked e x q (part_of q (back_of p.next)) qs (a ∷ told) refl l.1
-        ((l.0.1, subst (λ (n : NestValue). count p.next.from n.members ≡ 1) (sym same) l.0.0), m) here
+    ((l.0.1, subst (λ (n : NestValue). count p.next.from n.members ≡ 1) (sym same) l.0.0), m) here
 
 closes_at : (p : Part) (x : ℕ) (zs : List Part) → count p.next.from p.nest.members ≡ 1 → p.next.to ≡ x → LeadsTo p x zs → Linked p (zs ++ p ∷ [])
 closes_at p x [] from to l = absurd l
@@ -81,7 +81,7 @@ mirror_linked p q qs l =
     let top = part_of p (back_of (last_link p.next (q ∷ qs))) in
     let first = part_of q (back_of p.next) in
     closes_at top (last_link q.next qs).from (told_back q.next qs (first ∷ [])) end.1 refl
-        (told_linked top (last_link q.next qs).from q first qs [] refl (linked_left q qs (p ∷ []) l.1) ((l.0.1, l.0.0), tt) end.0)
+    (told_linked top (last_link q.next qs).from q first qs [] refl (linked_left q qs (p ∷ []) l.1) ((l.0.1, l.0.0), tt) end.0)
 
 mirror_size : (ps : List Part) → length (mirror_of ps) ≡ length ps
 mirror_size [] = refl
@@ -91,10 +91,11 @@ mirror_is_ring : (ps : List Part) → IsRing ps → IsRing (mirror_of ps)
 mirror_is_ring [] r = r
 mirror_is_ring (p ∷ []) r = absurd (omega (arith, r.three))
 mirror_is_ring (p ∷ q ∷ qs) r = record {
-    odd = omega (arith, mirror_size (p ∷ q ∷ qs), r.odd);
-    three = omega (arith, mirror_size (p ∷ q ∷ qs), r.three);
-    linked = mirror_linked p q qs r.linked;
-    kept = (r.kept.0, told_kept p.next (q ∷ qs) [] r.kept.1 tt) }
+  odd = omega (arith, mirror_size (p ∷ q ∷ qs), r.odd);
+  three = omega (arith, mirror_size (p ∷ q ∷ qs), r.three);
+  linked = mirror_linked p q qs r.linked;
+  kept = (r.kept.0, told_kept p.next (q ∷ qs) [] r.kept.1 tt);
+}
 
 mirror_places : (x : ℕ) (ps : List Part) → count x (members_in (mirror_of ps)) ≡ count x (members_in ps)
 mirror_places x [] = refl
@@ -121,12 +122,13 @@ record HeldAt (x : ℕ) (ps : List Part) (i : ℕ) : Type 0 where
 held_case : (x : ℕ) (ps : List Part) (i : ℕ) (rest : List Part) → drop i ps ≡ rest → i < length ps → FirstHolds x rest → HeldAt x ps i
 held_case x ps i [] e low holds = absurd holds
 held_case x ps i (p ∷ rest) e low holds = record {
-    before = take i ps;
-    part = p;
-    after = rest;
-    is = sym (take-append-drop i ps) ∙ ap (λ (qs : List Part). take i ps ++ qs) e;
-    size = omega (arith, length-take i ps);
-    here = holds }
+  before = take i ps;
+  part = p;
+  after = rest;
+  is = sym (take-append-drop i ps) ∙ ap (λ (qs : List Part). take i ps ++ qs) e;
+  size = omega (arith, length-take i ps);
+  here = holds;
+}
 
 held_at : (x : ℕ) (ps : List Part) (i : ℕ) → i < length ps → HoldsAt x ps i → HeldAt x ps i
 held_at x ps i low holds = held_case x ps i (drop i ps) refl low holds
@@ -144,7 +146,7 @@ told_append : (l : Link) (ps told : List Part) → told_back l ps told ≡ told_
 told_append l [] told = refl
 told_append l (p ∷ ps) told =
     told_append p.next ps (part_of p (back_of l) ∷ told) ∙ sym (append_assoc (told_back p.next ps []) (part_of p (back_of l) ∷ []) told)
-        ∙ ap (λ (qs : List Part). qs ++ told) (sym (told_append p.next ps (part_of p (back_of l) ∷ [])))
+    ∙ ap (λ (qs : List Part). qs ++ told) (sym (told_append p.next ps (part_of p (back_of l) ∷ [])))
 
 -- the part behind those before it stands before them in the chain told back
 record ToldAt (l : Link) (before : List Part) (p : Part) (after told : List Part) : Type 0 where
@@ -165,7 +167,7 @@ mirror_held x (a ∷ before) p after odd all here =
     let t = told_at a.next before p after [] in
     let top = part_of a (back_of (last_link a.next (before ++ p ∷ after))) in
     subst (λ (qs : List Part). EvenlyHolds x (top ∷ qs)) (sym t.is)
-        (evenly x (top ∷ told_back p.next after []) (part_of p t.link) t.rest (omega (arith, told_size p.next after [])) here)
+    (evenly x (top ∷ told_back p.next after []) (part_of p t.link) t.rest (omega (arith, told_size p.next after [])) here)
 
 -- a ring with an odd way to the part is told so that the way is even
 mirror_evenly : (x : ℕ) (ps : List Part) (i : ℕ) → length ps % 2 ≡ 1 → i % 2 ≡ 1 → HeldAt x ps i → EvenlyHolds x (mirror_of ps)
@@ -181,12 +183,13 @@ pub goes_on : (entry exit : ℕ) (old ring : List Part) (i : ℕ) → IsRing old
 goes_on entry exit old ring i is turned first low holds even =
     let h = held_at exit ring i low holds in
     record {
-    ring = subst IsRing (sym turned.is) (turned_is_ring old turned.at is);
-    first = first;
-    last = subst (λ (qs : List Part). EvenlyHolds exit qs) (sym h.is) (evenly exit h.before h.part h.after (omega (arith, h.size, even)) h.here);
-    places = λ x. ap (λ (qs : List Part). count x (members_in qs)) turned.is ∙ members_turned x turned.at old;
-    sums = λ F add. ap (λ (qs : List Part). F (bands_in qs)) turned.is ∙ bands_turned F add turned.at old;
-    firm = λ d h sy f. subst (λ (qs : List Part). Each (IsFirmPart d h) qs) (sym turned.is) (turned_kept (IsFirmPart d h) turned.at old f) }
+      ring = subst IsRing (sym turned.is) (turned_is_ring old turned.at is);
+      first = first;
+      last = subst (λ (qs : List Part). EvenlyHolds exit qs) (sym h.is) (evenly exit h.before h.part h.after (omega (arith, h.size, even)) h.here);
+      places = λ x. ap (λ (qs : List Part). count x (members_in qs)) turned.is ∙ members_turned x turned.at old;
+      sums = λ F add. ap (λ (qs : List Part). F (bands_in qs)) turned.is ∙ bands_turned F add turned.at old;
+      firm = λ d h sy f. subst (λ (qs : List Part). Each (IsFirmPart d h) qs) (sym turned.is) (turned_kept (IsFirmPart d h) turned.at old f);
+    }
 
 first_mirrored : (x : ℕ) (ps : List Part) → FirstHolds x ps → FirstHolds x (mirror_of ps)
 first_mirrored x [] h = h
@@ -198,12 +201,13 @@ pub goes_back : (entry exit : ℕ) (old ring back : List Part) (i : ℕ) → IsR
 goes_back entry exit old ring back i is turned first low holds odd e =
     let r : IsRing ring = subst IsRing (sym turned.is) (turned_is_ring old turned.at is) in
     subst (λ (qs : List Part). GoesEvenly entry exit old qs) (sym e) (record {
-    ring = mirror_is_ring ring r;
-    first = first_mirrored entry ring first;
-    last = mirror_evenly exit ring i r.odd odd (held_at exit ring i low holds);
-    places = λ x. mirror_places x ring ∙ ap (λ (qs : List Part). count x (members_in qs)) turned.is ∙ members_turned x turned.at old;
-    sums = λ F add. mirror_sum F add ring ∙ ap (λ (qs : List Part). F (bands_in qs)) turned.is ∙ bands_turned F add turned.at old;
-    firm = λ d h sy f. mirror_firm d h sy ring (subst (λ (qs : List Part). Each (IsFirmPart d h) qs) (sym turned.is) (turned_kept (IsFirmPart d h) turned.at old f)) })
+      ring = mirror_is_ring ring r;
+      first = first_mirrored entry ring first;
+      last = mirror_evenly exit ring i r.odd odd (held_at exit ring i low holds);
+      places = λ x. mirror_places x ring ∙ ap (λ (qs : List Part). count x (members_in qs)) turned.is ∙ members_turned x turned.at old;
+      sums = λ F add. mirror_sum F add ring ∙ ap (λ (qs : List Part). F (bands_in qs)) turned.is ∙ bands_turned F add turned.at old;
+      firm = λ d h sy f. mirror_firm d h sy ring (subst (λ (qs : List Part). Each (IsFirmPart d h) qs) (sym turned.is) (turned_kept (IsFirmPart d h) turned.at old f));
+    })
 
 pub turned_places : (x : ℕ) (old ring : List Part) → IsTurned old ring → count x (members_in ring) ≡ count x (members_in old)
 turned_places x old ring turned = ap (λ (qs : List Part). count x (members_in qs)) turned.is ∙ members_turned x turned.at old

@@ -1,10 +1,10 @@
 -- Moats and their members by counts.
-use Rattle.std.proofs.Common.{◌≡◌, ◌≢◌, ℕ, ◌+◌, ◌-◌, ◌*◌, ◌%◌, ◌≤◌, ◌⊎◌, inl, inr, zero, suc, List, [], ◌∷◌, ◌++◌, length, arith, refl, sym, ap, subst, ◌∙◌, Bool, true, false, not, cond, eqb, ltb, ◌||◌}
-use Rattle.std.specs.List.{list_any, sum_by}
+use Rattle.std.proofs.Common.{◌≡◌, ◌≢◌, ℕ, ◌+◌, ◌*◌, ◌%◌, ◌≤◌, inl, inr, zero, suc, List, [], ◌∷◌, ◌++◌, length, arith, refl, sym, subst, ◌∙◌, Bool, true, false, cond, eqb, ◌||◌}
+use Rattle.std.specs.List.{list_any}
 use Rattle.std.proofs.lemmas.List.Sums.{sum_by-append, sum_by-cons}
 use Rattle.std.proofs.lemmas.Bool.{lt-ltb}
-use Rattle.blossom_match.specs.Lists.{Each, EachPair}
-use Rattle.blossom_match.specs.Bands.{apart, count, hit, load}
+use Rattle.blossom_match.specs.Lists.{Each}
+use Rattle.blossom_match.specs.Bands.{apart, count, hit}
 use Rattle.blossom_match.specs.TableValue.{TableValue}
 use Rattle.blossom_match.specs.Tables.{entry}
 use Rattle.blossom_match.specs.Matchings.{cost_of, crosses, ends_at, holds, load_on, width_of, AreLaminar}
@@ -81,16 +81,18 @@ ends_push x ps a b = omega (arith, sum_by-append (λ (p : Pair). cond (eqb x p.a
 -- the same moats among more places
 pub lie_more : (ps qs : List ℕ) (ms : List Moat) → ((x : ℕ) → count x ps ≤ count x qs) → LieIn ps ms → LieIn qs ms
 lie_more ps qs ms more l = record {
-    each = each-map (IsOddIn ps) (IsOddIn qs) (λ m o. record { odd = o.odd; within = λ x. omega (arith, o.within x, more x); wide = o.wide }) ms l.each;
-    apart = l.apart }
+  each = each-map (IsOddIn ps) (IsOddIn qs) (λ m o. record { odd = o.odd; within = λ x. omega (arith, o.within x, more x); wide = o.wide }) ms l.each;
+  apart = l.apart;
+}
 
 differ_by : (p q : Bool) → p ≡ true → q ≡ false → p ≢ q
 differ_by p q e f g = true_false (sym e ∙ g ∙ f)
 
 inside_own : (own m : Moat) (ps : List ℕ) (x : ℕ) → IsOddIn ps m → count x ps ≡ 0 → 1 ≤ count x own.members → ((y : ℕ) → count y ps ≤ count y own.members) → AreLaminar own m
 inside_own own m ps x o none here more = record {
-    differ = (x, differ_by (holds own x) (holds m x) (any_counted x own.members here) (none_counted x m.members (omega (arith, o.within x))));
-    lie = inr (inl (λ y some. any_counted y own.members (omega (arith, o.within y, more y, counted y m.members some)))) }
+  differ = (x, differ_by (holds own x) (holds m x) (any_counted x own.members here) (none_counted x m.members (omega (arith, o.within x))));
+  lie = inr (inl (λ y some. any_counted y own.members (omega (arith, o.within y, more y, counted y m.members some))));
+}
 
 -- a set is different from those inside it that miss one of its places
 around : (own : Moat) (ps : List ℕ) (x : ℕ) (ms : List Moat) → Each (IsOddIn ps) ms → count x ps ≡ 0 → 1 ≤ count x own.members →
@@ -101,8 +103,9 @@ beside : (m k : Moat) (ps qs : List ℕ) → IsOddIn ps m → IsOddIn qs k → (
 beside m k ps qs o u once =
     let some = some_member m.members (omega (arith, o.odd)) in
     record {
-    differ = (some.0, differ_by (holds m some.0) (holds k some.0) (any_counted some.0 m.members some.1) (none_counted some.0 k.members (omega (arith, some.1, o.within some.0, u.within some.0, once some.0))));
-    lie = inr (inr (λ y here. none_counted y k.members (omega (arith, counted y m.members here, o.within y, u.within y, once y)))) }
+      differ = (some.0, differ_by (holds m some.0) (holds k some.0) (any_counted some.0 m.members some.1) (none_counted some.0 k.members (omega (arith, some.1, o.within some.0, u.within some.0, once some.0))));
+      lie = inr (inr (λ y here. none_counted y k.members (omega (arith, counted y m.members here, o.within y, u.within y, once y))));
+    }
 
 -- moats among places apart
 pub lie_both : (ps qs all : List ℕ) (ms ks : List Moat) → LieIn ps ms → LieIn qs ks → ((x : ℕ) → count x ps + count x qs ≤ 1) →
@@ -111,9 +114,10 @@ lie_both ps qs all ms ks l r once more =
     let a = lie_more ps all ms (λ x. omega (arith, more x)) l in
     let b = lie_more qs all ks (λ x. omega (arith, more x)) r in
     record {
-    each = each-append (IsOddIn all) ms ks a.each b.each;
-    apart = pairs-append AreLaminar ms ks l.apart r.apart
-        (each-map (IsOddIn ps) (λ (m : Moat). Each (AreLaminar m) ks) (λ m o. each-map (IsOddIn qs) (AreLaminar m) (λ k u. beside m k ps qs o u once) ks r.each) ms l.each) }
+      each = each-append (IsOddIn all) ms ks a.each b.each;
+      apart = pairs-append AreLaminar ms ks l.apart r.apart
+          (each-map (IsOddIn ps) (λ (m : Moat). Each (AreLaminar m) ks) (λ m o. each-map (IsOddIn qs) (AreLaminar m) (λ k u. beside m k ps qs o u once) ks r.each) ms l.each);
+    }
 
 -- the set's own moat before those inside it, in two groups that each miss one of its places
 pub lie_own : (w : ℕ) (own ps qs : List ℕ) (ms ks : List Moat) (x y : ℕ) → length own % 2 ≡ 1 → LieIn ps ms → LieIn qs ks → ((z : ℕ) → count z ps + count z qs ≤ 1) →
@@ -123,8 +127,9 @@ lie_own (suc w) own ps qs ms ks x y odd l r once more px ox qy oy =
     let rest = lie_both ps qs own ms ks l r once more in
     let m : Moat = record { members = own; width = suc w } in
     subst (λ (os : List Moat). LieIn own (os ++ (ms ++ ks))) (sym (own_wide w own)) (record {
-    each = (record { odd = odd; within = λ z. omega arith; wide = omega arith }, rest.each);
-    apart = (each-append (AreLaminar m) ms ks (around m ps x ms l.each px ox (λ z. omega (arith, more z))) (around m qs y ks r.each qy oy (λ z. omega (arith, more z))), rest.apart) })
+      each = (record { odd = odd; within = λ z. omega arith; wide = omega arith }, rest.each);
+      apart = (each-append (AreLaminar m) ms ks (around m ps x ms l.each px ox (λ z. omega (arith, more z))) (around m qs y ks r.each qy oy (λ z. omega (arith, more z))), rest.apart);
+    })
 
 pub lie_none : (ps : List ℕ) → LieIn ps []
 lie_none ps = record { each = tt; apart = tt }

@@ -53,30 +53,52 @@ bands_least F add ps i p lt is =
 
 pub members_least : (x : ℕ) (ps : List Part) (i : ℕ) (p : Part) → i < length ps → p ≡ get_or ps i p → count x p.nest.members ≤ count x (members_in ps)
 members_least x ps i p lt is =
-    omega (arith, ap (λ (qs : List Part). count x (members_in qs)) (part_here ps i p lt is), count-append x p.nest.members (members_in (drop (i + 1) ps)),
-        members_in-append x (take i ps) (drop i ps), ap (λ (qs : List Part). count x (members_in qs)) (take-append-drop i ps))
+    omega (
+      arith,
+      ap (λ (qs : List Part). count x (members_in qs)) (part_here ps i p lt is),
+      count-append x p.nest.members (members_in (drop (i + 1) ps)),
+      members_in-append x (take i ps) (drop i ps),
+      ap (λ (qs : List Part). count x (members_in qs)) (take-append-drop i ps),
+    )
 
 pub branch_height : (x : ℕ) (tree : List Branch) (i : ℕ) (b : Branch) → i < length tree → b ≡ get_or tree i b →
     height x (branch_bands (drop i tree)) ≡ height x (bands b.inner) + height x (bands b.outer) + height x (branch_bands (drop (i + 1) tree))
 branch_height x tree i b low is =
-    omega (arith, ap (λ (ks : List Branch). height x (branch_bands ks)) (drop_here tree i b low is), height-append x (bands b.inner) (bands b.outer ++ branch_bands (drop (i + 1) tree)),
-        height-append x (bands b.outer) (branch_bands (drop (i + 1) tree)))
+    omega (
+      arith,
+      ap (λ (ks : List Branch). height x (branch_bands ks)) (drop_here tree i b low is),
+      height-append x (bands b.inner) (bands b.outer ++ branch_bands (drop (i + 1) tree)),
+      height-append x (bands b.outer) (branch_bands (drop (i + 1) tree)),
+    )
 
 pub branch_places : (x : ℕ) (tree : List Branch) (i : ℕ) (b : Branch) → i < length tree → b ≡ get_or tree i b →
     count x (outer_members [] (drop i tree)) + count x (inner_members (drop i tree)) ≡
     count x b.inner.members + count x b.outer.members + (count x (outer_members [] (drop (i + 1) tree)) + count x (inner_members (drop (i + 1) tree)))
 branch_places x tree i b low is =
-    omega (arith, ap (λ (ks : List Branch). count x (outer_members [] ks)) (drop_here tree i b low is), ap (λ (ks : List Branch). count x (inner_members ks)) (drop_here tree i b low is),
-        count-append x b.outer.members (outer_members [] (drop (i + 1) tree)), count-append x b.inner.members (inner_members (drop (i + 1) tree)))
+    omega (
+      arith,
+      ap (λ (ks : List Branch). count x (outer_members [] ks)) (drop_here tree i b low is),
+      ap (λ (ks : List Branch). count x (inner_members ks)) (drop_here tree i b low is),
+      count-append x b.outer.members (outer_members [] (drop (i + 1) tree)),
+      count-append x b.inner.members (inner_members (drop (i + 1) tree)),
+    )
 
 pub couple_height : (x : ℕ) (cs : List Couple) (i : ℕ) (c : Couple) → i < length cs → c ≡ get_or cs i c →
     height x (couple_bands (drop i cs)) ≡ height x (bands c.first) + height x (bands c.second) + height x (couple_bands (drop (i + 1) cs))
 couple_height x cs i c low is =
-    omega (arith, ap (λ (ks : List Couple). height x (couple_bands ks)) (drop_here cs i c low is), height-append x (bands c.first) (bands c.second ++ couple_bands (drop (i + 1) cs)),
-        height-append x (bands c.second) (couple_bands (drop (i + 1) cs)))
+    omega (
+      arith,
+      ap (λ (ks : List Couple). height x (couple_bands ks)) (drop_here cs i c low is),
+      height-append x (bands c.first) (bands c.second ++ couple_bands (drop (i + 1) cs)),
+      height-append x (bands c.second) (couple_bands (drop (i + 1) cs)),
+    )
 
 pub couple_places : (x : ℕ) (cs : List Couple) (i : ℕ) (c : Couple) → i < length cs → c ≡ get_or cs i c →
     count x (couple_members (drop i cs)) ≡ count x c.first.members + count x c.second.members + count x (couple_members (drop (i + 1) cs))
 couple_places x cs i c low is =
-    omega (arith, ap (λ (ks : List Couple). count x (couple_members ks)) (drop_here cs i c low is), count-append x c.first.members (c.second.members ++ couple_members (drop (i + 1) cs)),
-        count-append x c.second.members (couple_members (drop (i + 1) cs)))
+    omega (
+      arith,
+      ap (λ (ks : List Couple). count x (couple_members ks)) (drop_here cs i c low is),
+      count-append x c.first.members (c.second.members ++ couple_members (drop (i + 1) cs)),
+      count-append x c.second.members (couple_members (drop (i + 1) cs)),
+    )

@@ -1,8 +1,8 @@
 -- Rings told from another part.
-use Rattle.std.proofs.Common.{◌≡◌, ℕ, ◌+◌, ◌≤◌, ◌<◌, ◌%◌, zero, suc, List, [], ◌∷◌, ◌++◌, length, take, drop, get_or, drop-cons, add-one, arith, refl, sym, ap, subst, ◌∙◌, append_assoc, length-append}
+use Rattle.std.proofs.Common.{◌≡◌, ℕ, ◌+◌, ◌≤◌, ◌<◌, ◌%◌, suc, List, [], ◌∷◌, ◌++◌, length, take, drop, get_or, drop-cons, add-one, arith, refl, sym, ap, subst, ◌∙◌, append_assoc, length-append}
 use Rattle.std.proofs.lemmas.List.{append-nil, take-append-drop}
-use Rattle.blossom_match.specs.Bands.{Band, NestValue, Toll, Adds, NoneHold, Kept, bands, count, height, total, IsPaid, TollIsPaid}
-use Rattle.blossom_match.specs.Rings.{members_in, bands_in, tolls_in, toll_of, tolls_along, Joins, Linked, ring_tolls, IsLinkedRing, AllKept, IsRing, IsMade, IsNest, nest_of, nest_value}
+use Rattle.blossom_match.specs.Bands.{NoneHold, Kept, bands, count, IsPaid, TollIsPaid}
+use Rattle.blossom_match.specs.Rings.{members_in, bands_in, toll_of, tolls_along, Joins, Linked, ring_tolls, IsLinkedRing, AllKept, IsMade, IsNest, nest_of, nest_value}
 use Rattle.blossom_match.specs.declared.nest.Part.{Part}
 use Rattle.blossom_match.specs.declared.nest.Nest.TheInside.{Inside}
 use Rattle.blossom_match.proofs.SumLemmas.{count-append, NoneHold-append, none_hold}
@@ -33,13 +33,13 @@ pub ring_turned : (xs ys : List Part) → IsLinkedRing (xs ++ ys) → IsLinkedRi
 ring_turned [] ys l = subst IsLinkedRing (sym (append-nil ys)) l
 ring_turned (x ∷ xs) ys l =
     subst IsLinkedRing (shifted xs ys x)
-        (ring_turned xs (ys ++ x ∷ []) (subst IsLinkedRing (append_assoc xs ys (x ∷ [])) (ring_by_one x (xs ++ ys) l)))
+    (ring_turned xs (ys ++ x ∷ []) (subst IsLinkedRing (append_assoc xs ys (x ∷ [])) (ring_by_one x (xs ++ ys) l)))
 
 pub paid_turned : (d : ℕ → ℕ → ℕ) (xs ys : List Part) → IsPaid d (ring_tolls (xs ++ ys)) → IsPaid d (ring_tolls (ys ++ xs))
 paid_turned d [] ys l = subst (λ (zs : List Part). IsPaid d (ring_tolls zs)) (sym (append-nil ys)) l
 paid_turned d (x ∷ xs) ys l =
     subst (λ (zs : List Part). IsPaid d (ring_tolls zs)) (shifted xs ys x)
-        (paid_turned d xs (ys ++ x ∷ []) (subst (λ (zs : List Part). IsPaid d (ring_tolls zs)) (append_assoc xs ys (x ∷ [])) (paid_by_one d x (xs ++ ys) l)))
+    (paid_turned d xs (ys ++ x ∷ []) (subst (λ (zs : List Part). IsPaid d (ring_tolls zs)) (append_assoc xs ys (x ∷ [])) (paid_by_one d x (xs ++ ys) l)))
 
 -- the part at the index does not hold the place: a later one does
 pub held_later : (x : ℕ) (ps : List Part) (i : ℕ) (p : Part) → i < length ps → p ≡ get_or ps i p → count x p.nest.members ≡ 0 →
@@ -47,7 +47,7 @@ pub held_later : (x : ℕ) (ps : List Part) (i : ℕ) (p : Part) → i < length 
 held_later x ps i p lt is none some =
     let e : drop i ps ≡ get_or ps i p ∷ drop (suc i) ps = drop-cons ps i p lt in
     let f : count x (members_in (drop i ps)) ≡ count x (get_or ps i p).nest.members + count x (members_in (drop (i + 1) ps)) =
-        rw (add-one, e) (count-append x (get_or ps i p).nest.members (members_in (drop (suc i) ps))) in
+    rw (add-one, e) (count-append x (get_or ps i p).nest.members (members_in (drop (suc i) ps))) in
     let g : count x (get_or ps i p).nest.members ≡ 0 = subst (λ (q : Part). count x q.nest.members ≡ 0) is none in
     omega arith
 
@@ -73,9 +73,10 @@ none_in x (p ∷ ps) all none =
 pub made_kept : (ms : List ℕ) (w : ℕ) (ps : List Part) → IsMade ms ps → Kept (nest_of ms w ps)
 made_kept ms w [] one = record { odd = omega (arith, one); covered = λ x none. tt; single = λ e. one }
 made_kept ms w (p ∷ ps) made = record {
-    odd = omega (arith, ap (λ (xs : List ℕ). length xs) made.0, members_size (p ∷ ps) made.1.kept, made.1.odd);
-    covered = λ x none. none_in x (p ∷ ps) made.1.kept (sym (ap (λ (xs : List ℕ). count x xs) made.0) ∙ none);
-    single = λ e. absurd (omega arith) }
+  odd = omega (arith, ap (λ (xs : List ℕ). length xs) made.0, members_size (p ∷ ps) made.1.kept, made.1.odd);
+  covered = λ x none. none_in x (p ∷ ps) made.1.kept (sym (ap (λ (xs : List ℕ). count x xs) made.0) ∙ none);
+  single = λ e. absurd (omega arith);
+}
 
 pub nest_kept : (a : Inside) → IsNest a → Kept (nest_value a)
 nest_kept a nest = made_kept a.members.items a.width a.parts.items nest

@@ -1,5 +1,5 @@
 -- Each step leads from a search to a search.
-use Rattle.std.proofs.Common.{◌≡◌, ℕ, ◌+◌, ◌*◌, ◌%◌, ◌≤◌, ◌<◌, suc, zero, List, [], ◌∷◌, ◌++◌, length, take, drop, Bool, true, false, cond, ltb, arith, refl, sym, ap, subst, ◌∙◌, length-append, drop-cons, get_or}
+use Rattle.std.proofs.Common.{◌≡◌, ℕ, ◌+◌, ◌≤◌, ◌<◌, suc, List, [], ◌∷◌, ◌++◌, length, take, drop, Bool, true, false, cond, ltb, arith, refl, sym, ap, subst, ◌∙◌, drop-cons, get_or}
 use Rattle.std.proofs.lemmas.Bool.{ltb-true, ltb-false}
 use Rattle.std.proofs.lemmas.List.{take-append-drop}
 use Rattle.blossom_match.specs.Lists.{Each}
@@ -10,7 +10,7 @@ use Rattle.blossom_match.specs.Sound.{IsFirm, IsFirmCouple, IsSound, IsSymmetric
 use Rattle.blossom_match.specs.Trees.{branch_bands, hung_by, inner_bands, inner_members, outer_members, IsGrown, Augments, TakesOut}
 use Rattle.blossom_match.specs.Shrinks.{Shrinks}
 use Rattle.blossom_match.specs.Lays.{Expands}
-use Rattle.blossom_match.specs.Searches.{is_place, outers, Advances, Ends, IsReady, IsSearch, IsStanding}
+use Rattle.blossom_match.specs.Searches.{is_place, outers, Advances, Ends, IsSearch, IsStanding}
 use Rattle.blossom_match.specs.TableValue.{TableValue}
 use Rattle.blossom_match.specs.Tables.{entry}
 use Rattle.blossom_match.specs.declared.nest.Link.{Link}
@@ -28,9 +28,9 @@ use Rattle.blossom_match.proofs.TreeLemmas.{base_in, branch_bands_push, couple_b
 
 pub shrunk : (link : Link) (s r : Search) → Shrinks link s.root r.root s.tree.items r.tree.items → r.rest.items ≡ s.rest.items → r.free.items ≡ s.free.items → Advances s (Shrink link) r
 shrunk link s r sh e f = record {
-    search = λ t h i ready.
-        let firm = sh.firm (entry t) h (entry-comm t) ready.3 i.root i.tree in
-        record {
+  search = λ t h i ready.
+      let firm = sh.firm (entry t) h (entry-comm t) ready.3 i.root i.tree in
+      record {
         tall = λ x. omega (arith, i.tall x, sh.sums (height x) (height-append x), ap (λ (cs : List Couple). height x (couple_bands cs)) e);
         places = λ x. omega (arith, i.places x, sh.places x, ap (λ (cs : List Couple). count x (couple_members cs)) e, ap (λ (xs : List ℕ). count x xs) f);
         grown = sh.grown;
@@ -38,15 +38,17 @@ shrunk link s r sh e f = record {
         root = firm.0;
         tree = firm.1;
         rest = subst (λ (cs : List Couple). Each (IsFirmCouple (entry t) h) cs) (sym e) i.rest;
-        loads = λ a b la lb ne. omega (arith, i.loads a b la lb ne, sh.sums (load a b) (load-append a b), ap (λ (cs : List Couple). load a b (couple_bands cs)) e) };
-    fewer = omega (arith, sh.fewer, ap (λ (cs : List Couple). length (couple_bands cs)) e);
-    free = f }
+        loads = λ a b la lb ne. omega (arith, i.loads a b la lb ne, sh.sums (load a b) (load-append a b), ap (λ (cs : List Couple). load a b (couple_bands cs)) e);
+      };
+  fewer = omega (arith, sh.fewer, ap (λ (cs : List Couple). length (couple_bands cs)) e);
+  free = f;
+}
 
 pub came_apart : (at : ℕ) (s r : Search) → Expands s.root s.tree.items r.tree.items s.rest.items r.rest.items → r.root ≡ s.root → r.free.items ≡ s.free.items → Advances s (Expand at) r
 came_apart at s r ex e f = record {
-    search = λ t h i ready.
-        let firm = ex.firm (entry t) h (entry-comm t) i.tree i.rest in
-        record {
+  search = λ t h i ready.
+      let firm = ex.firm (entry t) h (entry-comm t) i.tree i.rest in
+      record {
         tall = λ x. omega (arith, i.tall x, ex.sums (height x) (height-append x), ap (λ (v : NestValue). height x (bands v)) e);
         places = λ x. omega (arith, i.places x, ex.places x, ap (λ (v : NestValue). count x (outer_members v.members r.tree.items)) e, ap (λ (xs : List ℕ). count x xs) f);
         grown = subst (λ (v : NestValue). IsGrown v.members r.tree.items) (sym e) ex.grown;
@@ -54,9 +56,11 @@ came_apart at s r ex e f = record {
         root = subst (λ (v : NestValue). IsSound (entry t) h v) (sym e) i.root;
         tree = firm.0;
         rest = firm.1;
-        loads = λ a b la lb ne. omega (arith, i.loads a b la lb ne, ex.sums (load a b) (load-append a b), ap (λ (v : NestValue). load a b (bands v)) e) };
-    fewer = ex.fewer;
-    free = f }
+        loads = λ a b la lb ne. omega (arith, i.loads a b la lb ne, ex.sums (load a b) (load-append a b), ap (λ (v : NestValue). load a b (bands v)) e);
+      };
+  fewer = ex.fewer;
+  free = f;
+}
 
 -- what a couple's sets are as a branch
 record IsHung (up : Link) (c : Couple) (b : Branch) : Type 0 where
@@ -72,23 +76,25 @@ hung_case : (b : Bool) (up : Link) (c : Couple) → ltb 0 (count up.to c.first.m
 hung_case true up c is one j =
     let some = ltb-true 0 (count up.to c.first.members) is in
     record {
-    same = refl;
-    counts = λ x. refl;
-    sums = λ F. refl;
-    up_to = omega (arith, some, one);
-    pair_from = j.from;
-    pair_to = j.to;
-    firm = λ d h sy t f. record { up = t; pair = f.link; inner = f.first; outer = f.second } }
+      same = refl;
+      counts = λ x. refl;
+      sums = λ F. refl;
+      up_to = omega (arith, some, one);
+      pair_from = j.from;
+      pair_to = j.to;
+      firm = λ d h sy t f. record { up = t; pair = f.link; inner = f.first; outer = f.second };
+    }
 hung_case false up c is one j =
     let none = ltb-false 0 (count up.to c.first.members) is in
     record {
-    same = refl;
-    counts = λ x. omega arith;
-    sums = λ F. omega arith;
-    up_to = omega (arith, none, one);
-    pair_from = j.to;
-    pair_to = j.from;
-    firm = λ d h sy t f. record { up = t; pair = tight_back d h c.link sy f.link; inner = f.second; outer = f.first } }
+      same = refl;
+      counts = λ x. omega arith;
+      sums = λ F. omega arith;
+      up_to = omega (arith, none, one);
+      pair_from = j.to;
+      pair_to = j.from;
+      firm = λ d h sy t f. record { up = t; pair = tight_back d h c.link sy f.link; inner = f.second; outer = f.first };
+    }
 
 hung_is : (up : Link) (c : Couple) → count up.to c.first.members + count up.to c.second.members ≡ 1 → IsJoined c → IsHung up c (hung_by up c)
 hung_is up c one j = hung_case (ltb 0 (count up.to c.first.members)) up c refl one j
@@ -137,24 +143,31 @@ hung link s r c out g e f =
     let outside = λ (x : ℕ). ap (λ (v : NestValue). count x (outer_members v.members r.tree.items)) e ∙ ap (λ (ks : List Branch). count x (outer_members s.root.members ks)) g ∙ outer_members_push x s.root.members s.tree.items b in
     let inside = λ (x : ℕ). ap (λ (ks : List Branch). count x (inner_members ks)) g ∙ inner_members_push x s.tree.items b in
     record {
-    search = λ t h i ready.
-        let joined = without IsJoined out.before out.after c (subst (λ (cs : List Couple). Each IsJoined cs) out.was i.joined) in
-        let firm = without (IsFirmCouple (entry t) h) out.before out.after c (subst (λ (cs : List Couple). Each (IsFirmCouple (entry t) h) cs) out.was i.rest) in
-        let k = hung_is link c (omega (arith, out.here, held link.to, i.places link.to, is_one t link.to)) joined.0 in
-        record {
-        tall = λ x. omega (arith, i.tall x, was (height x) (height-append x), now (height x), grew (height x) (height-append x), k.sums (height x), ap (λ (v : NestValue). height x (bands v)) e);
-        places = λ x. omega (arith, i.places x, held x, kept x, outside x, inside x, k.counts x, ap (λ (xs : List ℕ). count x xs) f);
-        grown = subst (λ (v : NestValue). IsGrown v.members r.tree.items) (sym e) (subst (λ (ks : List Branch). IsGrown s.root.members ks) (sym g)
-            (grown_push s.root.members s.tree.items b i.grown (subst (λ (l : Link). 1 ≤ count l.from (outers s)) (sym k.same) ready.0)
+      search = λ t h i ready.
+          let joined = without IsJoined out.before out.after c (subst (λ (cs : List Couple). Each IsJoined cs) out.was i.joined) in
+          let firm = without (IsFirmCouple (entry t) h) out.before out.after c (subst (λ (cs : List Couple). Each (IsFirmCouple (entry t) h) cs) out.was i.rest) in
+          let k = hung_is link c (omega (arith, out.here, held link.to, i.places link.to, is_one t link.to)) joined.0 in
+          record {
+            tall = λ x. omega (arith, i.tall x, was (height x) (height-append x), now (height x), grew (height x) (height-append x), k.sums (height x), ap (λ (v : NestValue). height x (bands v)) e);
+            places = λ x. omega (arith, i.places x, held x, kept x, outside x, inside x, k.counts x, ap (λ (xs : List ℕ). count x xs) f);
+            grown = subst (λ (v : NestValue). IsGrown v.members r.tree.items) (sym e) (subst (λ (ks : List Branch). IsGrown s.root.members ks) (sym g)
+                (grown_push s.root.members s.tree.items b i.grown (subst (λ (l : Link). 1 ≤ count l.from (outers s)) (sym k.same) ready.0)
                 (subst (λ (l : Link). count l.to b.inner.members ≡ 1) (sym k.same) k.up_to) k.pair_from k.pair_to));
-        joined = subst (λ (cs : List Couple). Each IsJoined cs) (sym out.now) joined.1;
-        root = subst (λ (v : NestValue). IsSound (entry t) h v) (sym e) i.root;
-        tree = subst (λ (ks : List Branch). Each (IsFirm (entry t) h) ks) (sym g) (each-push (IsFirm (entry t) h) s.tree.items b i.tree (k.firm (entry t) h (entry-comm t) ready.2 firm.0));
-        rest = subst (λ (cs : List Couple). Each (IsFirmCouple (entry t) h) cs) (sym out.now) firm.1;
-        loads = λ x y lx ly ne. omega (arith, i.loads x y lx ly ne, was (load x y) (load-append x y), now (load x y), grew (load x y) (load-append x y), k.sums (load x y), ap (λ (v : NestValue). load x y (bands v)) e) };
-    fewer = omega (arith, hung_fewer (ltb 0 (count link.to c.first.members)) link c, ap (λ (ks : List Branch). length (inner_bands ks)) g ∙ inner_bands_push sizes size-append s.tree.items b,
-        was sizes size-append, now sizes);
-    free = f }
+            joined = subst (λ (cs : List Couple). Each IsJoined cs) (sym out.now) joined.1;
+            root = subst (λ (v : NestValue). IsSound (entry t) h v) (sym e) i.root;
+            tree = subst (λ (ks : List Branch). Each (IsFirm (entry t) h) ks) (sym g) (each-push (IsFirm (entry t) h) s.tree.items b i.tree (k.firm (entry t) h (entry-comm t) ready.2 firm.0));
+            rest = subst (λ (cs : List Couple). Each (IsFirmCouple (entry t) h) cs) (sym out.now) firm.1;
+            loads = λ x y lx ly ne. omega (arith, i.loads x y lx ly ne, was (load x y) (load-append x y), now (load x y), grew (load x y) (load-append x y), k.sums (load x y), ap (λ (v : NestValue). load x y (bands v)) e);
+          };
+      fewer = omega (
+        arith,
+        hung_fewer (ltb 0 (count link.to c.first.members)) link c,
+        ap (λ (ks : List Branch). length (inner_bands ks)) g ∙ inner_bands_push sizes size-append s.tree.items b,
+        was sizes size-append,
+        now sizes,
+      );
+      free = f;
+    }
 
 -- a place in no set has height 0
 pub low_branches : (d : ℕ → ℕ → ℕ) (h : ℕ → ℕ) (x : ℕ) (base : List ℕ) (tree : List Branch) → Each (IsFirm d h) tree → count x (outer_members base tree) ≡ 0 → count x (inner_members tree) ≡ 0 →
@@ -163,47 +176,65 @@ low_branches d h x base [] f none empty = refl
 low_branches d h x base (b ∷ bs) f none empty =
     let o = count-append x b.outer.members (outer_members base bs) in
     let i = count-append x b.inner.members (inner_members bs) in
-    omega (arith, low x b.inner f.0.inner.kept (omega (arith, i, empty)), low x b.outer f.0.outer.kept (omega (arith, o, none)),
-        low_branches d h x base bs f.1 (omega (arith, o, none)) (omega (arith, i, empty)),
-        height-append x (bands b.inner) (bands b.outer ++ branch_bands bs), height-append x (bands b.outer) (branch_bands bs))
+    omega (
+      arith,
+      low x b.inner f.0.inner.kept (omega (arith, i, empty)),
+      low x b.outer f.0.outer.kept (omega (arith, o, none)),
+      low_branches d h x base bs f.1 (omega (arith, o, none)) (omega (arith, i, empty)),
+      height-append x (bands b.inner) (bands b.outer ++ branch_bands bs),
+      height-append x (bands b.outer) (branch_bands bs),
+    )
 
 pub low_couples : (d : ℕ → ℕ → ℕ) (h : ℕ → ℕ) (x : ℕ) (cs : List Couple) → Each (IsFirmCouple d h) cs → count x (couple_members cs) ≡ 0 → height x (couple_bands cs) ≡ 0
 low_couples d h x [] f none = refl
 low_couples d h x (c ∷ cs) f none =
     let o = count-append x c.first.members (c.second.members ++ couple_members cs) in
     let i = count-append x c.second.members (couple_members cs) in
-    omega (arith, low x c.first f.0.first.kept (omega (arith, o, i, none)), low x c.second f.0.second.kept (omega (arith, o, i, none)), low_couples d h x cs f.1 (omega (arith, o, i, none)),
-        height-append x (bands c.first) (bands c.second ++ couple_bands cs), height-append x (bands c.second) (couple_bands cs))
+    omega (
+      arith,
+      low x c.first f.0.first.kept (omega (arith, o, i, none)),
+      low x c.second f.0.second.kept (omega (arith, o, i, none)),
+      low_couples d h x cs f.1 (omega (arith, o, i, none)),
+      height-append x (bands c.first) (bands c.second ++ couple_bands cs),
+      height-append x (bands c.second) (couple_bands cs),
+    )
 
 pub low_free : (t : TableValue) (h : ℕ → ℕ) (s : Search) (x : ℕ) → IsSearch t h s → 1 ≤ count x s.free.items → h x ≡ 0
 low_free t h s x i some =
     let one = is_one t x in
-    omega (arith, i.tall x, low x s.root i.root.kept (omega (arith, i.places x, one, base_in x s.root.members s.tree.items, some)),
-        low_branches (entry t) h x s.root.members s.tree.items i.tree (omega (arith, i.places x, one, some)) (omega (arith, i.places x, one, some)),
-        low_couples (entry t) h x s.rest.items i.rest (omega (arith, i.places x, one, some)))
+    omega (
+      arith,
+      i.tall x,
+      low x s.root i.root.kept (omega (arith, i.places x, one, base_in x s.root.members s.tree.items, some)),
+      low_branches (entry t) h x s.root.members s.tree.items i.tree (omega (arith, i.places x, one, some)) (omega (arith, i.places x, one, some)),
+      low_couples (entry t) h x s.rest.items i.rest (omega (arith, i.places x, one, some)),
+    )
 
 -- one place of height 0 is a sound set
 pub single_sound : (d : ℕ → ℕ → ℕ) (h : ℕ → ℕ) (x : ℕ) → h x ≡ 0 → IsSound d h (single_of x)
 single_sound d h x none =
     let at = λ (y : ℕ) (here : 1 ≤ hit y x + 0). ap h (hit_is y x (omega (arith, here))) ∙ none in
     record {
-    kept = made_kept (x ∷ []) 0 [] refl;
-    paid = tt;
-    local = λ y here. omega (arith, at y here);
-    even = λ y z hy hz. omega (arith, at y hy, at z hz) }
+      kept = made_kept (x ∷ []) 0 [] refl;
+      paid = tt;
+      local = λ y here. omega (arith, at y here);
+      even = λ y z hy hz. omega (arith, at y hy, at z hz);
+    }
 
 pub met : (link : Link) (s : Search) (r : Standing) (m : NestValue) → Augments s.root m link s.tree.items s.rest.items r.couples.items → m ≡ single_of link.to →
     ((x : ℕ) → count x r.free.items + hit x link.to ≡ count x s.free.items) → length r.free.items + 1 ≡ length s.free.items → Ends s (Meet link) r
 met link s r m aug e counts fewer =
     let at = λ (F : List Band → ℕ). ap (λ (v : NestValue). F (bands v)) e in
     record {
-    standing = λ t h i ready. record {
+      standing = λ t h i ready. record {
         tall = λ x. omega (arith, i.tall x, aug.sums (height x) (height-append x), at (height x));
         places = λ x. omega (arith, i.places x, aug.places x, ap (λ (v : NestValue). count x v.members) e, counts x);
         joined = aug.joined i.joined;
         firm = aug.firm (entry t) h ready.2 i.root (subst (λ (v : NestValue). IsSound (entry t) h v) (sym e) (single_sound (entry t) h link.to (low_free t h s link.to i ready.1))) i.tree i.rest;
-        loads = λ a b la lb ne. omega (arith, i.loads a b la lb ne, aug.sums (load a b) (load-append a b), at (load a b)) };
-    fewer = fewer }
+        loads = λ a b la lb ne. omega (arith, i.loads a b la lb ne, aug.sums (load a b) (load-append a b), at (load a b));
+      };
+      fewer = fewer;
+    }
 
 -- a place is taken from the free ones
 pub taken_place : (x : ℕ) (xs new : List ℕ) (i place : ℕ) → i < length xs → get_or xs i 0 ≡ place → new ≡ take i xs ++ drop (suc i) xs → count x new + hit x place ≡ count x xs
@@ -219,11 +250,12 @@ begun t h place s i e f =
     let sums = λ (F : List Band → ℕ). ap (λ (v : NestValue). F (bands v)) e in
     let none_hung = λ (F : List Band → ℕ). ap (λ (bs : List Branch). F (branch_bands bs)) f in
     record {
-    tall = λ x. omega (arith, i.tall x, sums (height x), none_hung (height x));
-    places = λ x. omega (arith, i.places x, at x, ap (λ (v : NestValue). count x (outer_members v.members s.tree.items)) e, ap (λ (bs : List Branch). count x (outer_members (place ∷ []) bs)) f, ap (λ (bs : List Branch). count x (inner_members bs)) f);
-    grown = subst (λ (bs : List Branch). IsGrown s.root.members bs) (sym f) tt;
-    joined = i.joined;
-    root = subst (λ (v : NestValue). IsSound (entry t) h v) (sym e) (single_sound (entry t) h place none);
-    tree = subst (λ (bs : List Branch). Each (IsFirm (entry t) h) bs) (sym f) tt;
-    rest = i.firm;
-    loads = λ a b la lb ne. omega (arith, i.loads a b la lb ne, sums (load a b), none_hung (load a b)) }
+      tall = λ x. omega (arith, i.tall x, sums (height x), none_hung (height x));
+      places = λ x. omega (arith, i.places x, at x, ap (λ (v : NestValue). count x (outer_members v.members s.tree.items)) e, ap (λ (bs : List Branch). count x (outer_members (place ∷ []) bs)) f, ap (λ (bs : List Branch). count x (inner_members bs)) f);
+      grown = subst (λ (bs : List Branch). IsGrown s.root.members bs) (sym f) tt;
+      joined = i.joined;
+      root = subst (λ (v : NestValue). IsSound (entry t) h v) (sym e) (single_sound (entry t) h place none);
+      tree = subst (λ (bs : List Branch). Each (IsFirm (entry t) h) bs) (sym f) tt;
+      rest = i.firm;
+      loads = λ a b la lb ne. omega (arith, i.loads a b la lb ne, sums (load a b), none_hung (load a b));
+    }

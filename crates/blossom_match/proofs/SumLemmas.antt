@@ -1,7 +1,7 @@
 -- Counts, heights and loads of joined lists.
 use Rattle.std.proofs.Common.{◌≡◌, ℕ, ◌+◌, ◌-◌, ◌*◌, ◌≤◌, List, [], ◌∷◌, ◌++◌, arith, refl, cond, eqb, length, length-append, Bool, true, false}
 use Rattle.std.proofs.lemmas.Bool.{eqb-true, eq-eqb}
-use Rattle.blossom_match.specs.Bands.{Band, NestValue, Adds, Toll, apart, bands, count, height, hit, load, total, NoneHold, Kept, IsPaid}
+use Rattle.blossom_match.specs.Bands.{Band, NestValue, Adds, Toll, bands, count, height, hit, load, total, NoneHold, Kept, IsPaid}
 
 pub count-append : (x : ℕ) (xs ys : List ℕ) → count x (xs ++ ys) ≡ count x xs + count x ys
 count-append x [] ys = omega arith

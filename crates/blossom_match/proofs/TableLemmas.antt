@@ -5,7 +5,7 @@ use Rattle.std.proofs.lemmas.Bool.{eqb-true, eqb-false, eq-eqb}
 use Rattle.std.proofs.lemmas.List.{length-set}
 use Rattle.blossom_match.specs.TableValue.{TableValue}
 use Rattle.blossom_match.specs.Tables.{IsTable, entry, after_set}
-use Rattle.blossom_match.specs.declared.table.TheConstants.{MAX_DISTANCE, MAX_PLACES}
+use Rattle.blossom_match.specs.declared.table.TheConstants.{MAX_DISTANCE}
 
 -- a cell of a lower row comes first
 cell_before : (n a b x y : ℕ) → b < n → a < x → a * n + b < x * n + y
@@ -65,16 +65,16 @@ by_tests true u cells n a b d x y len la lb lx ly e f =
     let ex : x ≡ a = eqb-true x a both.0 in
     let ey : y ≡ b = eqb-true y b both.1 in
     set_same cells (min a b * n + max a b) (min x y * n + max x y) d (omega (arith, in_cells n (min a b) (max a b) (omega arith) (omega arith)))
-        (one_cell n (min x y) (max x y) (min a b) (max a b) (omega arith) (omega arith))
+    (one_cell n (min x y) (max x y) (min a b) (max a b) (omega arith) (omega arith))
 by_tests false true cells n a b d x y len la lb lx ly e f =
     let both = both_true (eqb x b) (eqb y a) f in
     let ex : x ≡ b = eqb-true x b both.0 in
     let ey : y ≡ a = eqb-true y a both.1 in
     set_same cells (min a b * n + max a b) (min x y * n + max x y) d (omega (arith, in_cells n (min a b) (max a b) (omega arith) (omega arith)))
-        (one_cell n (min x y) (max x y) (min a b) (max a b) (omega arith) (omega arith))
+    (one_cell n (min x y) (max x y) (min a b) (max a b) (omega arith) (omega arith))
 by_tests false false cells n a b d x y len la lb lx ly e f =
     get_or-set_other cells (min a b * n + max a b) (min x y * n + max x y) d 0
-        (λ g. let s = same_cell n (min a b) (max a b) (min x y) (max x y) (omega arith) (omega arith) g in other_two (eqb x a) a b x y refl e f s.0 s.1)
+    (λ g. let s = same_cell n (min a b) (max a b) (min x y) (max x y) (omega arith) (omega arith) g in other_two (eqb x a) a b x y refl e f s.0 s.1)
 
 abbrev set_cells : TableValue → ℕ → ℕ → ℕ → TableValue
 set_cells t a b d = record { places = t.places; cells = set t.cells (min a b * t.places + max a b) d }
@@ -90,9 +90,10 @@ short_either false d k m p q = q
 
 set_keeps : (t : TableValue) → IsTable t → (a b d : ℕ) → a < t.places → b < t.places → d ≤ MAX_DISTANCE → IsTable (set_cells t a b d)
 set_keeps t is a b d la lb low = record {
-    few = is.few;
-    filled = omega (arith, is.filled, length-set t.cells (min a b * t.places + max a b) d);
-    short = λ x y lx ly. rw (entry-set_cells t is a b d x y la lb lx ly) (short_either ((eqb x a && eqb y b) || (eqb x b && eqb y a)) d (entry t x y) MAX_DISTANCE low (is.short x y lx ly)) }
+  few = is.few;
+  filled = omega (arith, is.filled, length-set t.cells (min a b * t.places + max a b) d);
+  short = λ x y lx ly. rw (entry-set_cells t is a b d x y la lb lx ly) (short_either ((eqb x a && eqb y b) || (eqb x b && eqb y a)) d (entry t x y) MAX_DISTANCE low (is.short x y lx ly));
+}
 
 -- the same where the cell has a name
 abbrev pub set_at : TableValue → ℕ → ℕ → TableValue

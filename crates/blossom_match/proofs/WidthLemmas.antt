@@ -1,14 +1,14 @@
 -- A change of widths keeps what holds between two steps.
-use Rattle.std.proofs.Common.{◌≡◌, ◌≢◌, ℕ, ◌+◌, ◌-◌, ◌*◌, ◌^◌, ◌%◌, ◌≤◌, ◌<◌, suc, zero, List, [], ◌∷◌, ◌++◌, length, min, drop, arith, refl, sym, ap, subst, ◌∙◌, append_assoc}
+use Rattle.std.proofs.Common.{◌≡◌, ◌≢◌, ℕ, ◌+◌, ◌-◌, ◌*◌, ◌^◌, ◌≤◌, ◌<◌, suc, zero, List, [], ◌∷◌, ◌++◌, length, drop, arith, refl, sym, ap, subst, ◌∙◌, append_assoc}
 use Rattle.blossom_match.specs.Lists.{Each}
-use Rattle.blossom_match.specs.Bands.{Band, NestValue, Kept, apart, bands, count, height, load, with_width, hit}
+use Rattle.blossom_match.specs.Bands.{Band, NestValue, apart, bands, count, height, load, with_width}
 use Rattle.blossom_match.specs.Couples.{couple_members, couple_bands, IsJoined}
 use Rattle.blossom_match.specs.Sound.{IsFirm, IsFirmCouple, IsSound, IsTight}
 use Rattle.blossom_match.specs.Trees.{around, both, branch_bands, inner_bands, inner_members, outer_members, IsGrown}
 use Rattle.blossom_match.specs.Lays.{FirstComesApart}
-use Rattle.blossom_match.specs.Searches.{holding_both, outers, size_of, IsReady, IsSearch}
+use Rattle.blossom_match.specs.Searches.{holding_both, outers, IsReady, IsSearch}
 use Rattle.blossom_match.specs.Bounds.{height_of, Bounds, FirstIsDue, IsDue, RingIsWide}
-use Rattle.blossom_match.specs.Widths.{all_changed, changed_by, CanChange, CanWiden, Changes, StepsOn, Widens}
+use Rattle.blossom_match.specs.Widths.{all_changed, CanChange, CanWiden, Changes, StepsOn, Widens}
 use Rattle.blossom_match.specs.TableValue.{TableValue}
 use Rattle.blossom_match.specs.Tables.{entry, IsTable, KeepsTriangles}
 use Rattle.blossom_match.specs.declared.table.TheConstants.{MAX_DISTANCE}
@@ -19,13 +19,13 @@ use Rattle.blossom_match.specs.declared.search.Search.{Search}
 use Rattle.blossom_match.specs.declared.search.Step.{Step}
 use Rattle.blossom_match.specs.declared.search.Step.TheVariants.{Meet, Grow, Shrink, Expand}
 use Rattle.blossom_match.specs.declared.least.Change.{Change}
-use Rattle.blossom_match.proofs.ListLemmas.{each-map, each-right}
+use Rattle.blossom_match.proofs.ListLemmas.{each-right}
 use Rattle.blossom_match.proofs.SumLemmas.{count-append, height-append, hit_is, load-append, size-append, some_member}
 use Rattle.blossom_match.proofs.TreeLemmas.{base_in, inner-append, outer-append, outer_members_base}
 use Rattle.blossom_match.proofs.ExpandLemmas.{grown-right}
-use Rattle.blossom_match.proofs.ScanLemmas.{around_none, apart_from}
-use Rattle.blossom_match.proofs.SearchLemmas.{is_one, low_free}
-use Rattle.blossom_match.proofs.BoundLemmas.{apart_differ, in_place, load_of, loads_apart, not_both, place_in}
+use Rattle.blossom_match.proofs.ScanLemmas.{apart_from}
+use Rattle.blossom_match.proofs.SearchLemmas.{is_one}
+use Rattle.blossom_match.proofs.BoundLemmas.{in_place, load_of, loads_apart, place_in}
 use Rattle.blossom_match.proofs.TableLemmas.{entry-comm}
 
 -- members stay
@@ -76,38 +76,49 @@ branches_tall x by [] can = omega arith
 branches_tall x by (b ∷ bs) can =
     let n = with_width (b.inner.width - by) b.inner in
     let w = with_width (b.outer.width + by) b.outer in
-    omega (arith, branches_tall x by bs can.1, narrow_tall x by b.inner can.0.wide, wide_tall x by b.outer,
-        times_by by _ _ _ (count-append x b.inner.members (inner_members bs)), times_by by _ _ _ (count-append x b.outer.members (outer_members [] bs)),
-        height-append x (bands n) (bands w ++ branch_bands (all_changed by bs)), height-append x (bands w) (branch_bands (all_changed by bs)),
-        height-append x (bands b.inner) (bands b.outer ++ branch_bands bs), height-append x (bands b.outer) (branch_bands bs))
+    omega (
+      arith,
+      branches_tall x by bs can.1,
+      narrow_tall x by b.inner can.0.wide,
+      wide_tall x by b.outer,
+      times_by by _ _ _ (count-append x b.inner.members (inner_members bs)),
+      times_by by _ _ _ (count-append x b.outer.members (outer_members [] bs)),
+      height-append x (bands n) (bands w ++ branch_bands (all_changed by bs)),
+      height-append x (bands w) (branch_bands (all_changed by bs)),
+      height-append x (bands b.inner) (bands b.outer ++ branch_bands bs),
+      height-append x (bands b.outer) (branch_bands bs),
+    )
 
 -- a set of the outer sets, of the inner sets and of the others
 sound_up : (d : ℕ → ℕ → ℕ) (h k : ℕ → ℕ) (by : ℕ) (s : NestValue) → ((x : ℕ) → count x s.members ≤ 1) → ((x : ℕ) → 1 ≤ count x s.members → k x ≡ h x + by) → IsSound d h s →
     IsSound d k (with_width (s.width + by) s)
 sound_up d h k by s once up i = record {
-    kept = record { odd = i.kept.odd; covered = i.kept.covered; single = i.kept.single };
-    paid = i.paid;
-    local = λ x here.
-        let one : count x s.members ≡ 1 = omega (arith, here, once x) in
-        omega (arith, wide_tall x by s, ap (λ (n : ℕ). by * n) one, i.local x here, up x here);
-    even = λ x y hx hy. omega (arith, i.even x y hx hy, up x hx, up y hy) }
+  kept = record { odd = i.kept.odd; covered = i.kept.covered; single = i.kept.single };
+  paid = i.paid;
+  local = λ x here.
+      let one : count x s.members ≡ 1 = omega (arith, here, once x) in
+      omega (arith, wide_tall x by s, ap (λ (n : ℕ). by * n) one, i.local x here, up x here);
+  even = λ x y hx hy. omega (arith, i.even x y hx hy, up x hx, up y hy);
+}
 
 sound_down : (d : ℕ → ℕ → ℕ) (h k : ℕ → ℕ) (by : ℕ) (s : NestValue) → by ≤ s.width → ((x : ℕ) → count x s.members ≤ 1) → ((x : ℕ) → 1 ≤ count x s.members → k x + by ≡ h x) → IsSound d h s →
     IsSound d k (with_width (s.width - by) s)
 sound_down d h k by s low once down i = record {
-    kept = record { odd = i.kept.odd; covered = i.kept.covered; single = i.kept.single };
-    paid = i.paid;
-    local = λ x here.
-        let one : count x s.members ≡ 1 = omega (arith, here, once x) in
-        omega (arith, narrow_tall x by s low, ap (λ (n : ℕ). by * n) one, i.local x here, down x here);
-    even = λ x y hx hy. omega (arith, i.even x y hx hy, down x hx, down y hy) }
+  kept = record { odd = i.kept.odd; covered = i.kept.covered; single = i.kept.single };
+  paid = i.paid;
+  local = λ x here.
+      let one : count x s.members ≡ 1 = omega (arith, here, once x) in
+      omega (arith, narrow_tall x by s low, ap (λ (n : ℕ). by * n) one, i.local x here, down x here);
+  even = λ x y hx hy. omega (arith, i.even x y hx hy, down x hx, down y hy);
+}
 
 sound_same : (d : ℕ → ℕ → ℕ) (h k : ℕ → ℕ) (s : NestValue) → ((x : ℕ) → 1 ≤ count x s.members → k x ≡ h x) → IsSound d h s → IsSound d k s
 sound_same d h k s same i = record {
-    kept = i.kept;
-    paid = i.paid;
-    local = λ x here. omega (arith, i.local x here, same x here);
-    even = λ x y hx hy. omega (arith, i.even x y hx hy, same x hx, same y hy) }
+  kept = i.kept;
+  paid = i.paid;
+  local = λ x here. omega (arith, i.local x here, same x here);
+  even = λ x y hx hy. omega (arith, i.even x y hx hy, same x hx, same y hy);
+}
 
 firm_changed : (d : ℕ → ℕ → ℕ) (h k : ℕ → ℕ) (by : ℕ) (base : List ℕ) (bs : List Branch) → IsGrown base bs → Each (CanChange by) bs → Each (IsFirm d h) bs →
     ((x : ℕ) → count x (outer_members base bs) + count x (inner_members bs) ≤ 1) → ((x : ℕ) → 1 ≤ count x (outer_members base bs) → k x ≡ h x + by) →
@@ -118,13 +129,15 @@ firm_changed d h k by base (b ∷ bs) g can f once up down =
     let i = λ (x : ℕ). count-append x b.inner.members (inner_members bs) in
     let more = λ (x : ℕ). outer_members_base x b.outer.members base bs in
     let in_inner = λ (x : ℕ) (here : 1 ≤ count x b.inner.members). down x (omega (arith, i x, here)) in
-    let in_outer = λ (x : ℕ) (here : 1 ≤ count x b.outer.members). up x (omega (arith, o x, here)) in
-    (record {
+    let in_outer = λ (x : ℕ) (here : 1 ≤ count x b.outer.members). up x (omega (arith, o x, here)) in (
+      record {
         up = omega (arith, f.0.up, up b.up.from (omega (arith, g.0, base_in b.up.from base bs, o b.up.from)), in_inner b.up.to (omega (arith, g.1)));
         pair = omega (arith, f.0.pair, in_inner b.pair.from (omega (arith, g.2)), in_outer b.pair.to (omega (arith, g.3)));
         inner = sound_down d h k by b.inner can.0.wide (λ x. omega (arith, once x, i x)) in_inner f.0.inner;
-        outer = sound_up d h k by b.outer (λ x. omega (arith, once x, o x)) in_outer f.0.outer },
-        firm_changed d h k by (b.outer.members ++ base) bs g.4 can.1 f.1 (λ x. omega (arith, once x, o x, i x, more x)) (λ x here. up x (omega (arith, here, more x, o x))) (λ x here. down x (omega (arith, here, i x))))
+        outer = sound_up d h k by b.outer (λ x. omega (arith, once x, o x)) in_outer f.0.outer;
+      },
+      firm_changed d h k by (b.outer.members ++ base) bs g.4 can.1 f.1 (λ x. omega (arith, once x, o x, i x, more x)) (λ x here. up x (omega (arith, here, more x, o x))) (λ x here. down x (omega (arith, here, i x))),
+    )
 
 couples_same : (d : ℕ → ℕ → ℕ) (h k : ℕ → ℕ) (cs : List Couple) → Each IsJoined cs → Each (IsFirmCouple d h) cs → ((x : ℕ) → 1 ≤ count x (couple_members cs) → k x ≡ h x) → Each (IsFirmCouple d k) cs
 couples_same d h k [] j f same = tt
@@ -132,12 +145,14 @@ couples_same d h k (c ∷ cs) j f same =
     let o = λ (x : ℕ). count-append x c.first.members (c.second.members ++ couple_members cs) in
     let i = λ (x : ℕ). count-append x c.second.members (couple_members cs) in
     let first = λ (x : ℕ) (here : 1 ≤ count x c.first.members). same x (omega (arith, here, o x)) in
-    let second = λ (x : ℕ) (here : 1 ≤ count x c.second.members). same x (omega (arith, here, o x, i x)) in
-    (record {
+    let second = λ (x : ℕ) (here : 1 ≤ count x c.second.members). same x (omega (arith, here, o x, i x)) in (
+      record {
         link = omega (arith, f.0.link, first c.link.from (omega (arith, j.0.from)), second c.link.to (omega (arith, j.0.to)));
         first = sound_same d h k c.first first f.0.first;
-        second = sound_same d h k c.second second f.0.second },
-        couples_same d h k cs j.1 f.1 (λ x here. same x (omega (arith, here, o x, i x))))
+        second = sound_same d h k c.second second f.0.second;
+      },
+      couples_same d h k cs j.1 f.1 (λ x here. same x (omega (arith, here, o x, i x))),
+    )
 
 -- how many sets of the branches hold exactly one of the places, and how many inner sets hold both
 abbrev between_out : ℕ → ℕ → List Branch → ℕ
@@ -179,11 +194,11 @@ branches_load a b by (c ∷ cs) can =
     let ci = apart (count a c.inner.members) (count b c.inner.members) in
     let co = apart (count a c.outer.members) (count b c.outer.members) in
     sum_up by (load a b (bands n)) (load a b (bands w)) (load a b (branch_bands (all_changed by cs))) (load a b (bands c.inner)) (load a b (bands c.outer)) (load a b (branch_bands cs)) ci co (between_in a b cs) (between_out a b cs) _ _
-        (load-append a b (bands n) (bands w ++ branch_bands (all_changed by cs)) ∙ ap (λ (x : ℕ). load a b (bands n) + x) (load-append a b (bands w) (branch_bands (all_changed by cs))))
-        (load-append a b (bands c.inner) (bands c.outer ++ branch_bands cs) ∙ ap (λ (x : ℕ). load a b (bands c.inner) + x) (load-append a b (bands c.outer) (branch_bands cs)))
-        (less_wide c.inner.width by ci (load a b c.inner.below) (load a b (bands n)) (load a b (bands c.inner)) can.0.wide refl refl)
-        (more_wide c.outer.width by co (load a b c.outer.below) (load a b (bands w)) (load a b (bands c.outer)) refl refl)
-        (branches_load a b by cs can.1)
+    (load-append a b (bands n) (bands w ++ branch_bands (all_changed by cs)) ∙ ap (λ (x : ℕ). load a b (bands n) + x) (load-append a b (bands w) (branch_bands (all_changed by cs))))
+    (load-append a b (bands c.inner) (bands c.outer ++ branch_bands cs) ∙ ap (λ (x : ℕ). load a b (bands c.inner) + x) (load-append a b (bands c.outer) (branch_bands cs)))
+    (less_wide c.inner.width by ci (load a b c.inner.below) (load a b (bands n)) (load a b (bands c.inner)) can.0.wide refl refl)
+    (more_wide c.outer.width by co (load a b c.outer.below) (load a b (bands w)) (load a b (bands c.outer)) refl refl)
+    (branches_load a b by cs can.1)
 
 -- bo, bi: how many outer and inner sets hold exactly one of a and b; oo, ii: how many hold both; oa, ob, ia, ib: how many hold a and b
 within : (top old new by bo bi oo ii oa ob ia ib : ℕ) → new + by * bi ≡ old + by * bo → bo + 2 * oo ≡ oa + ob → bi + 2 * ii ≡ ia + ib →
@@ -255,37 +270,46 @@ can_change : (t : TableValue) (h : ℕ → ℕ) (s : Search) (c : Change) → Is
 can_change t h s c is tri i b some =
     let f = some_member s.free.items some in
     each_split (CanChange c.by) s.tree.items s.tree.items [] refl (λ bs k after e.
-        let grown = grown-right s.root.members bs (k ∷ after) (subst (λ (ks : List Branch). IsGrown s.root.members ks) e i.grown) in
-        let firm = (each-right (IsFirm (entry t) h) bs (k ∷ after) (subst (λ (ks : List Branch). Each (IsFirm (entry t) h) ks) e i.tree)).0 in
-        let ring = (each-right (RingIsWide c.by) bs (k ∷ after) (subst (λ (ks : List Branch). Each (RingIsWide c.by) ks) e b.rings)).0 in
-        let at = λ (x : ℕ). ap (λ (ks : List Branch). count x (outer_members s.root.members ks)) e ∙ outer-append x s.root.members bs (k ∷ after) in
-        let on = λ (x : ℕ). count-append x k.outer.members (outer_members [] after) in
-        let deep = λ (x : ℕ). ap (λ (ks : List Branch). count x (inner_members ks)) e ∙ inner-append x bs (k ∷ after) in
-        let under = λ (x : ℕ). count-append x k.inner.members (inner_members after) in
-        let from : 1 ≤ count k.up.from (outers s) = omega (arith, at k.up.from, grown.0) in
-        let to : 1 ≤ count k.pair.to (outers s) = omega (arith, at k.pair.to, on k.pair.to, grown.3) in
-        let apart : holding_both k.up.from k.pair.to s ≡ 0 = subst (λ (ks : List Branch). both k.up.from k.pair.to s.root + around k.up.from k.pair.to ks ≡ 0) (sym e)
-            (apart_from k.up.from k.pair.to s.root bs k after (λ x. omega (arith, i.places x, is_one t x, ap (λ (ks : List Branch). count x (outer_members s.root.members ks)) e)) grown.0 (omega (arith, grown.3))) in
-        record {
-        room = set_limit (entry t) h k.outer c.by firm.outer (λ x. omega (arith, i.places x, is_one t x, at x, on x)) (λ x here. outer_limit t h s c x f.0 is i b f.1 (omega (arith, at x, on x, here)));
-        wide = narrow_case (length k.inner.below) t h c.by k refl ring firm grown.1 grown.2
-            (tri k.up.from k.up.to k.pair.to (place_in t k.up.from (omega (arith, i.places k.up.from, from))) (place_in t k.up.to (omega (arith, i.places k.up.to, deep k.up.to, under k.up.to, grown.1)))
-                (place_in t k.pair.to (omega (arith, i.places k.pair.to, to))))
-            (b.two k.up.from k.pair.to from to apart) })
+    let grown = grown-right s.root.members bs (k ∷ after) (subst (λ (ks : List Branch). IsGrown s.root.members ks) e i.grown) in
+    let firm = (each-right (IsFirm (entry t) h) bs (k ∷ after) (subst (λ (ks : List Branch). Each (IsFirm (entry t) h) ks) e i.tree)).0 in
+    let ring = (each-right (RingIsWide c.by) bs (k ∷ after) (subst (λ (ks : List Branch). Each (RingIsWide c.by) ks) e b.rings)).0 in
+    let at = λ (x : ℕ). ap (λ (ks : List Branch). count x (outer_members s.root.members ks)) e ∙ outer-append x s.root.members bs (k ∷ after) in
+    let on = λ (x : ℕ). count-append x k.outer.members (outer_members [] after) in
+    let deep = λ (x : ℕ). ap (λ (ks : List Branch). count x (inner_members ks)) e ∙ inner-append x bs (k ∷ after) in
+    let under = λ (x : ℕ). count-append x k.inner.members (inner_members after) in
+    let from : 1 ≤ count k.up.from (outers s) = omega (arith, at k.up.from, grown.0) in
+    let to : 1 ≤ count k.pair.to (outers s) = omega (arith, at k.pair.to, on k.pair.to, grown.3) in
+    let apart : holding_both k.up.from k.pair.to s ≡ 0 = subst (λ (ks : List Branch). both k.up.from k.pair.to s.root + around k.up.from k.pair.to ks ≡ 0) (sym e)
+    (apart_from k.up.from k.pair.to s.root bs k after (λ x. omega (arith, i.places x, is_one t x, ap (λ (ks : List Branch). count x (outer_members s.root.members ks)) e)) grown.0 (omega (arith, grown.3))) in
+    record {
+      room = set_limit (entry t) h k.outer c.by firm.outer (λ x. omega (arith, i.places x, is_one t x, at x, on x)) (λ x here. outer_limit t h s c x f.0 is i b f.1 (omega (arith, at x, on x, here)));
+      wide = narrow_case (length k.inner.below) t h c.by k refl ring firm grown.1 grown.2
+          (tri k.up.from k.up.to k.pair.to (place_in t k.up.from (omega (arith, i.places k.up.from, from))) (place_in t k.up.to (omega (arith, i.places k.up.to, deep k.up.to, under k.up.to, grown.1)))
+          (place_in t k.pair.to (omega (arith, i.places k.pair.to, to))))
+          (b.two k.up.from k.pair.to from to apart);
+    })
 
 pub can_widen : (s : Search) (c : Change) → CanWiden s c → (s.root.width + c.by < 2 ^ 32) × Each (CanChange c.by) s.tree.items
 can_widen s c w =
-    let f = some_member s.free.items w.some in
-    (set_limit (entry w.t) w.h s.root c.by w.search.root (λ x. omega (arith, w.search.places x, is_one w.t x, base_in x s.root.members s.tree.items))
-        (λ x here. outer_limit w.t w.h s c x f.0 w.table w.search w.bounds f.1 (omega (arith, base_in x s.root.members s.tree.items, here))),
-        can_change w.t w.h s c w.table w.triangles w.search w.bounds w.some)
+    let f = some_member s.free.items w.some in (
+      set_limit (entry w.t) w.h s.root c.by w.search.root (λ x. omega (arith, w.search.places x, is_one w.t x, base_in x s.root.members s.tree.items))
+          (λ x here. outer_limit w.t w.h s c x f.0 w.table w.search w.bounds f.1 (omega (arith, base_in x s.root.members s.tree.items, here))),
+      can_change w.t w.h s c w.table w.triangles w.search w.bounds w.some,
+    )
 
 -- how the heights move
 moved : (by : ℕ) (s r : Search) → Changes by s r → Each (CanChange by) s.tree.items → (x : ℕ) →
     height_of r x + by * count x (inner_members s.tree.items) ≡ height_of s x + by * count x (outers s)
 moved by s r ch can x =
-    omega (arith, branches_tall x by s.tree.items can, wide_tall x by s.root, ap (λ (v : NestValue). height x (bands v)) ch.root, ap (λ (ks : List Branch). height x (branch_bands ks)) ch.tree,
-        ap (λ (cs : List Couple). height x (couple_bands cs)) ch.rest, times_by by _ _ _ (outer-append x s.root.members [] s.tree.items))
+    omega (
+      arith,
+      branches_tall x by s.tree.items can,
+      wide_tall x by s.root,
+      ap (λ (v : NestValue). height x (bands v)) ch.root,
+      ap (λ (ks : List Branch). height x (branch_bands ks)) ch.tree,
+      ap (λ (cs : List Couple). height x (couple_bands cs)) ch.rest,
+      times_by by _ _ _ (outer-append x s.root.members [] s.tree.items),
+    )
 
 -- the bound on a place of an outer set and any other that no set holds with it
 room_case : (n : ℕ) (t : TableValue) (h : ℕ → ℕ) (s : Search) (c : Change) (a b : ℕ) → IsSearch t h s → Bounds t h s c → b < t.places → 1 ≤ count a (outers s) → count b (inner_members s.tree.items) ≡ 0 → holding_both a b s ≡ 0 →
@@ -330,12 +354,12 @@ loads_stay t h s r c i bd ch can a b la lb ne =
     let pa = i.places a in
     let pb = i.places b in
     within (2 * entry t a b) (load_of s a b) (load_of r a b) by bo (between_in a b tree) (holding_both a b s) (inside a b tree)
-        (count a (outers s)) (count b (outers s)) (count a (inner_members tree)) (count b (inner_members tree))
-        (sum_all by (load a b (bands r.root)) (load a b (branch_bands r.tree.items)) (load a b (couple_bands r.rest.items)) (load a b (bands s.root)) (load a b (branch_bands tree)) (load a b (couple_bands s.rest.items))
-            (load a b (branch_bands (all_changed by tree))) (apart_of a b s.root) (between_out a b tree) (between_in a b tree) root branches rest (branches_load a b by tree can))
-        (omega (arith, counted_out a b tree, oa, ob)) (counted_in a b tree) (omega (arith, pa, is_one t a)) (omega (arith, pb, is_one t b)) (i.loads a b la lb ne)
-        (λ some none apart. one_case (count a (outers s)) t h s c a b i bd la lb refl some none apart)
-        (λ two apart. omega (arith, loads_apart t h s a b i (omega (arith, two, pb, is_one t b)) apart, bd.two a b (omega (arith, two, pb, is_one t b)) (omega (arith, two, pa, is_one t a)) apart))
+    (count a (outers s)) (count b (outers s)) (count a (inner_members tree)) (count b (inner_members tree))
+    (sum_all by (load a b (bands r.root)) (load a b (branch_bands r.tree.items)) (load a b (couple_bands r.rest.items)) (load a b (bands s.root)) (load a b (branch_bands tree)) (load a b (couple_bands s.rest.items))
+    (load a b (branch_bands (all_changed by tree))) (apart_of a b s.root) (between_out a b tree) (between_in a b tree) root branches rest (branches_load a b by tree can))
+    (omega (arith, counted_out a b tree, oa, ob)) (counted_in a b tree) (omega (arith, pa, is_one t a)) (omega (arith, pb, is_one t b)) (i.loads a b la lb ne)
+    (λ some none apart. one_case (count a (outers s)) t h s c a b i bd la lb refl some none apart)
+    (λ two apart. omega (arith, loads_apart t h s a b i (omega (arith, two, pb, is_one t b)) apart, bd.two a b (omega (arith, two, pb, is_one t b)) (omega (arith, two, pa, is_one t a)) apart))
 
 -- a tight link after the change
 tight_after : (d : ℕ → ℕ → ℕ) (k : ℕ → ℕ) (l : Link) → k l.from + k l.to ≡ 2 * d l.from l.to → IsTight d k l
@@ -346,13 +370,17 @@ due_ready : (step : Step) (t : TableValue) (h : ℕ → ℕ) (s r : Search) (by 
     IsDue t h s by step → IsReady t (height_of r) r step
 due_ready (Meet l) t h s r by ch up same outer due =
     (omega (arith, due.0, outer l.from), omega (arith, due.1, ap (λ (xs : List ℕ). count l.to xs) ch.free), tight_after (entry t) (height_of r) l (omega (arith, due.2, up l.from due.0, same l.to (omega (arith, due.1)))))
-due_ready (Grow l) t h s r by ch up same outer due =
-    (omega (arith, due.0, outer l.from), omega (arith, due.1, ap (λ (cs : List Couple). count l.to (couple_members cs)) ch.rest),
-        tight_after (entry t) (height_of r) l (omega (arith, due.2, up l.from due.0, same l.to (omega (arith, due.1)))))
-due_ready (Shrink l) t h s r by ch up same outer due =
-    (omega (arith, due.0, outer l.from), omega (arith, due.1, outer l.to),
-        omega (arith, due.2, ap (λ (v : NestValue). both l.from l.to v) ch.root, ap (λ (ks : List Branch). around l.from l.to ks) ch.tree, around_same_all by l.from l.to s.tree.items),
-        tight_after (entry t) (height_of r) l (omega (arith, due.3, up l.from due.0, up l.to due.1)))
+due_ready (Grow l) t h s r by ch up same outer due = (
+  omega (arith, due.0, outer l.from),
+  omega (arith, due.1, ap (λ (cs : List Couple). count l.to (couple_members cs)) ch.rest),
+  tight_after (entry t) (height_of r) l (omega (arith, due.2, up l.from due.0, same l.to (omega (arith, due.1)))),
+)
+due_ready (Shrink l) t h s r by ch up same outer due = (
+  omega (arith, due.0, outer l.from),
+  omega (arith, due.1, outer l.to),
+  omega (arith, due.2, ap (λ (v : NestValue). both l.from l.to v) ch.root, ap (λ (ks : List Branch). around l.from l.to ks) ch.tree, around_same_all by l.from l.to s.tree.items),
+  tight_after (entry t) (height_of r) l (omega (arith, due.3, up l.from due.0, up l.to due.1)),
+)
 due_ready (Expand at) t h s r by ch up same outer due =
     subst (λ (ks : List Branch). FirstComesApart (drop at ks)) (sym ch.tree) (subst FirstComesApart (sym (drop_changed by at s.tree.items)) (due_comes_apart by (drop at s.tree.items) due))
 
@@ -373,18 +401,18 @@ steps_on t h s r c ch is tri i b some =
     let move = λ (x : ℕ). moved by s r ch can x in
     let one = λ (x : ℕ). is_one t x in
     let outer : (x : ℕ) → count x (outers r) ≡ count x (outers s) =
-        λ x. ap (λ (v : NestValue). count x (outer_members v.members r.tree.items)) ch.root ∙ ap (λ (ks : List Branch). count x (outer_members s.root.members ks)) ch.tree ∙ ap (λ (xs : List ℕ). count x xs) (outer_same by s.root.members s.tree.items) in
+    λ x. ap (λ (v : NestValue). count x (outer_members v.members r.tree.items)) ch.root ∙ ap (λ (ks : List Branch). count x (outer_members s.root.members ks)) ch.tree ∙ ap (λ (xs : List ℕ). count x xs) (outer_same by s.root.members s.tree.items) in
     let inner : (x : ℕ) → count x (inner_members r.tree.items) ≡ count x (inner_members s.tree.items) =
-        λ x. ap (λ (ks : List Branch). count x (inner_members ks)) ch.tree ∙ ap (λ (xs : List ℕ). count x xs) (inner_same by s.tree.items) in
+    λ x. ap (λ (ks : List Branch). count x (inner_members ks)) ch.tree ∙ ap (λ (xs : List ℕ). count x xs) (inner_same by s.tree.items) in
     let up : (x : ℕ) → 1 ≤ count x (outers s) → k x ≡ h x + by =
-        λ x here. rise by (k x) (height_of s x) (h x) (count x (inner_members s.tree.items)) (count x (outers s)) (move x) (i.tall x) (omega (arith, i.places x, one x, here)) (omega (arith, i.places x, one x, here)) in
+    λ x here. rise by (k x) (height_of s x) (h x) (count x (inner_members s.tree.items)) (count x (outers s)) (move x) (i.tall x) (omega (arith, i.places x, one x, here)) (omega (arith, i.places x, one x, here)) in
     let down : (x : ℕ) → 1 ≤ count x (inner_members s.tree.items) → k x + by ≡ h x =
-        λ x here. fall by (k x) (height_of s x) (h x) (count x (inner_members s.tree.items)) (count x (outers s)) (move x) (i.tall x) (omega (arith, i.places x, one x, here)) (omega (arith, i.places x, one x, here)) in
+    λ x here. fall by (k x) (height_of s x) (h x) (count x (inner_members s.tree.items)) (count x (outers s)) (move x) (i.tall x) (omega (arith, i.places x, one x, here)) (omega (arith, i.places x, one x, here)) in
     let same : (x : ℕ) → 1 ≤ count x (couple_members s.rest.items) + count x s.free.items → k x ≡ h x =
-        λ x here. stay by (k x) (height_of s x) (h x) (count x (inner_members s.tree.items)) (count x (outers s)) (move x) (i.tall x) (omega (arith, i.places x, one x, here)) (omega (arith, i.places x, one x, here)) in
+    λ x here. stay by (k x) (height_of s x) (h x) (count x (inner_members s.tree.items)) (count x (outers s)) (move x) (i.tall x) (omega (arith, i.places x, one x, here)) (omega (arith, i.places x, one x, here)) in
     record {
-    h = k;
-    search = record {
+      h = k;
+      search = record {
         tall = λ x. refl;
         places = λ x. omega (arith, i.places x, outer x, inner x, ap (λ (cs : List Couple). count x (couple_members cs)) ch.rest, ap (λ (xs : List ℕ). count x xs) ch.free);
         grown = subst (λ (v : NestValue). IsGrown v.members r.tree.items) (sym ch.root) (subst (λ (ks : List Branch). IsGrown s.root.members ks) (sym ch.tree) (grown_same by s.root.members s.tree.items i.grown));
@@ -394,11 +422,14 @@ steps_on t h s r c ch is tri i b some =
         tree = subst (λ (ks : List Branch). Each (IsFirm (entry t) k) ks) (sym ch.tree)
             (firm_changed (entry t) h k by s.root.members s.tree.items i.grown can i.tree (λ x. omega (arith, i.places x, one x)) up down);
         rest = subst (λ (cs : List Couple). Each (IsFirmCouple (entry t) k) cs) (sym ch.rest) (couples_same (entry t) h k s.rest.items i.joined i.rest (λ x here. same x (omega (arith, here))));
-        loads = loads_stay t h s r c i b ch can };
-    ready = due_ready c.step t h s r by ch up same outer b.due }
+        loads = loads_stay t h s r c i b ch can;
+      };
+      ready = due_ready c.step t h s r by ch up same outer b.due;
+    }
 
 pub widens : (s r : Search) (c : Change) → Changes c.by s r → Widens s c r
 widens s r c ch = record {
-    search = λ t h is tri i b some. steps_on t h s r c ch is tri i b some;
-    size = omega (arith, ap (λ (ks : List Branch). length (inner_bands ks)) ch.tree, sizes_same c.by s.tree.items, ap (λ (cs : List Couple). length (couple_bands cs)) ch.rest);
-    free = ch.free }
+  search = λ t h is tri i b some. steps_on t h s r c ch is tri i b some;
+  size = omega (arith, ap (λ (ks : List Branch). length (inner_bands ks)) ch.tree, sizes_same c.by s.tree.items, ap (λ (cs : List Couple). length (couple_bands cs)) ch.rest);
+  free = ch.free;
+}

@@ -1,7 +1,7 @@
 -- The least change of widths after which a step can be done.
-use Rattle.std.specs.Prelude.{◌≡◌, ◌≢◌, ℕ, ◌+◌, ◌-◌, ◌*◌, ◌^◌, ◌%◌, ◌<◌, ◌≤◌, ◌⊎◌, List, [], ◌∷◌, ◌++◌, drop, length, map, slice_index}
+use Rattle.std.specs.Prelude.{◌≡◌, ℕ, ◌+◌, ◌*◌, ◌^◌, ◌%◌, ◌<◌, ◌≤◌, ◌⊎◌, List, [], ◌∷◌, drop, length, slice_index}
 use Rattle.blossom_match.specs.Lists.{Each}
-use Rattle.blossom_match.specs.Bands.{NestValue, bands, count, height, with_width}
+use Rattle.blossom_match.specs.Bands.{NestValue, bands, count, height}
 use Rattle.blossom_match.specs.Couples.{couple_members, couple_bands}
 use Rattle.blossom_match.specs.Trees.{around, both, branch_bands, inner_members, outer_members}
 use Rattle.blossom_match.specs.Searches.{holding_both, outers, IsSearch}
@@ -81,13 +81,13 @@ pub record Crossed (t : TableValue) (hs : List ℕ) (root : NestValue) (tree : L
 pub record Crosses (t : TableValue) (hs : List ℕ) (root : NestValue) (tree : List Branch) (old new : Change) : Type 0 where
   pub less : new.by ≤ old.by
   pub wide : (a b : ℕ) → 1 ≤ count a (outer_members root.members tree) → 1 ≤ count b (outer_members root.members tree) → holding a b root tree ≡ 0 →
-    HasRoom t hs kind.Shrink new.by a b
+      HasRoom t hs kind.Shrink new.by a b
   pub is : (new ≡ old) ⊎ Crossed t hs root tree new
 
 -- between each two outer sets there is room, in whole changes
 pub record CanCross (t : TableValue) (hs : List ℕ) (root : NestValue) (tree : List Branch) : Type 0 where
   pub offer : (a b : ℕ) → 1 ≤ count a (outer_members root.members tree) → 1 ≤ count b (outer_members root.members tree) → holding a b root tree ≡ 0 →
-    CanOffer t hs kind.Shrink a b
+      CanOffer t hs kind.Shrink a b
   pub once : (x : ℕ) → count x (outer_members root.members tree) ≤ 1
 
 -- the first branch's inner ring has that width

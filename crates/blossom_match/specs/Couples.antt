@@ -1,6 +1,5 @@
 -- Sets in pairs.
 use Rattle.std.specs.Prelude.{◌≡◌, ℕ, ◌+◌, ◌*◌, ◌≤◌, List, [], ◌∷◌, ◌++◌, drop}
-use Rattle.blossom_match.specs.Lists.{Each}
 use Rattle.blossom_match.specs.Bands.{Band, bands, count, height, IsPaid}
 use Rattle.blossom_match.specs.declared.nest.Part.{Part}
 use Rattle.blossom_match.specs.declared.couples.Couple.{Couple}

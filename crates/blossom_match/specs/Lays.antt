@@ -1,5 +1,5 @@
 -- An inner set that comes apart: a way of parts is laid into the tree.
-use Rattle.std.specs.Prelude.{◌≡◌, ℕ, ◌+◌, ◌%◌, ◌<◌, ◌≤◌, ◌⊎◌, List, [], ◌∷◌, ◌++◌, length, drop}
+use Rattle.std.specs.Prelude.{◌≡◌, ℕ, ◌+◌, ◌%◌, ◌<◌, ◌≤◌, ◌⊎◌, List, [], ◌∷◌, length, drop}
 use Rattle.blossom_match.specs.Lists.{Each}
 use Rattle.blossom_match.specs.Bands.{Adds, Band, NestValue, bands, count}
 use Rattle.blossom_match.specs.Rings.{back_of, members_in, bands_in, FirstHolds, IsRing, Linked}
@@ -61,12 +61,12 @@ pub record Lays (root : NestValue) (old : List Branch) (ring : List Part) (way p
   pub grown : IsGrown root.members new
   pub joined : Each IsJoined cs
   pub places : (x : ℕ) → count x (outer_members root.members new) + count x (inner_members new) + count x (couple_members cs) ≡
-    count x (outer_members root.members old) + count x (inner_members old) + count x (members_in ring) + count x outer.members
+      count x (outer_members root.members old) + count x (inner_members old) + count x (members_in ring) + count x outer.members
   pub more : (x : ℕ) → count x (outer_members root.members old) + count x outer.members ≤ count x (outer_members root.members new)
   pub sums : (F : List Band → ℕ) → Adds F → F (branch_bands new) + F (couple_bands cs) ≡ F (branch_bands old) + F (bands_in ring) + F (bands outer)
   pub fewer : length (inner_bands new) + length (couple_bands cs) ≤ length (inner_bands old) + length (bands_in ring)
   pub firm : (d : ℕ → ℕ → ℕ) (h : ℕ → ℕ) → Each (IsFirm d h) old → IsTight d h way → IsTight d h pair → Each (IsFirmPart d h) ring → IsSound d h outer →
-    Each (IsFirm d h) new × Each (IsFirmCouple d h) cs
+      Each (IsFirm d h) new × Each (IsFirmCouple d h) cs
 
 -- the first branch has an inner ring without a width
 abbrev pub FirstComesApart : List Branch → Type 0
@@ -84,7 +84,7 @@ pub record Expands (root : NestValue) (old new : List Branch) (was now : List Co
   pub grown : IsGrown root.members new
   pub joined : Each IsJoined was → Each IsJoined now
   pub places : (x : ℕ) → count x (outer_members root.members new) + count x (inner_members new) + count x (couple_members now) ≡
-    count x (outer_members root.members old) + count x (inner_members old) + count x (couple_members was)
+      count x (outer_members root.members old) + count x (inner_members old) + count x (couple_members was)
   pub ring : List ℕ
   pub sums : (F : List Band → ℕ) → Adds F → F (branch_bands new) + F (couple_bands now) + F (record { members = ring; width = 0 } ∷ []) ≡ F (branch_bands old) + F (couple_bands was)
   pub fewer : length (inner_bands new) + length (couple_bands now) < length (inner_bands old) + length (couple_bands was)

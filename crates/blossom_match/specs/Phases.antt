@@ -6,7 +6,6 @@ use Rattle.blossom_match.specs.Bounds.{CanSearch}
 use Rattle.blossom_match.specs.TableValue.{TableValue}
 use Rattle.blossom_match.specs.declared.couples.Couple.{Couple}
 use Rattle.blossom_match.specs.declared.search.Search.{Search}
-use Rattle.blossom_match.specs.declared.search.Standing.{Standing}
 use Rattle.blossom_match.specs.declared.search.Step.{Step}
 use Rattle.blossom_match.specs.declared.phase.Stepped.{Stepped}
 use Rattle.blossom_match.specs.declared.phase.Stepped.TheVariants.{More, Done}

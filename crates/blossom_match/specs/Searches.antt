@@ -1,14 +1,13 @@
 -- What holds between two steps of the search.
-use Rattle.std.specs.Prelude.{◌≡◌, ◌≢◌, ℕ, ◌+◌, ◌*◌, ◌<◌, ◌≤◌, List, [], ◌∷◌, drop, length, nat_lt, if◌then◌else◌}
+use Rattle.std.specs.Prelude.{◌≡◌, ◌≢◌, ℕ, ◌+◌, ◌*◌, ◌<◌, ◌≤◌, List, drop, length, nat_lt, if◌then◌else◌}
 use Rattle.blossom_match.specs.Lists.{Each}
-use Rattle.blossom_match.specs.Bands.{NestValue, bands, count, height, load}
+use Rattle.blossom_match.specs.Bands.{bands, count, height, load}
 use Rattle.blossom_match.specs.Couples.{couple_members, couple_bands, IsJoined}
 use Rattle.blossom_match.specs.Sound.{IsFirm, IsFirmCouple, IsSound, IsTight}
 use Rattle.blossom_match.specs.Trees.{around, both, branch_bands, inner_bands, inner_members, outer_members, IsGrown}
 use Rattle.blossom_match.specs.Lays.{FirstComesApart}
 use Rattle.blossom_match.specs.TableValue.{TableValue}
 use Rattle.blossom_match.specs.Tables.{entry}
-use Rattle.blossom_match.specs.declared.nest.Link.{Link}
 use Rattle.blossom_match.specs.declared.couples.Couple.{Couple}
 use Rattle.blossom_match.specs.declared.search.Search.{Search}
 use Rattle.blossom_match.specs.declared.search.Standing.{Standing}
@@ -41,7 +40,7 @@ pub record IsSearch (t : TableValue) (h : ℕ → ℕ) (s : Search) : Type 0 whe
   pub tree : Each (IsFirm (entry t) h) s.tree.items
   pub rest : Each (IsFirmCouple (entry t) h) s.rest.items
   pub loads : (a b : ℕ) → a < t.places → b < t.places → a ≢ b →
-    load a b (bands s.root) + load a b (branch_bands s.tree.items) + load a b (couple_bands s.rest.items) ≤ 2 * entry t a b
+      load a b (bands s.root) + load a b (branch_bands s.tree.items) + load a b (couple_bands s.rest.items) ≤ 2 * entry t a b
 
 -- how many outer sets hold both places
 abbrev pub holding_both : ℕ → ℕ → Search → ℕ

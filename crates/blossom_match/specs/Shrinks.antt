@@ -36,13 +36,13 @@ pub record Shrinking (link : Link) (root : NestValue) (tree : List Branch) : Typ
 pub record Shrinks (link : Link) (root new_root : NestValue) (old new : List Branch) : Type 0 where
   pub grown : IsGrown new_root.members new
   pub places : (x : ℕ) → count x (outer_members new_root.members new) + count x (inner_members new)
-    ≡ count x (outer_members root.members old) + count x (inner_members old)
+      ≡ count x (outer_members root.members old) + count x (inner_members old)
   pub ring : List ℕ
   pub sums : (F : List Band → ℕ) → Adds F →
-    F (bands new_root) + F (branch_bands new) ≡ F (bands root) + F (branch_bands old) + F (record { members = ring; width = 0 } ∷ [])
+      F (bands new_root) + F (branch_bands new) ≡ F (bands root) + F (branch_bands old) + F (record { members = ring; width = 0 } ∷ [])
   pub fewer : length (inner_bands new) < length (inner_bands old)
   pub firm : (d : ℕ → ℕ → ℕ) (h : ℕ → ℕ) → IsSymmetric d → IsTight d h link → IsSound d h root → Each (IsFirm d h) old →
-    IsSound d h new_root × Each (IsFirm d h) new
+      IsSound d h new_root × Each (IsFirm d h) new
 
 -- the tree that is left, the chain so far and the branches set aside
 pub record Chaining (link : Link) (root : NestValue) (tree left : List Branch) (chain : List Part) (aside : List Branch) (way : Link) (to : ℕ) : Type 0 where
@@ -57,8 +57,8 @@ pub record Chaining (link : Link) (root : NestValue) (tree left : List Branch) (
   pub hung : IsGrown (members_in chain ++ outer_members root.members left) (reverse aside)
   pub once : (x : ℕ) → count x (outer_members root.members tree) + count x (inner_members tree) ≤ 1
   pub places : (x : ℕ) → count x (outer_members root.members left) + count x (inner_members left) + count x (members_in chain)
-    + count x (outer_members [] (reverse aside)) + count x (inner_members (reverse aside)) ≡ count x (outer_members root.members tree) + count x (inner_members tree)
+      + count x (outer_members [] (reverse aside)) + count x (inner_members (reverse aside)) ≡ count x (outer_members root.members tree) + count x (inner_members tree)
   pub sums : (F : List Band → ℕ) → Adds F → F (branch_bands left) + F (bands_in chain) + F (branch_bands (reverse aside)) ≡ F (branch_bands tree)
   pub fewer : 2 * (length (inner_bands left) + length (inner_bands (reverse aside))) + length chain ≤ 2 * length (inner_bands tree)
   pub firm : (d : ℕ → ℕ → ℕ) (h : ℕ → ℕ) → IsSymmetric d → IsTight d h link → Each (IsFirm d h) tree →
-    Each (IsFirm d h) left × Each (IsFirm d h) (reverse aside) × Each (IsFirmPart d h) chain × IsTight d h way
+      Each (IsFirm d h) left × Each (IsFirm d h) (reverse aside) × Each (IsFirmPart d h) chain × IsTight d h way

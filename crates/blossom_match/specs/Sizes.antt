@@ -1,5 +1,5 @@
 -- A part has fewer sets inside than the whole.
-use Rattle.std.specs.Prelude.{◌+◌, ◌≤◌, List, [], ◌∷◌, length}
+use Rattle.std.specs.Prelude.{◌≤◌, List, [], ◌∷◌, length}
 use Rattle.std.proofs.Common.{arith, length-append}
 use denote.Param.Weighed.{most}
 use Rattle.blossom_match.specs.Bands.{bands}

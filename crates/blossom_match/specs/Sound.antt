@@ -1,5 +1,5 @@
 -- Sets and links that use up their distances, where h is the height of each place over all sets.
-use Rattle.std.specs.Prelude.{◌≡◌, ℕ, ◌+◌, ◌*◌, ◌%◌, ◌≤◌, List}
+use Rattle.std.specs.Prelude.{◌≡◌, ℕ, ◌+◌, ◌*◌, ◌%◌, ◌≤◌}
 use Rattle.blossom_match.specs.Bands.{NestValue, bands, count, height, Kept, IsPaid}
 use Rattle.blossom_match.specs.declared.nest.Link.{Link}
 use Rattle.blossom_match.specs.declared.nest.Part.{Part}

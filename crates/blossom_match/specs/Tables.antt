@@ -1,6 +1,5 @@
 -- Tables of distances, in whole steps. Places are numbered from 0.
 use Rattle.std.specs.Prelude.{◌≡◌, ◌==◌, ◌&&◌, ◌||◌, ℕ, ◌+◌, ◌*◌, ◌<◌, ◌≤◌, length, max, min, slice_index, replicate, if◌then◌else◌}
-
 use Rattle.blossom_match.specs.TableValue.{TableValue}
 use Rattle.blossom_match.specs.declared.table.TheConstants.{MAX_DISTANCE, MAX_PLACES}
 

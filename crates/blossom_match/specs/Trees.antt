@@ -1,5 +1,5 @@
 -- The search tree as a list of branches, the oldest first.
-use Rattle.std.specs.Prelude.{◌≡◌, ℕ, ◌+◌, ◌*◌, ◌≤◌, List, [], ◌∷◌, ◌++◌, min, nat_lt, if◌then◌else◌}
+use Rattle.std.specs.Prelude.{◌≡◌, ℕ, ◌+◌, ◌≤◌, List, [], ◌∷◌, ◌++◌, min, nat_lt, if◌then◌else◌}
 use Rattle.blossom_match.specs.Lists.{Each}
 use Rattle.blossom_match.specs.Bands.{Adds, Band, NestValue, bands, count}
 use Rattle.blossom_match.specs.Rings.{back_of}
@@ -56,11 +56,11 @@ pub record Augmenting (met : NestValue) (link : Link) (root : NestValue) (tree :
 pub record Augments (root met : NestValue) (link : Link) (tree : List Branch) (old new : List Couple) : Type 0 where
   pub joined : Each IsJoined old → Each IsJoined new
   pub firm : (d : ℕ → ℕ → ℕ) (h : ℕ → ℕ) → IsTight d h link → IsSound d h root → IsSound d h met → Each (IsFirm d h) tree →
-    Each (IsFirmCouple d h) old → Each (IsFirmCouple d h) new
+      Each (IsFirmCouple d h) old → Each (IsFirmCouple d h) new
   pub places : (x : ℕ) → count x (couple_members new) ≡
-    count x (couple_members old) + count x met.members + count x (outer_members root.members tree) + count x (inner_members tree)
+      count x (couple_members old) + count x met.members + count x (outer_members root.members tree) + count x (inner_members tree)
   pub sums : (F : List Band → ℕ) → Adds F →
-    F (couple_bands new) ≡ F (couple_bands old) + F (bands met) + F (bands root) + F (branch_bands tree)
+      F (couple_bands new) ≡ F (couple_bands old) + F (bands met) + F (bands root) + F (branch_bands tree)
 
 -- the couple hung below an outer set by the link
 abbrev pub hung_by : Link → Couple → Branch

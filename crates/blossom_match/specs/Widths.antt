@@ -1,7 +1,6 @@
 -- The widths of the outermost sets change: outer sets grow and inner sets shrink.
 use Rattle.std.specs.Prelude.{◌≡◌, ℕ, ◌+◌, ◌-◌, ◌^◌, ◌<◌, ◌≤◌, List, [], ◌∷◌, length}
-use Rattle.blossom_match.specs.Lists.{Each}
-use Rattle.blossom_match.specs.Bands.{NestValue, with_width}
+use Rattle.blossom_match.specs.Bands.{with_width}
 use Rattle.blossom_match.specs.Searches.{size_of, IsReady, IsSearch}
 use Rattle.blossom_match.specs.Bounds.{Bounds}
 use Rattle.blossom_match.specs.TableValue.{TableValue}

@@ -27,7 +27,11 @@ pub fn grow(tree: &mut Vec<Branch>, up: Link, couple: Couple) -> Result<(), Memo
 fn hung(up: Link, couple: Couple) -> Branch
     ensures { result ≡ hung_by up couple }
 {
-    let Couple { first, second, link } = couple;
+    let Couple {
+        first,
+        second,
+        link,
+    } = couple;
     if first.holds(up.to) {
         Branch {
             up,
@@ -46,7 +50,13 @@ fn hung(up: Link, couple: Couple) -> Branch
 }
 
 /// Pairs along the way from the link to the root, so that each branch becomes a couple.
-pub fn augment(root: Nest, tree: Vec<Branch>, link: Link, met: Nest, rest: &mut Vec<Couple>) -> Result<(), Memory>
+pub fn augment(
+    root: Nest,
+    tree: Vec<Branch>,
+    link: Link,
+    met: Nest,
+    rest: &mut Vec<Couple>,
+) -> Result<(), Memory>
     requires { Augmenting met link root tree.items }
     ensures { OnOk result (Augments root met link tree.items rest.old.items rest.new.items) }
 {
@@ -54,7 +64,12 @@ pub fn augment(root: Nest, tree: Vec<Branch>, link: Link, met: Nest, rest: &mut 
     let mut hand = met;
     let mut way = link;
     while let Some(b) = left.pop() {
-        let Branch { up, inner, pair, outer } = b;
+        let Branch {
+            up,
+            inner,
+            pair,
+            outer,
+        } = b;
         if outer.holds(way.from) {
             rest.push(Couple {
                 first: outer,

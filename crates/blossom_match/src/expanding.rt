@@ -12,7 +12,13 @@ use std::alloc::Global;
 use std::collections::VecDeque;
 
 /// Takes the inner set of a branch apart: its parts become branches and couples.
-pub fn expand(alloc: Global, root: &Nest, tree: &mut Vec<Branch>, at: usize, rest: &mut Vec<Couple>) -> Result<(), Memory>
+pub fn expand(
+    alloc: Global,
+    root: &Nest,
+    tree: &mut Vec<Branch>,
+    at: usize,
+    rest: &mut Vec<Couple>,
+) -> Result<(), Memory>
     requires { Expanding root.now tree.old.items at }
     ensures { OnOk result (Expands root.now tree.old.items tree.new.items rest.old.items rest.new.items) }
 {
@@ -20,7 +26,12 @@ pub fn expand(alloc: Global, root: &Nest, tree: &mut Vec<Branch>, at: usize, res
     match tree.pop() {
         None => unreachable!(),
         Some(b) => {
-            let Branch { up, inner, pair, outer } = b;
+            let Branch {
+                up,
+                inner,
+                pair,
+                outer,
+            } = b;
             let ring = even_way(alloc, inner.into_parts(), up.to, pair.from)?;
             let mut couples = lay(alloc, root, tree, ring, up, pair, outer)?;
             rest.append(&mut couples)?;
@@ -72,7 +83,15 @@ fn mirrored(alloc: Global, ring: Vec<Part>) -> Result<Vec<Part>, Memory>
 }
 
 /// Makes branches of the parts up to that with the pair's end, and pairs the rest.
-fn lay(alloc: Global, root: &Nest, tree: &mut Vec<Branch>, ring: Vec<Part>, up: Link, pair: Link, outer: Nest) -> Result<Vec<Couple>, Memory>
+fn lay(
+    alloc: Global,
+    root: &Nest,
+    tree: &mut Vec<Branch>,
+    ring: Vec<Part>,
+    up: Link,
+    pair: Link,
+    outer: Nest,
+) -> Result<Vec<Couple>, Memory>
     requires { CanLay root.now tree.old.items ring.items up pair outer }
     ensures { IfOk result (λ cs. Lays root.now tree.old.items ring.items up pair outer tree.new.items cs.items) }
 {

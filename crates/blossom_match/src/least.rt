@@ -134,7 +134,14 @@ struct Crossing {
 }
 
 /// The lesser of a change and the least one between two outer sets.
-fn scan_outers(alloc: Global, t: &DistTable, heights: &[u32], root: &Nest, tree: &[Branch], best: Change) -> Result<Crossing, Memory>
+fn scan_outers(
+    alloc: Global,
+    t: &DistTable,
+    heights: &[u32],
+    root: &Nest,
+    tree: &[Branch],
+    best: Change,
+) -> Result<Crossing, Memory>
     requires len { length heights.now ≡ t.now.places }
     requires can { CanCross t.now heights.now root.now tree.now }
     ensures crosses { IfOk result (λ r. Crosses t.now heights.now root.now tree.now best r.best) }

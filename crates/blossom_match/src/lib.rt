@@ -17,9 +17,9 @@ mod search;
 mod shrinking;
 mod table;
 mod taking;
-mod widening;
 #[cfg(test)]
 mod tests;
+mod widening;
 
 pub use matching::{Matching, Moat, Moats, Pair, Pairs, match_all};
 pub use table::{DistTable, MAX_DISTANCE, MAX_PLACES};

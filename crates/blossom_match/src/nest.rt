@@ -45,7 +45,6 @@ impl Model for Nest {
     ghost size = { λ v. length v.below };
 
     ghost use Rattle.blossom_match.specs.Sizes.{most_le_bands};
-
     ghost use Rattle.std.proofs.Common.{arith};
 
     ghost size_decreases = { λ a h. Prim.omega (arith, most_le_bands a.parts.items) };
@@ -134,7 +133,11 @@ impl Nest {
     pub fn with_width(self, width: u32) -> Nest
         ensures { result ≡ with_width width self }
     {
-        let Nest { members, width: _, parts } = self;
+        let Nest {
+            members,
+            width: _,
+            parts,
+        } = self;
         Nest {
             members,
             width,
@@ -147,7 +150,11 @@ impl Nest {
         ensures made { self ≡ nest_of result.0.items self.width result.1.items }
         ensures kept { IsMade result.0.items result.1.items }
     {
-        let Nest { members, width: _, parts } = self;
+        let Nest {
+            members,
+            width: _,
+            parts,
+        } = self;
         (members, parts)
     }
 
@@ -157,7 +164,11 @@ impl Nest {
         ensures ring { IsRing result.items }
         ensures made { self ≡ nest_of (members_in result.items) self.width result.items }
     {
-        let Nest { members: _, width: _, parts } = self;
+        let Nest {
+            members: _,
+            width: _,
+            parts,
+        } = self;
         parts
     }
 }

@@ -19,7 +19,10 @@ pub fn couple_all(alloc: Global, t: &DistTable) -> Result<Vec<Couple>, Memory>
     let mut free = all_places(alloc, t.places())?;
     let mut couples = Vec::new(alloc);
     while let Some(place) = free.pop() {
-        let Standing { couples: more, free: left } = pair_up(alloc, t, place, couples, free)?;
+        let Standing {
+            couples: more,
+            free: left,
+        } = pair_up(alloc, t, place, couples, free)?;
         couples = more;
         free = left;
     }

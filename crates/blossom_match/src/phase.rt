@@ -21,7 +21,13 @@ enum Stepped {
 }
 
 /// Searches from a free place until it is paired.
-pub fn pair_up(alloc: Global, t: &DistTable, place: u32, couples: Vec<Couple>, free: Vec<u32>) -> Result<Standing, Memory>
+pub fn pair_up(
+    alloc: Global,
+    t: &DistTable,
+    place: u32,
+    couples: Vec<Couple>,
+    free: Vec<u32>,
+) -> Result<Standing, Memory>
     requires metric { IsMetric t.now }
     requires stands { Stands t.now couples.items (free.items ++ place ∷ []) }
     requires some { 1 ≤ length free.items }

@@ -43,7 +43,12 @@ pub fn grow_to(s: Search, link: Link) -> Result<Search, Memory>
     requires { CanStep s (step.Grow link) }
     ensures { IfOk result (λ r. Advances s (step.Grow link) r) }
 {
-    let Search { root, tree, rest, free } = s;
+    let Search {
+        root,
+        tree,
+        rest,
+        free,
+    } = s;
     let mut left = rest;
     let couple = take_couple(&mut left, link.to);
     let mut grown = tree;
@@ -61,7 +66,12 @@ pub fn shrink_by(alloc: Global, s: Search, link: Link) -> Result<Search, Memory>
     requires { CanStep s (step.Shrink link) }
     ensures { IfOk result (λ r. Advances s (step.Shrink link) r) }
 {
-    let Search { root, tree, rest, free } = s;
+    let Search {
+        root,
+        tree,
+        rest,
+        free,
+    } = s;
     let mut shrunk = tree;
     let top = shrink(alloc, root, &mut shrunk, link)?;
     Ok(Search {
@@ -77,7 +87,12 @@ pub fn expand_at(alloc: Global, s: Search, at: usize) -> Result<Search, Memory>
     requires { CanStep s (step.Expand at) }
     ensures { IfOk result (λ r. Advances s (step.Expand at) r) }
 {
-    let Search { root, tree, rest, free } = s;
+    let Search {
+        root,
+        tree,
+        rest,
+        free,
+    } = s;
     let mut grown = tree;
     let mut more = rest;
     expand(alloc, &root, &mut grown, at, &mut more)?;
@@ -94,7 +109,12 @@ pub fn meet(alloc: Global, s: Search, link: Link) -> Result<Standing, Memory>
     requires { CanStep s (step.Meet link) }
     ensures { IfOk result (λ r. Ends s (step.Meet link) r) }
 {
-    let Search { root, tree, rest, free } = s;
+    let Search {
+        root,
+        tree,
+        rest,
+        free,
+    } = s;
     let mut left = free;
     take_place(&mut left, link.to);
     let met = single(alloc, link.to)?;

@@ -22,7 +22,12 @@ pub fn shrink(alloc: Global, root: Nest, tree: &mut Vec<Branch>, link: Link) -> 
     while let Some(b) = tree.pop() {
         let at_left = b.outer.holds(way.from);
         let at_right = b.outer.holds(to);
-        let Branch { up, inner, pair, outer } = b;
+        let Branch {
+            up,
+            inner,
+            pair,
+            outer,
+        } = b;
         inner.know();
         outer.know();
         if at_left {
@@ -71,7 +76,13 @@ pub fn shrink(alloc: Global, root: Nest, tree: &mut Vec<Branch>, link: Link) -> 
 }
 
 /// The set that both arms lead to, and the chain of the others.
-fn close(alloc: Global, top: Nest, way: Link, chain: VecDeque<Part>, to: u32) -> Result<Nest, Memory>
+fn close(
+    alloc: Global,
+    top: Nest,
+    way: Link,
+    chain: VecDeque<Part>,
+    to: u32,
+) -> Result<Nest, Memory>
     requires { Closable top way chain.items to }
     ensures { IfOk result (λ s. s ≡ nest_of (members_in (record { nest = top; next = way } ∷ chain.items)) 0 (record { nest = top; next = way } ∷ chain.items)) }
 {

@@ -13,12 +13,23 @@ use std::alloc::Global;
 
 /// Adds the pairs inside a set whose member `left` is paired outside, and its moats.
 #[cycle(taking)]
-pub fn take_nest(alloc: Global, s: Nest, left: u32, pairs: &mut Pairs, moats: &mut Moats) -> Result<(), Memory>
+pub fn take_nest(
+    alloc: Global,
+    s: Nest,
+    left: u32,
+    pairs: &mut Pairs,
+    moats: &mut Moats,
+) -> Result<(), Memory>
     requires there { count left s.members ≡ 1 }
     requires once { (x : ℕ) → count x s.members ≤ 1 }
     ensures { OnOk result (TakesNest left s pairs.old pairs.new moats.old moats.new) }
 {
-    let Opened { members, width, core, couples } = open_at(alloc, s, left)?;
+    let Opened {
+        members,
+        width,
+        core,
+        couples,
+    } = open_at(alloc, s, left)?;
     add_moat(members, width, moats)?;
     match core {
         None => {
@@ -35,7 +46,12 @@ pub fn take_nest(alloc: Global, s: Nest, left: u32, pairs: &mut Pairs, moats: &m
 
 /// Adds the pairs of the couples and those inside them, and their moats.
 #[cycle(taking)]
-pub fn take_couples(alloc: Global, couples: Vec<Couple>, pairs: &mut Pairs, moats: &mut Moats) -> Result<(), Memory>
+pub fn take_couples(
+    alloc: Global,
+    couples: Vec<Couple>,
+    pairs: &mut Pairs,
+    moats: &mut Moats,
+) -> Result<(), Memory>
     requires joined { Each IsJoined couples.items }
     requires once { (x : ℕ) → count x (couple_members couples.items) ≤ 1 }
     ensures { OnOk result (TakesCouples couples.items pairs.old pairs.new moats.old moats.new) }

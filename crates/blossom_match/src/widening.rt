@@ -22,7 +22,12 @@ fn change_widths(alloc: Global, s: Search, by: u32) -> Result<Search, Memory>
     requires tree { Each (CanChange by) s.tree.items }
     ensures { IfOk result (λ r. Changes by s r) }
 {
-    let Search { root, tree, rest, free } = s;
+    let Search {
+        root,
+        tree,
+        rest,
+        free,
+    } = s;
     let width = root.width() + by;
     let changed = change_branches(alloc, tree, by)?;
     Ok(Search {
@@ -49,7 +54,12 @@ fn change_branch(b: Branch, by: u32) -> Branch
     requires { CanChange by b }
     ensures { result ≡ changed_by by b }
 {
-    let Branch { up, inner, pair, outer } = b;
+    let Branch {
+        up,
+        inner,
+        pair,
+        outer,
+    } = b;
     let narrow = inner.width() - by;
     let wide = outer.width() + by;
     Branch {

@@ -26,4 +26,4 @@ pub returns : goal.returns
 returns c =
     let s = split_at c.args.root.now c.args.tree.now.items _ _ c.in-Some.b _ c.args.at c.requires c.in_ok-later.ensures.items c.in_ok-later.ensures.tail c.in-Some.ensures.items in
     expanded c.args.root.now c.args.tree.now.items _ c.in-Some.b _ _ _ c.into_parts.result.items _ c.args.rest.now.items _ _ s c.into_parts.ensures.ring c.into_parts.ensures.made c.in_ok-ring-in-Some.ensures
-        c.in_ok-couples-in-Some.ensures c.in_ok-append-in-Some.ensures.items c.in_ok-append-in-Some-2.ensures.items
+    c.in_ok-couples-in-Some.ensures c.in_ok-append-in-Some.ensures.items c.in_ok-append-in-Some-2.ensures.items

@@ -10,6 +10,11 @@ add_heights-requires-clause-within c = λ x here. c.requires.within x (omega (ar
 
 pub add_branches-requires-clause-within : goal.add_branches-requires-clause-within
 add_branches-requires-clause-within c = λ x here.
-    let low = c.requires.within x (omega (arith, here, outer-append x c.args.s.now.root.members [] c.args.s.now.tree.items,
-        ap (λ (ks : List Branch). count x (outer_members [] ks)) c.deref.ensures.value, ap (λ (ks : List Branch). count x (inner_members ks)) c.deref.ensures.value)) in
+    let low = c.requires.within x (omega (
+      arith,
+      here,
+      outer-append x c.args.s.now.root.members [] c.args.s.now.tree.items,
+      ap (λ (ks : List Branch). count x (outer_members [] ks)) c.deref.ensures.value,
+      ap (λ (ks : List Branch). count x (inner_members ks)) c.deref.ensures.value,
+    )) in
     omega (arith, low, c.add_heights.auto.heights)

@@ -1,4 +1,4 @@
-use Rattle.std.proofs.Common.{arith, get_or}
+use Rattle.std.proofs.Common.{arith}
 use Rattle.blossom_match.proofs.RaisedLemmas.{couple_height, couple_places}
 use Rattle.blossom_match.proofs.heights.add_couples.Goals as goal
 
@@ -21,7 +21,8 @@ add_heights-requires-in-loop-c-clause-fits c = λ x.
 
 pub loop-c-preserved : goal.loop-c-preserved
 loop-c-preserved c = record {
-    sum = λ x. omega (arith, couple_height x c.args.couples.now c.loop-c.c-index c.c-item.result c.loop-c-test.true c.c-item.is, c.loop-c.invariant.sum x, c.add_heights.ensures x, c.add_heights-in-loop-c.ensures x);
-    within = λ x here.
-        let low = c.loop-c.invariant.within x (omega (arith, here, couple_places x c.args.couples.now c.loop-c.c-index c.c-item.result c.loop-c-test.true c.c-item.is)) in
-        omega (arith, low, c.add_heights.auto.heights, c.add_heights-in-loop-c.auto.heights) }
+  sum = λ x. omega (arith, couple_height x c.args.couples.now c.loop-c.c-index c.c-item.result c.loop-c-test.true c.c-item.is, c.loop-c.invariant.sum x, c.add_heights.ensures x, c.add_heights-in-loop-c.ensures x);
+  within = λ x here.
+      let low = c.loop-c.invariant.within x (omega (arith, here, couple_places x c.args.couples.now c.loop-c.c-index c.c-item.result c.loop-c-test.true c.c-item.is)) in
+      omega (arith, low, c.add_heights.auto.heights, c.add_heights-in-loop-c.auto.heights);
+}

@@ -16,4 +16,4 @@ pub loop-m-preserved : goal.loop-m-preserved
 loop-m-preserved c = λ x.
     let h = c.requires.within (get_or c.args.members.now c.loop-m.m-index 0) (count_at c.args.members.now c.loop-m.m-index c.loop-m-test.true) in
     raised x c.loop-m.m-index (get_or c.args.members.now c.loop-m.m-index 0) c.args.width c.args.members.now c.loop-m.heights _ c.loop-m-test.true refl
-        (omega (arith, h, c.loop-m.auto.heights)) (c.loop-m.invariant x)
+    (omega (arith, h, c.loop-m.auto.heights)) (c.loop-m.invariant x)

@@ -1,6 +1,6 @@
-use Rattle.std.proofs.Common.{arith, get_or}
+use Rattle.std.proofs.Common.{get_or}
 use Rattle.blossom_match.proofs.RaisedLemmas.{count_at}
-use Rattle.blossom_match.proofs.ScanLemmas.{rows_more, rows_done, scans_no_xs}
+use Rattle.blossom_match.proofs.ScanLemmas.{rows_more, scans_no_xs}
 use Rattle.blossom_match.proofs.least.scan.Goals as goal
 
 pub loop-a-init : goal.loop-a-init

@@ -1,4 +1,4 @@
-use Rattle.blossom_match.proofs.ScanLemmas.{narrowing_more, narrowing_start, narrowing_done}
+use Rattle.blossom_match.proofs.ScanLemmas.{narrowing_more, narrowing_start}
 use Rattle.blossom_match.proofs.least.scan_rings.Goals as goal
 
 pub loop-i-init : goal.loop-i-init

@@ -1,6 +1,6 @@
-use Rattle.std.proofs.Common.{arith, get_or}
+use Rattle.std.proofs.Common.{get_or}
 use Rattle.blossom_match.proofs.RaisedLemmas.{count_at}
-use Rattle.blossom_match.proofs.ScanLemmas.{row_more, row_done, scans_no_ys}
+use Rattle.blossom_match.proofs.ScanLemmas.{row_more, scans_no_ys}
 use Rattle.blossom_match.proofs.least.scan_row.Goals as goal
 
 pub loop-b-init : goal.loop-b-init

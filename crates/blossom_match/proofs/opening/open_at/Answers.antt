@@ -13,4 +13,4 @@ pub returns : goal.returns
 returns c =
     let made = c.into_shell-members.ensures.made ∙ ap (λ (w : ℕ). nest_of c.into_shell-members.result.0.items w c.into_shell-members.result.1.items) (sym c.width-width.ensures) in
     opens_ring c.args.left _ c.args.s _ _ c.turned_to.result.items c.in-Some.p _ _ made c.into_shell-members.ensures.kept c.requires.there c.turned_to.ensures.turned c.turned_to.ensures.first
-        (sym c.into_iter-rest.ensures.rest ∙ c.in-Some.ensures.items) c.in_ok-couples-in-Some.ensures
+    (sym c.into_iter-rest.ensures.rest ∙ c.in-Some.ensures.items) c.in_ok-couples-in-Some.ensures

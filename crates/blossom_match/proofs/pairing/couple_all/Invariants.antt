@@ -1,5 +1,4 @@
 use Rattle.std.proofs.Common.{◌≡◌, ◌%◌, length}
-use Rattle.blossom_match.specs.Tables.{IsTable}
 use Rattle.blossom_match.specs.Phases.{Stands}
 use Rattle.blossom_match.proofs.pairing.couple_all.Given as goal
 

@@ -1,5 +1,3 @@
-use Rattle.std.proofs.Common.{List, sym, subst, ◌∷◌, ◌≡◌}
-use Rattle.blossom_match.specs.Rings.{IsRing}
 use Rattle.blossom_match.proofs.ShrinkLemmas.{ring_from}
 use Rattle.blossom_match.proofs.shrinking.close.Goals as goal
 

@@ -19,7 +19,7 @@ take_couples-take_nest-requires-in-Some t c =
 pub take_couples-loop-c-preserved : goal.take_couples-loop-c-preserved
 take_couples-loop-c-preserved t c =
     taking_more c.args.couples.items (into_iter_items c.loop-c.rest) _ _ _ _ _ _ _ _ _ c.in-Some.c _ c.loop-c.invariant c.in-Some.ensures.items
-        c.in_ok-take_nest.ensures c.in_ok-take_nest-2.ensures c.in_ok-add_pair.ensures
+    c.in_ok-take_nest.ensures c.in_ok-take_nest-2.ensures c.in_ok-add_pair.ensures
 
 pub take_couples-returns : goal.take_couples-returns
 take_couples-returns t c =
