@@ -7,6 +7,7 @@ use Rattle.blossom_match.specs.Couples.{couple_members, couple_bands}
 use Rattle.blossom_match.specs.Sound.{IsFirm, IsFirmCouple}
 use Rattle.blossom_match.specs.Trees.{around, both, branch_bands, inner_members, outer_members}
 use Rattle.blossom_match.specs.Searches.{holding_both, is_place, outers, IsSearch}
+use Rattle.blossom_match.specs.Heights.{HeightsAre}
 use Rattle.blossom_match.specs.TableValue.{TableValue}
 use Rattle.blossom_match.specs.Tables.{entry, IsTable}
 use Rattle.blossom_match.specs.Bounds.{Bounds, CanCross, CanOffer, CanSearch, Crossed, Crosses, FitHeights, Found, IsDue, Narrows, RingIsDue, Scans}
@@ -131,10 +132,6 @@ outer_room t h s a b i ha hb apart =
 either_room : (P : Type 0) (n m : ℕ) → (1 ≤ n → P) → (1 ≤ m → P) → 1 ≤ n + m → P
 either_room P zero m p q some = q (omega arith)
 either_room P (suc n) m p q some = p (omega arith)
-
--- what the array of heights has
-abbrev pub HeightsAre : List ℕ → (ℕ → ℕ) → Type 0
-HeightsAre hs h = (x : ℕ) → get_or hs x 0 ≡ h x
 
 pub offer_free : (t : TableValue) (h : ℕ → ℕ) (s : Search) (hs : List ℕ) → IsSearch t h s → HeightsAre hs h → (a b : ℕ) → 1 ≤ count a (outers s) → 1 ≤ count b s.free.items → CanOffer t hs kind.Meet a b
 offer_free t h s hs i at a b ha hb = record {

@@ -20,3 +20,4 @@ pub mod ScanLemmas
 pub mod BoundLemmas
 pub mod WidthLemmas
 pub mod EndLemmas
+pub mod WideningLemmas

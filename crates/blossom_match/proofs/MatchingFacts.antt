@@ -1,7 +1,7 @@
 -- Worked values of matchings with moats.
 use Rattle.std.proofs.Common.{◌≡◌, ℕ, true, false, List, [], ◌∷◌, refl}
 use Rattle.blossom_match.specs.TableValue.{TableValue}
-use Rattle.blossom_match.specs.Tables.{after_set, empty_table, entry}
+use Rattle.blossom_match.specs.Tables.{after_set, entry}
 use Rattle.blossom_match.specs.Matchings.{cost_of, crosses, ends_at, holds, load_on, width_of}
 use Rattle.blossom_match.specs.declared.matching.Moat.{Moat}
 use Rattle.blossom_match.specs.declared.matching.Pair.{Pair}
@@ -64,5 +64,9 @@ known_set = refl
 pub known_unset : after_set star 1 2 7 2 3 ≡ 1
 known_unset = refl
 
-pub known_entry : entry (empty_table 3) 2 1 ≡ 0
+-- the distance of two places does not depend on which is named first
+pub known_entry : entry star 2 1 ≡ 1
 known_entry = refl
+
+pub known_straight : entry star 2 2 ≡ 0
+known_straight = refl

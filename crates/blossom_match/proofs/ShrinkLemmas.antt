@@ -6,7 +6,7 @@ use Rattle.blossom_match.specs.Bands.{Adds, Band, NestValue, Kept, bands, count}
 use Rattle.blossom_match.specs.Rings.{back_of, members_in, bands_in, nest_of, IsRing}
 use Rattle.blossom_match.specs.Sound.{IsFirm, IsFirmPart, IsSound, IsSymmetric, IsTight}
 use Rattle.blossom_match.specs.Trees.{around, both, branch_bands, inner_bands, outer_members, inner_members, IsGrown}
-use Rattle.blossom_match.specs.Shrinks.{Closable, Shrinking, Shrinks, Chaining}
+use Rattle.blossom_match.specs.Shrinks.{ring_value, Closable, Shrinking, Shrinks, Chaining}
 use Rattle.blossom_match.specs.declared.nest.Link.{Link}
 use Rattle.blossom_match.specs.declared.nest.Part.{Part}
 use Rattle.blossom_match.specs.declared.branches.Branch.{Branch}
@@ -192,9 +192,6 @@ closable_root link root tree (b ∷ bs) chain aside way to c none = absurd (omeg
 
 abbrev with_outer : Branch → NestValue → Branch
 with_outer b s = record { up = b.up; inner = b.inner; pair = b.pair; outer = s }
-
-abbrev ring_value : NestValue → Link → List Part → NestValue
-ring_value top way chain = nest_of (members_in (part_of top way ∷ chain)) 0 (part_of top way ∷ chain)
 
 ring_sums : (F : List Band → ℕ) → Adds F → (top : NestValue) (way : Link) (chain : List Part) (ring : NestValue) → ring ≡ ring_value top way chain →
     F (bands ring) ≡ F (bands top) + F (bands_in chain) + F (record { members = members_in (part_of top way ∷ chain); width = 0 } ∷ [])

@@ -20,9 +20,13 @@ use Rattle.blossom_match.specs.declared.least.Kind.TheVariants as kind
 abbrev pub height_of : Search → ℕ → ℕ
 height_of s x = height x (bands s.root) + height x (branch_bands s.tree.items) + height x (couple_bands s.rest.items)
 
+-- how many outermost sets of the search hold the place
+abbrev pub times_of : Search → ℕ → ℕ
+times_of s x = count x (outers s) + count x (inner_members s.tree.items) + count x (couple_members s.rest.items)
+
 -- all places of sets are below n, and all heights are small
 pub record FitHeights (n : ℕ) (s : Search) : Type 0 where
-  pub within : (x : ℕ) → 1 ≤ count x (outers s) + count x (inner_members s.tree.items) + count x (couple_members s.rest.items) → x < n
+  pub within : (x : ℕ) → 1 ≤ times_of s x → x < n
   pub fits : (x : ℕ) → height_of s x < 2 ^ 32
 
 -- by how much the slack of a link of the kind falls when the widths change by one
@@ -47,6 +51,10 @@ pub record CanOffer (t : TableValue) (hs : List ℕ) (k : Kind) (a b : ℕ) : Ty
   pub b_in : b < t.places
   pub room : HasRoom t hs k 0 a b
   pub whole : (slice_index hs a + slice_index hs b) % rounds k ≡ 0
+
+-- and each two of the places are such a pair
+abbrev pub CanOfferAll : TableValue → List ℕ → Kind → List ℕ → List ℕ → Type 0
+CanOfferAll t hs k xs ys = (a b : ℕ) → 1 ≤ count a xs → 1 ≤ count b ys → CanOffer t hs k a b
 
 -- the change uses up the room between two of the places
 pub record Found (t : TableValue) (hs : List ℕ) (k : Kind) (xs ys : List ℕ) (c : Change) : Type 0 where
@@ -83,6 +91,10 @@ pub record Crosses (t : TableValue) (hs : List ℕ) (root : NestValue) (tree : L
   pub wide : (a b : ℕ) → 1 ≤ count a (outer_members root.members tree) → 1 ≤ count b (outer_members root.members tree) → holding a b root tree ≡ 0 →
       HasRoom t hs kind.Shrink new.by a b
   pub is : (new ≡ old) ⊎ Crossed t hs root tree new
+
+-- the list has the places of all outer sets
+abbrev pub HasOuters : NestValue → List Branch → List ℕ → Type 0
+HasOuters root tree xs = (x : ℕ) → count x xs ≡ count x (outer_members root.members tree)
 
 -- between each two outer sets there is room, in whole changes
 pub record CanCross (t : TableValue) (hs : List ℕ) (root : NestValue) (tree : List Branch) : Type 0 where

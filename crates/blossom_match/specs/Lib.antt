@@ -18,3 +18,4 @@ pub mod Searches
 pub mod Bounds
 pub mod Widths
 pub mod Phases
+pub mod Heights

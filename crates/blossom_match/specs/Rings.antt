@@ -82,6 +82,10 @@ pub record PartsAre (s : NestValue) (parts : List Part) : Type 0 where
   pub below : s.below ≡ bands_in parts
   pub members : (x : ℕ) → count x (members_in parts) ≤ count x s.members
 
+-- the ring of the parts, without a width
+abbrev pub ring_of : List Part → NestValue
+ring_of parts = nest_of (members_in parts) 0 parts
+
 -- what the fields mean
 abbrev pub nest_value : Inside → NestValue
 nest_value s = nest_of s.members.items s.width s.parts.items

@@ -2,7 +2,7 @@
 use Rattle.std.specs.Prelude.{◌≡◌, ℕ, ◌+◌, ◌*◌, ◌%◌, ◌<◌, ◌≤◌, List, [], ◌∷◌, ◌++◌, length, reverse}
 use Rattle.blossom_match.specs.Lists.{Each}
 use Rattle.blossom_match.specs.Bands.{Adds, Band, NestValue, Kept, bands, count}
-use Rattle.blossom_match.specs.Rings.{members_in, bands_in, AllKept}
+use Rattle.blossom_match.specs.Rings.{members_in, bands_in, ring_of, AllKept}
 use Rattle.blossom_match.specs.Sound.{IsFirm, IsFirmPart, IsSound, IsSymmetric, IsTight}
 use Rattle.blossom_match.specs.Trees.{around, both, branch_bands, inner_bands, outer_members, inner_members, IsGrown}
 use Rattle.blossom_match.specs.declared.nest.Link.{Link}
@@ -13,6 +13,10 @@ use Rattle.blossom_match.specs.declared.branches.Branch.{Branch}
 abbrev pub Leads : Link → List Part → ℕ → Type 0
 Leads way [] to = way.to ≡ to
 Leads way (p ∷ ps) to = (count way.to p.nest.members ≡ 1) × (count p.next.from p.nest.members ≡ 1) × Leads p.next ps to
+
+-- the set that the set at the top and the chain make
+abbrev pub ring_value : NestValue → Link → List Part → NestValue
+ring_value top way chain = ring_of (record { nest = top; next = way } ∷ chain)
 
 -- a chain that begins and ends at the set at the top
 pub record Closable (top : NestValue) (way : Link) (chain : List Part) (to : ℕ) : Type 0 where

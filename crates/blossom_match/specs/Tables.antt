@@ -1,15 +1,11 @@
 -- Tables of distances, in whole steps. Places are numbered from 0.
-use Rattle.std.specs.Prelude.{◌≡◌, ◌==◌, ◌&&◌, ◌||◌, ℕ, ◌+◌, ◌*◌, ◌<◌, ◌≤◌, length, max, min, slice_index, replicate, if◌then◌else◌}
+use Rattle.std.specs.Prelude.{◌≡◌, ◌==◌, ◌&&◌, ◌||◌, ℕ, ◌+◌, ◌*◌, ◌<◌, ◌≤◌, length, max, min, slice_index, if◌then◌else◌}
 use Rattle.blossom_match.specs.TableValue.{TableValue}
 use Rattle.blossom_match.specs.declared.table.TheConstants.{MAX_DISTANCE, MAX_PLACES}
 
 -- the distance of two places, whichever is named first
 abbrev pub entry : TableValue → ℕ → ℕ → ℕ
 entry t a b = slice_index t.cells (min a b * t.places + max a b)
-
--- n places, and all distances 0
-abbrev pub empty_table : ℕ → TableValue
-empty_table n = record { places = n; cells = replicate (n * n) 0 }
 
 -- the entry of x and y once that of a and b is d, both ways
 abbrev pub after_set : TableValue → ℕ → ℕ → ℕ → ℕ → ℕ → ℕ
@@ -21,9 +17,17 @@ pub record IsTable (t : TableValue) : Type 0 where
   pub filled : length t.cells ≡ t.places * t.places
   pub short : (a b : ℕ) → a < t.places → b < t.places → entry t a b ≤ MAX_DISTANCE
 
+-- the table's entries are those of d
+abbrev pub EntriesAre : TableValue → (ℕ → ℕ → ℕ) → Type 0
+EntriesAre t d = (a b : ℕ) → a < t.places → b < t.places → entry t a b ≡ d a b
+
+-- from a by b is no shorter way than the straight one
+abbrev pub IsNoShorterBy : TableValue → ℕ → ℕ → Type 0
+IsNoShorterBy t a b = (c : ℕ) → c < t.places → entry t a c ≤ entry t a b + entry t b c
+
 -- no way round by a third place is shorter
 abbrev pub KeepsTriangles : TableValue → Type 0
-KeepsTriangles t = (a b c : ℕ) → a < t.places → b < t.places → c < t.places → entry t a c ≤ entry t a b + entry t b c
+KeepsTriangles t = (a b : ℕ) → a < t.places → b < t.places → IsNoShorterBy t a b
 
 -- a table without shorter ways round
 pub record IsMetric (t : TableValue) : Type 0 where

@@ -1,10 +1,10 @@
-ghost use Rattle.std.specs.Prelude.{◌≡◌, ℕ, ◌+◌, ◌*◌, ◌^◌, ◌<◌, ◌≤◌, [], length, slice_index, IfOk};
+ghost use Rattle.std.specs.Prelude.{◌≡◌, ◌*◌, length, IfOk};
 ghost use Rattle.blossom_match.specs.Bands.{bands, count, height};
 ghost use Rattle.blossom_match.specs.Rings.{bands_in, members_in};
 ghost use Rattle.blossom_match.specs.Couples.{couple_bands, couple_members};
-ghost use Rattle.blossom_match.specs.Trees.{branch_bands, inner_members, outer_members};
-ghost use Rattle.blossom_match.specs.Searches.{outers};
-ghost use Rattle.blossom_match.specs.Bounds.{height_of, FitHeights};
+ghost use Rattle.blossom_match.specs.Trees.{branch_bands};
+ghost use Rattle.blossom_match.specs.Heights.{times_in, CanRise, HasCells, HeightsAre, Rises};
+ghost use Rattle.blossom_match.specs.Bounds.{height_of, times_of, FitHeights};
 
 use crate::branches::Branch;
 use crate::couples::Couple;
@@ -16,7 +16,7 @@ use std::alloc::Global;
 /// The height of each place: the widths of the sets that hold it.
 pub fn heights_of(alloc: Global, n: u32, s: &Search) -> Result<Vec<u32>, Memory>
     requires { FitHeights n s.now }
-    ensures value { IfOk result (λ hs. (x : ℕ) → slice_index hs.items x ≡ height_of s.now x) }
+    ensures value { IfOk result (λ hs. HeightsAre hs.items (height_of s.now)) }
     ensures len { IfOk result (λ hs. length hs.items ≡ n) }
 {
     let mut heights = vec![in alloc; 0; n as usize]?;
@@ -25,9 +25,9 @@ pub fn heights_of(alloc: Global, n: u32, s: &Search) -> Result<Vec<u32>, Memory>
 }
 
 fn add_all(s: &Search, heights: &mut [u32])
-    requires within { (x : ℕ) → 1 ≤ count x (outers s.now) + count x (inner_members s.now.tree.items) + count x (couple_members s.now.rest.items) → x < length heights.old }
-    requires fits { (x : ℕ) → slice_index heights.old x + height_of s.now x < 2 ^ 32 }
-    ensures { (x : ℕ) → slice_index heights.new x ≡ slice_index heights.old x + height_of s.now x }
+    requires within { HasCells (times_of s.now) heights.old }
+    requires fits { CanRise (height_of s.now) heights.old }
+    ensures { Rises (height_of s.now) heights.old heights.new }
 {
     add_heights(&s.root, heights);
     add_branches(&s.tree, heights);
@@ -35,9 +35,9 @@ fn add_all(s: &Search, heights: &mut [u32])
 }
 
 fn add_branches(tree: &[Branch], heights: &mut [u32])
-    requires within { (x : ℕ) → 1 ≤ count x (outer_members [] tree.now) + count x (inner_members tree.now) → x < length heights.old }
-    requires fits { (x : ℕ) → slice_index heights.old x + height x (branch_bands tree.now) < 2 ^ 32 }
-    ensures { (x : ℕ) → slice_index heights.new x ≡ slice_index heights.old x + height x (branch_bands tree.now) }
+    requires within { HasCells (times_in tree.now) heights.old }
+    requires fits { CanRise (λ x. height x (branch_bands tree.now)) heights.old }
+    ensures { Rises (λ x. height x (branch_bands tree.now)) heights.old heights.new }
 {
     for b in tree {
         add_heights(&b.inner, heights);
@@ -46,9 +46,9 @@ fn add_branches(tree: &[Branch], heights: &mut [u32])
 }
 
 fn add_couples(couples: &[Couple], heights: &mut [u32])
-    requires within { (x : ℕ) → 1 ≤ count x (couple_members couples.now) → x < length heights.old }
-    requires fits { (x : ℕ) → slice_index heights.old x + height x (couple_bands couples.now) < 2 ^ 32 }
-    ensures { (x : ℕ) → slice_index heights.new x ≡ slice_index heights.old x + height x (couple_bands couples.now) }
+    requires within { HasCells (λ x. count x (couple_members couples.now)) heights.old }
+    requires fits { CanRise (λ x. height x (couple_bands couples.now)) heights.old }
+    ensures { Rises (λ x. height x (couple_bands couples.now)) heights.old heights.new }
 {
     for c in couples {
         add_heights(&c.first, heights);
@@ -57,9 +57,9 @@ fn add_couples(couples: &[Couple], heights: &mut [u32])
 }
 
 fn add_width(members: &[u32], width: u32, heights: &mut [u32])
-    requires within { (x : ℕ) → 1 ≤ count x members.now → x < length heights.old }
-    requires fits { (x : ℕ) → slice_index heights.old x + width * count x members.now < 2 ^ 32 }
-    ensures { (x : ℕ) → slice_index heights.new x ≡ slice_index heights.old x + width * count x members.now }
+    requires within { HasCells (λ x. count x members.now) heights.old }
+    requires fits { CanRise (λ x. width * count x members.now) heights.old }
+    ensures { Rises (λ x. width * count x members.now) heights.old heights.new }
 {
     for m in members {
         heights[*m as usize] += width;
@@ -69,9 +69,9 @@ fn add_width(members: &[u32], width: u32, heights: &mut [u32])
 /// Adds the widths of the set and of all sets inside it.
 #[cycle(raising)]
 fn add_heights(s: &Nest, heights: &mut [u32])
-    requires within { (x : ℕ) → 1 ≤ count x s.now.members → x < length heights.old }
-    requires fits { (x : ℕ) → slice_index heights.old x + height x (bands s.now) < 2 ^ 32 }
-    ensures { (x : ℕ) → slice_index heights.new x ≡ slice_index heights.old x + height x (bands s.now) }
+    requires within { HasCells (λ x. count x s.now.members) heights.old }
+    requires fits { CanRise (λ x. height x (bands s.now)) heights.old }
+    ensures { Rises (λ x. height x (bands s.now)) heights.old heights.new }
 {
     add_width(s.members(), s.width(), heights);
     add_parts(s.parts(), heights);
@@ -79,9 +79,9 @@ fn add_heights(s: &Nest, heights: &mut [u32])
 
 #[cycle(raising)]
 fn add_parts(parts: &[Part], heights: &mut [u32])
-    requires within { (x : ℕ) → 1 ≤ count x (members_in parts.now) → x < length heights.old }
-    requires fits { (x : ℕ) → slice_index heights.old x + height x (bands_in parts.now) < 2 ^ 32 }
-    ensures { (x : ℕ) → slice_index heights.new x ≡ slice_index heights.old x + height x (bands_in parts.now) }
+    requires within { HasCells (λ x. count x (members_in parts.now)) heights.old }
+    requires fits { CanRise (λ x. height x (bands_in parts.now)) heights.old }
+    ensures { Rises (λ x. height x (bands_in parts.now)) heights.old heights.new }
 {
     for p in parts {
         add_heights(&p.nest, heights);

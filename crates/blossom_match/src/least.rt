@@ -2,8 +2,8 @@ ghost use Rattle.std.specs.Prelude.{◌≡◌, ◌≤◌, ◌+◌, ◌*◌, ◌<
 ghost use Rattle.blossom_match.specs.Bands.{count};
 ghost use Rattle.blossom_match.specs.Couples.{couple_members};
 ghost use Rattle.blossom_match.specs.Tables.{entry};
-ghost use Rattle.blossom_match.specs.Trees.{outer_members};
-ghost use Rattle.blossom_match.specs.Bounds.{height_of, Bounds, CanCross, CanOffer, CanSearch, Crosses, Found, Narrows, NarrowsAt, Scans};
+ghost use Rattle.blossom_match.specs.Heights.{HeightsAre};
+ghost use Rattle.blossom_match.specs.Bounds.{height_of, Bounds, CanCross, CanOffer, CanOfferAll, CanSearch, Crosses, Found, HasOuters, Narrows, NarrowsAt, Scans};
 ghost use Rattle.blossom_match.specs.Searches.{IsSearch};
 ghost use Rattle.blossom_match.specs.declared.least.Kind.TheVariants as kind;
 
@@ -43,7 +43,7 @@ pub fn least(alloc: Global, t: &DistTable, s: &Search) -> Result<Change, Memory>
 fn least_at(alloc: Global, t: &DistTable, heights: &[u32], s: &Search) -> Result<Change, Memory>
     requires can { CanSearch t.now s.now }
     requires len { length heights.now ≡ t.now.places }
-    requires value { (x : ℕ) → slice_index heights.now x ≡ height_of s.now x }
+    requires value { HeightsAre heights.now (height_of s.now) }
     ensures { IfOk result (λ c. (h : ℕ → ℕ) → IsSearch t.now h s.now → Bounds t.now h s.now c) }
 {
     let first = first_change(t, heights, s.root.members(), &s.free);
@@ -68,7 +68,7 @@ fn first_change(t: &DistTable, heights: &[u32], outer: &[u32], free: &[u32]) -> 
     requires len { length heights.now ≡ t.now.places }
     requires some_outer { 1 ≤ length outer.now }
     requires some_free { 1 ≤ length free.now }
-    requires can { (a b : ℕ) → 1 ≤ count a outer.now → 1 ≤ count b free.now → CanOffer t.now heights.now kind.Meet a b }
+    requires can { CanOfferAll t.now heights.now kind.Meet outer.now free.now }
     ensures { Found t.now heights.now kind.Meet outer.now free.now result }
 {
     let link = Link {
@@ -116,7 +116,7 @@ fn scan_row(t: &DistTable, heights: &[u32], a: u32, ys: &[u32], kind: Kind, best
 /// The lesser of a change and the least one between two of the places.
 fn scan(t: &DistTable, heights: &[u32], xs: &[u32], ys: &[u32], kind: Kind, best: Change) -> Change
     requires len { length heights.now ≡ t.now.places }
-    requires can { (a b : ℕ) → 1 ≤ count a xs.now → 1 ≤ count b ys.now → CanOffer t.now heights.now kind a b }
+    requires can { CanOfferAll t.now heights.now kind xs.now ys.now }
     ensures { Scans t.now heights.now kind xs.now ys.now best result }
 {
     let mut least = best;
@@ -145,7 +145,7 @@ fn scan_outers(
     requires len { length heights.now ≡ t.now.places }
     requires can { CanCross t.now heights.now root.now tree.now }
     ensures crosses { IfOk result (λ r. Crosses t.now heights.now root.now tree.now best r.best) }
-    ensures outers { IfOk result (λ r. (x : ℕ) → count x r.outers.items ≡ count x (outer_members root.now.members tree.now)) }
+    ensures outers { IfOk result (λ r. HasOuters root.now tree.now r.outers.items) }
 {
     let mut outers = Vec::new(alloc);
     outers.extend_from_slice(root.members())?;

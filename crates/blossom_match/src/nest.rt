@@ -1,6 +1,6 @@
 ghost use Rattle.std.specs.Prelude.{◌≡◌, ◌≤◌, ◌+◌, ◌<◌, ◌^◌, IsTrue, false, length, nat_lt, IfOk};
 ghost use Rattle.blossom_match.specs.Bands.{count, with_width, Kept};
-ghost use Rattle.blossom_match.specs.Rings.{back_of, members_in, nest_of, single_of, IsMade, IsRing, PartsAre};
+ghost use Rattle.blossom_match.specs.Rings.{back_of, members_in, nest_of, ring_of as the_ring, single_of, IsMade, IsRing, PartsAre};
 
 use design_model::Memory;
 use std::alloc::Global;
@@ -87,12 +87,14 @@ pub fn single(alloc: Global, place: u32) -> Result<Nest, Memory>
 }
 
 impl Nest {
+    /// The places of the set.
     pub fn members(&self) -> &[u32]
         ensures { result.now ≡ self.now.members }
     {
         &self.members
     }
 
+    /// The width, in halves of a step.
     pub fn width(&self) -> u32
         ensures { result ≡ self.now.width }
     {
@@ -186,7 +188,7 @@ fn members_of(alloc: Global, parts: &[Part]) -> Result<Vec<u32>, Memory>
 /// The set of all members of a ring, without a width.
 pub fn ring_of(alloc: Global, parts: Vec<Part>) -> Result<Nest, Memory>
     requires { IsRing parts.items }
-    ensures { IfOk result (λ s. s ≡ nest_of (members_in parts.items) 0 parts.items) }
+    ensures { IfOk result (λ s. s ≡ the_ring parts.items) }
 {
     let members = members_of(alloc, &parts)?;
     Ok(Nest {

@@ -1,6 +1,5 @@
-ghost use Rattle.std.specs.Prelude.{◌≡◌, ◌∷◌, IfOk};
-ghost use Rattle.blossom_match.specs.Rings.{members_in, nest_of};
-ghost use Rattle.blossom_match.specs.Shrinks.{Closable, Shrinking, Shrinks};
+ghost use Rattle.std.specs.Prelude.{◌≡◌, IfOk};
+ghost use Rattle.blossom_match.specs.Shrinks.{ring_value, Closable, Shrinking, Shrinks};
 
 use crate::branches::{Branch, give_back};
 use crate::nest::{Link, Nest, Part, ring_of};
@@ -84,7 +83,7 @@ fn close(
     to: u32,
 ) -> Result<Nest, Memory>
     requires { Closable top way chain.items to }
-    ensures { IfOk result (λ s. s ≡ nest_of (members_in (record { nest = top; next = way } ∷ chain.items)) 0 (record { nest = top; next = way } ∷ chain.items)) }
+    ensures { IfOk result (λ s. s ≡ ring_value top way chain.items) }
 {
     top.know();
     let mut ring = chain;

@@ -1,5 +1,5 @@
-ghost use Rattle.std.specs.Prelude.{◌≡◌, ◌≢◌, ℕ, ◌+◌, ◌*◌, ◌<◌, ◌≤◌, length, max, min, IfOk};
-ghost use Rattle.blossom_match.specs.Tables.{empty_table, entry, after_set, IsTable};
+ghost use Rattle.std.specs.Prelude.{◌≡◌, ◌≢◌, ◌+◌, ◌*◌, ◌<◌, ◌≤◌, length, max, min, IfOk};
+ghost use Rattle.blossom_match.specs.Tables.{after_set, entry, EntriesAre, IsTable};
 ghost use Rattle.blossom_match.specs.declared.table.TheConstants.{MAX_DISTANCE, MAX_PLACES};
 
 use design_model::Memory;
@@ -34,7 +34,8 @@ impl DistTable {
     /// A table of n places, in which all entries are 0.
     pub fn new(alloc: Global, n: u32) -> Result<DistTable, Memory>
         requires { n ≤ MAX_PLACES }
-        ensures { IfOk result (λ t. t ≡ empty_table n) }
+        ensures places { IfOk result (λ t. t.places ≡ n) }
+        ensures entries { IfOk result (λ t. EntriesAre t (λ a b. 0)) }
     {
         let cells = vec![in alloc; 0; n as usize * n as usize]?;
         Ok(DistTable { places: n, cells })
@@ -55,7 +56,7 @@ impl DistTable {
         requires b_in { b < self.old.places }
         requires short { d ≤ MAX_DISTANCE }
         ensures places { self.new.places ≡ self.old.places }
-        ensures entries { (x y : ℕ) → x < self.old.places → y < self.old.places → entry self.new x y ≡ after_set self.old a b d x y }
+        ensures entries { EntriesAre self.new (after_set self.old a b d) }
     {
         let at = self.cell(a, b);
         self.cells[at] = d;

@@ -1,6 +1,6 @@
 //! The five properties by plain programs, and the test of a table's triangles.
-ghost use Rattle.std.specs.Prelude.{◌≡◌, ◌≤◌, ◌<◌, ◌+◌, ℕ, IsTrue};
-ghost use Rattle.blossom_match.specs.Tables.{entry, KeepsTriangles};
+ghost use Rattle.std.specs.Prelude.{◌<◌, ℕ, IsTrue};
+ghost use Rattle.blossom_match.specs.Tables.{IsNoShorterBy, KeepsTriangles};
 
 use crate::{DistTable, Matching, Moat, match_all};
 use std::alloc::Global;
@@ -27,7 +27,7 @@ fn keeps_triangles(t: &DistTable) -> bool
 
 fn keeps_from(t: &DistTable, a: u32) -> bool
     requires { a < t.now.places }
-    ensures { IsTrue result → (b : ℕ) → b < t.now.places → (c : ℕ) → c < t.now.places → entry t.now a c ≤ entry t.now a b + entry t.now b c }
+    ensures { IsTrue result → (b : ℕ) → b < t.now.places → IsNoShorterBy t.now a b }
 {
     for b in 0..t.places() {
         if !keeps_by(t, a, b) {
@@ -40,7 +40,7 @@ fn keeps_from(t: &DistTable, a: u32) -> bool
 fn keeps_by(t: &DistTable, a: u32, b: u32) -> bool
     requires a_in { a < t.now.places }
     requires b_in { b < t.now.places }
-    ensures { IsTrue result → (c : ℕ) → c < t.now.places → entry t.now a c ≤ entry t.now a b + entry t.now b c }
+    ensures { IsTrue result → IsNoShorterBy t.now a b }
 {
     for c in 0..t.places() {
         if t.get(a, c) > t.get(a, b) + t.get(b, c) {

@@ -1,4 +1,4 @@
-use Rattle.blossom_match.proofs.WidthLemmas.{can_widen, widens}
+use Rattle.blossom_match.proofs.WideningLemmas.{can_widen, widens}
 use Rattle.blossom_match.proofs.widening.widen.Goals as goal
 
 pub change_widths-requires-clause-root : goal.change_widths-requires-clause-root
