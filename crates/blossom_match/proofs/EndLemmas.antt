@@ -1,0 +1,159 @@
+-- Searches one after another, and the matching at their end.
+use Rattle.std.proofs.Common.{◌≡◌, ◌≢◌, ℕ, ◌+◌, ◌*◌, ◌≤◌, ◌<◌, List, [], ◌∷◌, ◌++◌, length, Bool, true, false, cond, eqb, ltb, arith, refl, sym, ap, subst, ◌∙◌}
+use Rattle.std.specs.List.{All, AllPairs}
+use Rattle.std.proofs.lemmas.Bool.{eqb-true, eqb-false, ltb-true, ltb-false}
+use Rattle.std.proofs.lemmas.List.Elements.{All-nil, All-cons}
+use Rattle.std.proofs.lemmas.List.Kept.{AllPairs-cons}
+use Rattle.blossom_match.specs.Lists.{Each, EachPair}
+use Rattle.blossom_match.specs.Bands.{Band, apart, count, hit, load}
+use Rattle.blossom_match.specs.Couples.{couple_members, couple_bands, IsJoined, IsSettled}
+use Rattle.blossom_match.specs.Sound.{IsFirmCouple}
+use Rattle.blossom_match.specs.Searches.{is_place, CanStep, IsSearch, IsStanding}
+use Rattle.blossom_match.specs.Bounds.{Bounds, CanSearch}
+use Rattle.blossom_match.specs.Widths.{CanWiden, StepsOn, Widens}
+use Rattle.blossom_match.specs.Phases.{Begins, Goes, Leads, Stands}
+use Rattle.blossom_match.specs.Taken.{IsOddIn, LieIn, TakesCouples}
+use Rattle.blossom_match.specs.Matchings.{AreLaminar, IsMatching, IsOddMoat}
+use Rattle.blossom_match.specs.TableValue.{TableValue}
+use Rattle.blossom_match.specs.Tables.{entry, IsMetric}
+use Rattle.blossom_match.specs.declared.couples.Couple.{Couple}
+use Rattle.blossom_match.specs.declared.matching.Moat.{Moat}
+use Rattle.blossom_match.specs.declared.matching.Pair.{Pair}
+use Rattle.blossom_match.specs.declared.least.Change.{Change}
+use Rattle.blossom_match.specs.declared.search.Search.{Search}
+use Rattle.blossom_match.specs.declared.phase.Stepped.{Stepped}
+use Rattle.blossom_match.specs.declared.phase.Stepped.TheVariants.{More, Done}
+use Rattle.blossom_match.proofs.SumLemmas.{count-append, hit_same}
+use Rattle.blossom_match.proofs.SearchLemmas.{begun, is_one}
+use Rattle.blossom_match.proofs.BoundLemmas.{place_in}
+
+below_case : (p q r : Bool) (x n : ℕ) → ltb x n ≡ p → eqb x n ≡ q → ltb x (n + 1) ≡ r → cond p 1 0 + (cond q 1 0 + 0) ≡ cond r 1 0
+below_case true true r x n e f g = absurd (omega (arith, ltb-true x n e, eqb-true x n f))
+below_case true false true x n e f g = omega arith
+below_case true false false x n e f g = absurd (omega (arith, ltb-true x n e, ltb-false x (n + 1) g))
+below_case false true true x n e f g = omega arith
+below_case false true false x n e f g = absurd (omega (arith, eqb-true x n f, ltb-false x (n + 1) g))
+below_case false false true x n e f g = absurd (eqb-false x n f (omega (arith, ltb-false x n e, ltb-true x (n + 1) g)))
+below_case false false false x n e f g = omega arith
+
+-- one place more
+pub places_more : (x n : ℕ) (xs new : List ℕ) → new ≡ xs ++ n ∷ [] → count x xs ≡ cond (ltb x n) 1 0 → count x new ≡ cond (ltb x (n + 1)) 1 0
+places_more x n xs new e f =
+    ap (λ (ys : List ℕ). count x ys) e ∙ count-append x xs (n ∷ []) ∙ ap (λ (k : ℕ). k + (hit x n + 0)) f ∙ below_case (ltb x n) (eqb x n) (ltb x (n + 1)) x n refl refl refl
+
+pub begins : (t : TableValue) (place : ℕ) (couples : List Couple) (free : List ℕ) (s : Search) → Stands t couples (free ++ place ∷ []) → 1 ≤ length free → Begins place couples free s → CanSearch t s
+begins t place couples free s st some b =
+    let at = subst (λ (cs : List Couple). IsStanding t st.h cs (s.free.items ++ place ∷ [])) (sym b.rest)
+    (subst (λ (xs : List ℕ). IsStanding t st.h couples (xs ++ place ∷ [])) (sym b.free) st.standing) in
+    record {
+      h = st.h;
+      search = begun t st.h place s at b.root b.tree;
+      some = omega (arith, some, ap (λ (xs : List ℕ). length xs) b.free);
+    }
+
+steps_of : (t : TableValue) (s wide : Search) (c : Change) → IsMetric t → (can : CanSearch t s) → ((h : ℕ → ℕ) → IsSearch t h s → Bounds t h s c) → Widens s c wide → StepsOn t c wide
+steps_of t s wide c m can bounds w = w.search t can.h m.table m.triangles can.search (bounds can.h can.search) can.some
+
+pub can_step : (t : TableValue) (s wide : Search) (c : Change) → IsMetric t → CanSearch t s → ((h : ℕ → ℕ) → IsSearch t h s → Bounds t h s c) → Widens s c wide → CanStep wide c.step
+can_step t s wide c m can bounds w =
+    let on = steps_of t s wide c m can bounds w in
+    record { t = t; h = on.h; search = on.search; ready = on.ready }
+
+pub can_widen_now : (t : TableValue) (s : Search) (c : Change) → IsMetric t → CanSearch t s → ((h : ℕ → ℕ) → IsSearch t h s → Bounds t h s c) → CanWiden s c
+can_widen_now t s c m can bounds = record { t = t; h = can.h; table = m.table; triangles = m.triangles; search = can.search; bounds = bounds can.h can.search; some = can.some }
+
+pub goes : (t : TableValue) (s wide : Search) (c : Change) (next : Stepped) → IsMetric t → CanSearch t s → ((h : ℕ → ℕ) → IsSearch t h s → Bounds t h s c) → Widens s c wide → Leads wide c.step next → Goes t s next
+goes t s wide c (More r) m can bounds w l =
+    let on = steps_of t s wide c m can bounds w in
+    let free = l.free ∙ w.free in
+    (record { h = on.h; search = l.search t on.h on.search on.ready; some = omega (arith, can.some, ap (λ (xs : List ℕ). length xs) free) }, omega (arith, l.fewer, w.size), free)
+goes t s wide c (Done r) m can bounds w l =
+    let on = steps_of t s wide c m can bounds w in
+    (record { h = on.h; standing = l.standing t on.h on.search on.ready }, omega (arith, l.fewer, ap (λ (xs : List ℕ). length xs) w.free))
+
+-- no couple yet, and all places free
+pub all_free : (t : TableValue) (free : List ℕ) → ((x : ℕ) → count x free ≡ is_place t x) → Stands t [] free
+all_free t free places = record {
+  h = λ x. 0;
+  standing = record {
+    tall = λ x. refl;
+    places = λ x. omega (arith, places x);
+    joined = tt;
+    firm = tt;
+    loads = λ a b la lb ne. omega arith;
+  };
+}
+
+-- each couple's links are paid
+settled : (d : ℕ → ℕ → ℕ) (h : ℕ → ℕ) (cs : List Couple) → Each IsJoined cs → Each (IsFirmCouple d h) cs → Each (IsSettled d) cs
+settled d h [] j f = tt
+settled d h (c ∷ cs) j f = (
+  record {
+    link = omega (arith, f.0.link, f.0.first.local c.link.from (omega (arith, j.0.from)), f.0.second.local c.link.to (omega (arith, j.0.to)));
+    first = f.0.first.paid;
+    second = f.0.second.paid;
+  },
+  settled d h cs j.1 f.1,
+)
+
+missing : (x : ℕ) (xs : List ℕ) → count x xs ≡ 0 → All (λ (y : ℕ). x ≢ y) xs
+missing x [] none = All-nil (λ (y : ℕ). x ≢ y)
+missing x (y ∷ xs) none =
+    All-cons (λ (z : ℕ). x ≢ z) y xs (λ e. omega (arith, none, hit_same x, ap (λ (z : ℕ). hit x z) e)) (missing x xs (omega (arith, none)))
+
+different : (xs : List ℕ) → ((x : ℕ) → count x xs ≤ 1) → AllPairs (λ (x y : ℕ). x ≢ y) xs
+different [] once = λ i j d less low. absurd (omega (arith, low))
+different (x ∷ xs) once =
+    AllPairs-cons (λ (y z : ℕ). y ≢ z) x xs (missing x xs (omega (arith, once x, hit_same x))) (different xs (λ y. omega (arith, once y)))
+
+below : (n : ℕ) (xs all : List ℕ) → ((x : ℕ) → count x xs ≤ count x all) → ((x : ℕ) → 1 ≤ count x all → x < n) → All (λ (x : ℕ). x < n) xs
+below n [] all within low = All-nil (λ (x : ℕ). x < n)
+below n (x ∷ xs) all within low =
+    All-cons (λ (y : ℕ). y < n) x xs (low x (omega (arith, within x, hit_same x))) (below n xs all (λ y. omega (arith, within y)) low)
+
+odd_moats : (n : ℕ) (all : List ℕ) (moats : List Moat) → ((x : ℕ) → count x all ≤ 1) → ((x : ℕ) → 1 ≤ count x all → x < n) → Each (IsOddIn all) moats → All (IsOddMoat n) moats
+odd_moats n all [] once low each = All-nil (IsOddMoat n)
+odd_moats n all (m ∷ moats) once low each =
+    All-cons (IsOddMoat n) m moats (record {
+      odd = each.0.odd;
+      different = different m.members (λ x. omega (arith, each.0.within x, once x));
+      below = below n m.members all each.0.within low;
+      wide = each.0.wide;
+    }) (odd_moats n all moats once low each.1)
+
+each_all : {X : Type 0} (P : X → Type 0) (xs : List X) → Each P xs → All P xs
+each_all P [] e = All-nil P
+each_all P (x ∷ xs) e = All-cons P x xs e.0 (each_all P xs e.1)
+
+pairs_all : {X : Type 0} (R : X → X → Type 0) (xs : List X) → EachPair R xs → AllPairs R xs
+pairs_all R [] e = λ i j d less low. absurd (omega (arith, low))
+pairs_all R (x ∷ xs) e = AllPairs-cons R x xs (each_all (R x) xs e.0) (pairs_all R xs e.1)
+
+load_same : (a : ℕ) (bs : List Band) → load a a bs ≡ 0
+load_same a [] = refl
+load_same a (s ∷ bs) =
+    let e : apart (count a s.members) (count a s.members) ≡ 0 = omega arith in
+    omega (arith, load_same a bs, ap (λ (k : ℕ). s.width * k) e)
+
+load_case : (p : Bool) (t : TableValue) (h : ℕ → ℕ) (cs : List Couple) (a b : ℕ) → eqb a b ≡ p → IsStanding t h cs [] → a < t.places → b < t.places → load a b (couple_bands cs) ≤ 2 * entry t a b
+load_case true t h cs a b e st la lb =
+    let same : a ≡ b = eqb-true a b e in
+    omega (arith, load_same a (couple_bands cs), ap (λ (x : ℕ). load a x (couple_bands cs)) (sym same))
+load_case false t h cs a b e st la lb = st.loads a b la lb (eqb-false a b e)
+
+-- what is taken out of couples that hold all places is a matching with moats
+pub matched : (t : TableValue) (cs : List Couple) (pairs : List Pair) (moats : List Moat) → Stands t cs [] → TakesCouples cs [] pairs [] moats → IsMatching t pairs moats
+matched t cs pairs moats s k =
+    let st = s.standing in
+    let places = λ (x : ℕ). st.places x in
+    let lie = subst (λ (ms : List Moat). LieIn (couple_members cs) ms) (sym k.is) k.lie in
+    record {
+      paired = λ x. omega (arith, k.places x, places x);
+      odd = odd_moats t.places (couple_members cs) moats (λ x. omega (arith, places x, is_one t x)) (λ x some. place_in t x (omega (arith, places x, some))) lie.each;
+      laminar = pairs_all AreLaminar moats lie.apart;
+      loads = λ a b la lb. omega (arith, k.loads a b, load_case (eqb a b) t s.h cs a b refl st la lb);
+      paid = omega (arith, k.widths, k.paid t (settled (entry t) s.h cs st.joined st.firm));
+    }
+
+pub once_each : (t : TableValue) (cs : List Couple) → Stands t cs [] → (x : ℕ) → count x (couple_members cs) ≤ 1
+once_each t cs s x = omega (arith, s.standing.places x, is_one t x)

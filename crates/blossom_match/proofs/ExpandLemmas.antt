@@ -1,0 +1,197 @@
+-- An inner set that comes apart, between the branches before and after it.
+use Rattle.std.proofs.Common.{◌≡◌, ℕ, ◌+◌, ◌%◌, ◌≤◌, ◌<◌, suc, zero, List, [], ◌∷◌, ◌++◌, length, take, drop, arith, refl, sym, ap, subst, ◌∙◌, append_assoc, length-append}
+use Rattle.std.proofs.lemmas.List.{length-take, take-append-drop}
+use Rattle.blossom_match.specs.Lists.{Each}
+use Rattle.blossom_match.specs.Bands.{Adds, Band, NestValue, bands, count, height, IsPaid}
+use Rattle.blossom_match.specs.Rings.{members_in, bands_in, tolls_in, nest_of, ring_tolls, AllKept, FirstHolds, IsRing}
+use Rattle.blossom_match.specs.Couples.{IsJoined}
+use Rattle.blossom_match.specs.Sound.{IsFirm, IsFirmCouple, IsFirmPart, IsSound, IsTight}
+use Rattle.blossom_match.specs.Trees.{outer_members, inner_members, IsGrown}
+use Rattle.blossom_match.specs.Lays.{CanLay, Expanding, Expands, FirstComesApart, GoesEvenly, Lays, WayInto}
+use Rattle.blossom_match.specs.declared.nest.Link.{Link}
+use Rattle.blossom_match.specs.declared.nest.Part.{Part}
+use Rattle.blossom_match.specs.declared.couples.Couple.{Couple}
+use Rattle.blossom_match.specs.declared.branches.Branch.{Branch}
+use Rattle.blossom_match.proofs.ListLemmas.{each-append, each-left, each-right, each-last}
+use Rattle.blossom_match.proofs.SumLemmas.{count-append, height-append, low, none_tall, size-append, IsPaid-left, IsPaid-right}
+use Rattle.blossom_match.proofs.RingLemmas.{none_in}
+use Rattle.blossom_match.proofs.ClosingLemmas.{AllLocal, ChainTight, IsLocal, paid_is_tight}
+use Rattle.blossom_match.proofs.MirrorLemmas.{linked_left}
+use Rattle.blossom_match.proofs.TreeLemmas.{last_of, outer_members_push, inner_members_push, outer_members_base, branch_bands_push, branch_bands-append, inner_bands_push, inner_bands-append, couple_bands-append, couple_members-append, grown_more, grown-append, outer-append, inner-append}
+
+-- in a ring without a width each part alone makes the heights of its members
+parts_local : (h : ℕ → ℕ) (ps : List Part) → AllKept ps → ((x : ℕ) → count x (members_in ps) ≤ 1) → ((x : ℕ) → 1 ≤ count x (members_in ps) → height x (bands_in ps) ≡ h x) → AllLocal h ps
+parts_local h [] kept once at = tt
+parts_local h (p ∷ ps) kept once at =
+    let c = λ (x : ℕ). count-append x p.nest.members (members_in ps) in
+    let s = λ (x : ℕ). height-append x (bands p.nest) (bands_in ps) in (
+      λ x here. omega (arith, at x (omega (arith, c x, here)), s x, none_tall x (bands_in ps) (none_in x ps kept.1 (omega (arith, c x, once x, here)))),
+      parts_local h ps kept.1 (λ x. omega (arith, once x, c x))
+          (λ x here. omega (arith, at x (omega (arith, c x, here)), s x, low x p.nest kept.0 (omega (arith, c x, once x, here)))),
+    )
+
+AllLocal_on : (h : ℕ → ℕ) (qs : List Part) (p : Part) → AllLocal h qs → IsLocal h p → AllLocal h (qs ++ p ∷ [])
+AllLocal_on h [] p a b = (b, tt)
+AllLocal_on h (q ∷ qs) p a b = (a.0, AllLocal_on h qs p a.1 b)
+
+links_tight : (d : ℕ → ℕ → ℕ) (h : ℕ → ℕ) (p e : Part) (qs : List Part) → ChainTight d h p (qs ++ e ∷ []) → Each (λ (k : Part). IsTight d h k.next) (p ∷ qs)
+links_tight d h p e [] t = (t.0, tt)
+links_tight d h p e (q ∷ qs) t = (t.0, links_tight d h q e qs t.1)
+
+firm_each : (d : ℕ → ℕ → ℕ) (h : ℕ → ℕ) (ps : List Part) → AllKept ps → AllLocal h ps → Each (λ (k : Part). IsTight d h k.next) ps → IsPaid d (tolls_in ps) →
+    ((x y : ℕ) → 1 ≤ count x (members_in ps) → 1 ≤ count y (members_in ps) → (h x + h y) % 2 ≡ 0) → Each (IsFirmPart d h) ps
+firm_each d h [] kept at t paid even = tt
+firm_each d h (p ∷ ps) kept at t paid even =
+    let c = λ (x : ℕ). count-append x p.nest.members (members_in ps) in (
+      record {
+        next = t.0;
+        nest = record {
+          kept = kept.0;
+          paid = IsPaid-left d p.nest.tolls (tolls_in ps) paid;
+          local = at.0;
+          even = λ x y hx hy. even x y (omega (arith, c x, hx)) (omega (arith, c y, hy));
+        };
+      },
+      firm_each d h ps kept.1 at.1 t.1 (IsPaid-right d p.nest.tolls (tolls_in ps) paid) (λ x y hx hy. even x y (omega (arith, c x, hx)) (omega (arith, c y, hy))),
+    )
+
+-- the parts of a sound ring without a width are firm
+parts_firm : (d : ℕ → ℕ → ℕ) (h : ℕ → ℕ) (ps : List Part) → IsRing ps → ((x : ℕ) → count x (members_in ps) ≤ 1) → IsSound d h (nest_of (members_in ps) 0 ps) → Each (IsFirmPart d h) ps
+parts_firm d h [] ring once s = tt
+parts_firm d h (p ∷ ps) ring once s =
+    let at = parts_local h (p ∷ ps) ring.kept once (λ x here. omega (arith, s.local x here)) in
+    let tight = paid_is_tight d h p (ps ++ p ∷ []) ring.linked at.0 (AllLocal_on h ps p at.1 at.0) (IsPaid-left d (ring_tolls (p ∷ ps)) (tolls_in (p ∷ ps)) s.paid) in
+    firm_each d h (p ∷ ps) ring.kept at (links_tight d h p p ps tight) (IsPaid-right d (ring_tolls (p ∷ ps)) (tolls_in (p ∷ ps)) s.paid) s.even
+
+drop_past : (xs ys : List Branch) → drop (length xs) (xs ++ ys) ≡ ys
+drop_past [] ys = refl
+drop_past (x ∷ xs) ys = drop_past xs ys
+
+pub apart_within : (at : ℕ) (tree : List Branch) → FirstComesApart (drop at tree) → at < length tree
+apart_within zero [] a = absurd a
+apart_within zero (b ∷ bs) a = omega arith
+apart_within (suc at) [] a = absurd a
+apart_within (suc at) (b ∷ bs) a = omega (arith, apart_within at bs a)
+
+grown-left : (base : List ℕ) (xs ys : List Branch) → IsGrown base (xs ++ ys) → IsGrown base xs
+grown-left base [] ys g = tt
+grown-left base (b ∷ xs) ys g = (g.0, g.1, g.2, g.3, grown-left (b.outer.members ++ base) xs ys g.4)
+
+pub grown-right : (base : List ℕ) (xs ys : List Branch) → IsGrown base (xs ++ ys) → IsGrown (outer_members base xs) ys
+grown-right base [] ys g = g
+grown-right base (b ∷ xs) ys g =
+    grown_more (outer_members (b.outer.members ++ base) xs) (b.outer.members ++ outer_members base xs) ys
+    (λ x. omega (arith, outer_members_base x b.outer.members base xs, count-append x b.outer.members (outer_members base xs))) (grown-right (b.outer.members ++ base) xs ys g.4)
+
+-- the tree as the branches before, the one that comes apart and those after it
+pub record SplitAt (root : NestValue) (old bs : List Branch) (b : Branch) (later : List Branch) : Type 0 where
+  pub is : old ≡ (bs ++ b ∷ []) ++ later
+  pub zero_wide : b.inner.width ≡ 0
+  pub some : 0 < length b.inner.below
+  pub before : IsGrown root.members bs
+  pub above : 1 ≤ count b.up.from (outer_members root.members bs)
+  pub up_to : count b.up.to b.inner.members ≡ 1
+  pub pair_from : count b.pair.from b.inner.members ≡ 1
+  pub pair_to : count b.pair.to b.outer.members ≡ 1
+  pub after : IsGrown (outer_members root.members (bs ++ b ∷ [])) later
+  pub once : (x : ℕ) → count x b.inner.members ≤ 1
+
+pub split_at : (root : NestValue) (old kept bs : List Branch) (b : Branch) (later : List Branch) (at : ℕ) → Expanding root old at → kept ≡ take (at + 1) old → later ≡ drop (at + 1) old →
+    kept ≡ bs ++ b ∷ [] → SplitAt root old bs b later
+split_at root old kept bs b later at ex e f g =
+    let is : old ≡ (bs ++ b ∷ []) ++ later =
+    sym (take-append-drop (at + 1) old) ∙ ap (λ (ks : List Branch). ks ++ drop (at + 1) old) (sym e ∙ g) ∙ ap (λ (ks : List Branch). (bs ++ b ∷ []) ++ ks) (sym f) in
+    let low = apart_within at old ex.apart in
+    let size : length bs ≡ at = omega (arith, low, length-take (at + 1) old, ap (λ (ks : List Branch). length ks) e, ap (λ (ks : List Branch). length ks) g, length-append bs (b ∷ [])) in
+    let rest : drop at old ≡ b ∷ later = ap (λ (ks : List Branch). drop at ks) (is ∙ append_assoc bs (b ∷ []) later) ∙ ap (λ (i : ℕ). drop i (bs ++ b ∷ later)) (sym size) ∙ drop_past bs (b ∷ later) in
+    let apart = subst FirstComesApart rest ex.apart in
+    let grown = subst (λ (ks : List Branch). IsGrown root.members ks) is ex.grown in
+    let l = last_of root.members bs b (grown-left root.members (bs ++ b ∷ []) later grown) in
+    record {
+      is = is;
+      zero_wide = apart.0;
+      some = apart.1;
+      before = l.grown;
+      above = l.above;
+      up_to = l.up_to;
+      pair_from = l.pair_from;
+      pair_to = l.pair_to;
+      after = grown-right root.members (bs ++ b ∷ []) later grown;
+      once = λ x. omega (arith, ex.once x, ap (λ (ks : List Branch). count x (inner_members ks)) is, inner-append x (bs ++ b ∷ []) later, inner_members_push x bs b);
+    }
+
+into_ring : (way : Link) (ring : List Part) → IsRing ring → FirstHolds way.to ring → ((x : ℕ) → count x (members_in ring) ≤ 1) → WayInto way ring
+into_ring way [] r first once = absurd first
+into_ring way (p ∷ ps) r first once = (omega (arith, first, once way.to, count-append way.to p.nest.members (members_in ps)), linked_left p ps (p ∷ []) r.linked)
+
+pub can_lay : (root : NestValue) (old bs : List Branch) (b : Branch) (later : List Branch) (parts ring : List Part) → SplitAt root old bs b later →
+    b.inner ≡ nest_of (members_in parts) b.inner.width parts → GoesEvenly b.up.to b.pair.from parts ring → CanLay root bs ring b.up b.pair b.outer
+can_lay root old bs b later parts ring s made g =
+    let once = λ (x : ℕ). ap (λ (v : NestValue). count x v.members) made in
+    record {
+      grown = s.before;
+      from = s.above;
+      into = into_ring b.up ring g.ring g.first (λ x. omega (arith, g.places x, once x, s.once x));
+      exit = g.last;
+      odd = g.ring.odd;
+      to = s.pair_to;
+      once = λ x. omega (arith, g.places x, once x, s.once x);
+    }
+
+pub expanded : (root : NestValue) (old bs : List Branch) (b : Branch) (later mid new : List Branch) (parts ring : List Part) (was cs now : List Couple) → SplitAt root old bs b later →
+    IsRing parts → b.inner ≡ nest_of (members_in parts) b.inner.width parts → GoesEvenly b.up.to b.pair.from parts ring → Lays root bs ring b.up b.pair b.outer mid cs →
+    now ≡ was ++ cs → new ≡ mid ++ later → Expands root old new was now
+expanded root old bs b later mid new parts ring was cs now s is made g l e f =
+    let flat : b.inner ≡ nest_of (members_in parts) 0 parts = made ∙ ap (λ (w : ℕ). nest_of (members_in parts) w parts) s.zero_wide in
+    let inside = λ (x : ℕ). ap (λ (v : NestValue). count x v.members) made in
+    let tree = bs ++ b ∷ [] in
+    let band : Band = record { members = members_in parts; width = 0 } in
+    let sizes = λ (ks : List Band). length ks in
+    let at = λ (F : List Band → ℕ) (add : Adds F). ap (λ (v : NestValue). F (bands v)) flat in
+    subst (λ (ks : List Branch). Expands root old ks was now) (sym f)
+    (subst (λ (cs : List Couple). Expands root old (mid ++ later) was cs) (sym e) (subst (λ (ks : List Branch). Expands root ks (mid ++ later) was (was ++ cs)) (sym s.is) (record {
+      grown = grown-append root.members mid later l.grown (grown_more (outer_members root.members tree) (outer_members root.members mid) later
+          (λ x. omega (arith, l.more x, outer_members_push x root.members bs b)) s.after);
+      joined = λ j. each-append IsJoined was cs j l.joined;
+      places = λ x. omega (
+        arith,
+        outer-append x root.members mid later,
+        inner-append x mid later,
+        couple_members-append x was cs,
+        outer-append x root.members tree later,
+        inner-append x tree later,
+        outer_members_push x root.members bs b,
+        inner_members_push x bs b,
+        l.places x,
+        g.places x,
+        inside x,
+      );
+      ring = members_in parts;
+      sums = λ F add. omega (
+        arith,
+        branch_bands-append F add mid later,
+        couple_bands-append F add was cs,
+        branch_bands-append F add tree later,
+        branch_bands_push F add bs b,
+        l.sums F add,
+        g.sums F add,
+        at F add,
+        add (band ∷ []) (bands_in parts),
+      );
+      fewer = omega (
+        arith,
+        inner_bands-append sizes size-append mid later,
+        couple_bands-append sizes size-append was cs,
+        inner_bands-append sizes size-append tree later,
+        inner_bands_push sizes size-append bs b,
+        l.fewer,
+        g.sums sizes size-append,
+        at sizes size-append,
+      );
+      firm = λ d h sy t c.
+          let front = each-left (IsFirm d h) tree later t in
+          let k = each-last (IsFirm d h) bs b front in
+          let sound = subst (λ (v : NestValue). IsSound d h v) flat k.inner in
+          let r = l.firm d h (each-left (IsFirm d h) bs (b ∷ []) front) k.up k.pair (g.firm d h sy (parts_firm d h parts is (λ x. omega (arith, inside x, s.once x)) sound)) k.outer in
+          (each-append (IsFirm d h) mid later r.0 (each-right (IsFirm d h) tree later t), each-append (IsFirmCouple d h) was cs c r.1);
+    })))

@@ -1,0 +1,132 @@
+-- Laying a way of parts, two at a time.
+use Rattle.std.proofs.Common.{◌≡◌, ℕ, ◌%◌, ◌≤◌, inl, inr, List, [], ◌∷◌, ◌++◌, length, arith, sym, ap, subst, ◌∙◌}
+use Rattle.blossom_match.specs.Lists.{Each}
+use Rattle.blossom_match.specs.Bands.{Band, NestValue, bands, count}
+use Rattle.blossom_match.specs.Rings.{members_in, bands_in, Linked}
+use Rattle.blossom_match.specs.Couples.{couples_along, IsJoined}
+use Rattle.blossom_match.specs.Sound.{IsFirm, IsFirmCouple, IsFirmPart}
+use Rattle.blossom_match.specs.Lays.{EvenlyHolds, WayInto, CanLay, Lays}
+use Rattle.blossom_match.specs.declared.nest.Link.{Link}
+use Rattle.blossom_match.specs.declared.nest.Part.{Part}
+use Rattle.blossom_match.specs.declared.couples.Couple.{Couple}
+use Rattle.blossom_match.specs.declared.branches.Branch.{Branch}
+use Rattle.blossom_match.proofs.ListLemmas.{each-push}
+use Rattle.blossom_match.proofs.SumLemmas.{count-append, size-append}
+use Rattle.blossom_match.proofs.OpenLemmas.{members_coupled, bands_coupled}
+use Rattle.blossom_match.proofs.TreeLemmas.{grown_push, outer_members_push, inner_members_push, branch_bands_push, inner_bands_push}
+
+pub record Laying (root : NestValue) (old : List Branch) (ring : List Part) (up pair : Link) (outer : NestValue) (now : List Branch) (left : List Part) (way : Link) : Type 0 where
+  pub can : CanLay root now left way pair outer
+  pub does : (new : List Branch) (cs : List Couple) → Lays root now left way pair outer new cs → Lays root old ring up pair outer new cs
+
+pub laying_start : (root : NestValue) (old : List Branch) (ring left : List Part) (up pair : Link) (outer : NestValue) → CanLay root old ring up pair outer → left ≡ ring →
+    Laying root old ring up pair outer old left up
+laying_start root old ring left up pair outer can e =
+    subst (λ (ps : List Part). Laying root old ring up pair outer old ps up) (sym e) (record { can = can; does = λ new cs l. l })
+
+not_here : (x : ℕ) (p q : Part) (ps : List Part) → EvenlyHolds x (p ∷ q ∷ ps) → count x p.nest.members ≡ 0 → EvenlyHolds x ps
+not_here x p q ps (inl h) none = absurd (omega arith)
+not_here x p q ps (inr h) none = h
+
+pub never_alone : (root : NestValue) (now : List Branch) (p : Part) (way pair : Link) (outer : NestValue) → CanLay root now (p ∷ []) way pair outer → count pair.from p.nest.members ≡ 0 → ⊥
+never_alone root now p way pair outer can none = omega (arith, can.exit)
+
+pub never_empty : (root : NestValue) (now : List Branch) (way pair : Link) (outer : NestValue) → CanLay root now [] way pair outer → ⊥
+never_empty root now way pair outer can = can.exit
+
+abbrev branch_of : Link → NestValue → Link → NestValue → Branch
+branch_of u i p o = record { up = u; inner = i; pair = p; outer = o }
+
+into_next : (q : Part) (ps : List Part) (x : ℕ) → EvenlyHolds x ps → Linked q ps → WayInto q.next ps
+into_next q [] x e l = absurd e
+into_next q (r ∷ ps) x e l = (l.0.1, l.1)
+
+source_of : (q : Part) (ps : List Part) (x : ℕ) → EvenlyHolds x ps → Linked q ps → count q.next.from q.nest.members ≡ 1
+source_of q [] x e l = absurd e
+source_of q (r ∷ ps) x e l = l.0.0
+
+pub can_more : (root : NestValue) (now : List Branch) (p q : Part) (ps : List Part) (way pair : Link) (outer : NestValue) → CanLay root now (p ∷ q ∷ ps) way pair outer →
+    count pair.from p.nest.members ≡ 0 → CanLay root (now ++ branch_of way p.nest p.next q.nest ∷ []) ps q.next pair outer
+can_more root now p q ps way pair outer c none =
+    let b = branch_of way p.nest p.next q.nest in
+    let e = not_here pair.from p q ps c.exit none in
+    record {
+      grown = grown_push root.members now b c.grown c.from c.into.0 c.into.1.0.0 c.into.1.0.1;
+      from = omega (arith, source_of q ps pair.from e c.into.1.1, outer_members_push q.next.from root.members now b);
+      into = into_next q ps pair.from e c.into.1.1;
+      exit = e;
+      odd = omega (arith, c.odd);
+      to = c.to;
+      once = λ x. omega (arith, c.once x, count-append x p.nest.members (q.nest.members ++ members_in ps), count-append x q.nest.members (members_in ps));
+    }
+
+does_more : (root : NestValue) (now : List Branch) (p q : Part) (ps : List Part) (way pair : Link) (outer : NestValue) (new : List Branch) (cs : List Couple) →
+    Lays root (now ++ branch_of way p.nest p.next q.nest ∷ []) ps q.next pair outer new cs → Lays root now (p ∷ q ∷ ps) way pair outer new cs
+does_more root now p q ps way pair outer new cs l =
+    let b = branch_of way p.nest p.next q.nest in
+    record {
+      grown = l.grown;
+      joined = l.joined;
+      places = λ x. omega (
+        arith,
+        l.places x,
+        outer_members_push x root.members now b,
+        inner_members_push x now b,
+        count-append x p.nest.members (q.nest.members ++ members_in ps),
+        count-append x q.nest.members (members_in ps),
+      );
+      more = λ x. omega (arith, l.more x, outer_members_push x root.members now b);
+      sums = λ F add. omega (arith, l.sums F add, branch_bands_push F add now b, add (bands p.nest) ((bands q.nest) ++ bands_in ps), add (bands q.nest) (bands_in ps));
+      fewer = omega (arith, l.fewer, inner_bands_push (λ (ks : List Band). length ks) size-append now b, size-append (bands p.nest) (bands q.nest ++ bands_in ps), size-append (bands q.nest) (bands_in ps));
+      firm = λ d h t w a parts o. l.firm d h
+          (each-push (IsFirm d h) now b t (record { up = w; pair = parts.0.next; inner = parts.0.nest; outer = parts.1.0.nest })) parts.1.0.next a parts.1.1 o;
+    }
+
+pub laying_more : (root : NestValue) (old : List Branch) (ring : List Part) (up pair : Link) (outer : NestValue) (now : List Branch) (left after rest : List Part) (p q : Part) (way : Link) (next : List Branch) →
+    Laying root old ring up pair outer now left way → left ≡ p ∷ after → after ≡ q ∷ rest → count pair.from p.nest.members ≡ 0 →
+    next ≡ now ++ branch_of way p.nest p.next q.nest ∷ [] → Laying root old ring up pair outer next rest q.next
+laying_more root old ring up pair outer now left after rest p q way next l e f none g =
+    let is : left ≡ p ∷ q ∷ rest = e ∙ ap (λ (ps : List Part). p ∷ ps) f in
+    let m = subst (λ (ps : List Part). Laying root old ring up pair outer now ps way) is l in
+    subst (λ (bs : List Branch). Laying root old ring up pair outer bs rest q.next) (sym g) (record {
+      can = can_more root now p q rest way pair outer m.can none;
+      does = λ new cs k. m.does new cs (does_more root now p q rest way pair outer new cs k);
+    })
+
+coupled_joined : (p : Part) (ps : List Part) → length ps % 2 ≡ 0 → Linked p ps → Each IsJoined (couples_along ps)
+coupled_joined p [] even l = tt
+coupled_joined p (q ∷ []) even l = absurd (omega arith)
+coupled_joined p (q ∷ r ∷ ps) even l =
+    let less : length ps % 2 ≡ 0 = omega arith in
+    (record { from = l.1.0.0; to = l.1.0.1 }, coupled_joined r ps less l.1.1)
+
+coupled_firm : (d : ℕ → ℕ → ℕ) (h : ℕ → ℕ) (ps : List Part) → Each (IsFirmPart d h) ps → Each (IsFirmCouple d h) (couples_along ps)
+coupled_firm d h [] t = tt
+coupled_firm d h (q ∷ []) t = tt
+coupled_firm d h (q ∷ r ∷ ps) t = (record { link = t.0.next; first = t.0.nest; second = t.1.0.nest }, coupled_firm d h ps t.1.1)
+
+lays_last : (root : NestValue) (now : List Branch) (p : Part) (ps : List Part) (way pair : Link) (outer : NestValue) → CanLay root now (p ∷ ps) way pair outer →
+    1 ≤ count pair.from p.nest.members → Lays root now (p ∷ ps) way pair outer (now ++ branch_of way p.nest pair outer ∷ []) (couples_along ps)
+lays_last root now p ps way pair outer c here =
+    let b = branch_of way p.nest pair outer in
+    let even : length ps % 2 ≡ 0 = omega (arith, c.odd) in
+    let one : count pair.from p.nest.members ≡ 1 = omega (arith, c.once pair.from, count-append pair.from p.nest.members (members_in ps)) in
+    record {
+      grown = grown_push root.members now b c.grown c.from c.into.0 one c.to;
+      joined = coupled_joined p ps even c.into.1;
+      places = λ x. omega (arith, outer_members_push x root.members now b, inner_members_push x now b, members_coupled x ps even, count-append x p.nest.members (members_in ps));
+      more = λ x. omega (arith, outer_members_push x root.members now b);
+      sums = λ F add. omega (arith, branch_bands_push F add now b, bands_coupled F add ps even, add (bands p.nest) (bands_in ps));
+      fewer = omega (arith, inner_bands_push (λ (ks : List Band). length ks) size-append now b, bands_coupled (λ (ks : List Band). length ks) size-append ps even, size-append (bands p.nest) (bands_in ps));
+      firm = λ d h t w a parts o. (each-push (IsFirm d h) now b t (record { up = w; pair = a; inner = parts.0.nest; outer = o }), coupled_firm d h ps parts.1);
+    }
+
+pub laid : (root : NestValue) (old : List Branch) (ring : List Part) (up pair : Link) (outer top : NestValue) (now : List Branch) (left rest : List Part) (p : Part) (way : Link) (new : List Branch) (cs : List Couple) →
+    top ≡ outer → Laying root old ring up pair outer now left way → left ≡ p ∷ rest → 1 ≤ count pair.from p.nest.members →
+    new ≡ now ++ branch_of way p.nest pair top ∷ [] → cs ≡ couples_along rest → Lays root old ring up pair outer new cs
+laid root old ring up pair outer top now left rest p way new cs s l e here f g =
+    let m = subst (λ (ps : List Part). Laying root old ring up pair outer now ps way) e l in
+    let f2 : new ≡ now ++ branch_of way p.nest pair outer ∷ [] = f ∙ ap (λ (t : NestValue). now ++ branch_of way p.nest pair t ∷ []) s in
+    let done = m.does _ _ (lays_last root now p rest way pair outer m.can here) in
+    let moved = subst (λ (bs : List Branch). Lays root old ring up pair outer bs (couples_along rest)) (sym f2) done in
+    subst (λ (ks : List Couple). Lays root old ring up pair outer new ks) (sym g) moved

@@ -1,0 +1,43 @@
+-- Facts of each item of joined lists.
+use Rattle.std.proofs.Common.{◌≡◌, ℕ, suc, zero, List, [], ◌∷◌, ◌++◌, take, drop, length, ◌+◌, ◌<◌, get_or, drop-cons, add-one, sym, ap, ◌∙◌}
+use Rattle.blossom_match.specs.Lists.{Each, EachPair}
+
+pub each-append : {X : Type 0} (P : X → Type 0) (xs ys : List X) → Each P xs → Each P ys → Each P (xs ++ ys)
+each-append P [] ys p q = q
+each-append P (x ∷ xs) ys p q = (p.0, each-append P xs ys p.1 q)
+
+pub each-left : {X : Type 0} (P : X → Type 0) (xs ys : List X) → Each P (xs ++ ys) → Each P xs
+each-left P [] ys p = tt
+each-left P (x ∷ xs) ys p = (p.0, each-left P xs ys p.1)
+
+pub each-right : {X : Type 0} (P : X → Type 0) (xs ys : List X) → Each P (xs ++ ys) → Each P ys
+each-right P [] ys p = p
+each-right P (x ∷ xs) ys p = each-right P xs ys p.1
+
+pub each-push : {X : Type 0} (P : X → Type 0) (xs : List X) (y : X) → Each P xs → P y → Each P (xs ++ y ∷ [])
+each-push P xs y p q = each-append P xs (y ∷ []) p (q, tt)
+
+pub each-last : {X : Type 0} (P : X → Type 0) (xs : List X) (y : X) → Each P (xs ++ y ∷ []) → P y
+each-last P xs y p = (each-right P xs (y ∷ []) p).0
+
+pub each-drop : {X : Type 0} (P : X → Type 0) (i : ℕ) (xs : List X) → Each P xs → Each P (drop i xs)
+each-drop P zero xs p = p
+each-drop P (suc i) [] p = p
+each-drop P (suc i) (x ∷ xs) p = each-drop P i xs p.1
+
+pub each-take : {X : Type 0} (P : X → Type 0) (i : ℕ) (xs : List X) → Each P xs → Each P (take i xs)
+each-take P zero xs p = tt
+each-take P (suc i) [] p = p
+each-take P (suc i) (x ∷ xs) p = (p.0, each-take P i xs p.1)
+
+pub each-map : {X : Type 0} (P Q : X → Type 0) (f : (x : X) → P x → Q x) (xs : List X) → Each P xs → Each Q xs
+each-map P Q f [] p = tt
+each-map P Q f (x ∷ xs) p = (f x p.0, each-map P Q f xs p.1)
+
+pub pairs-append : {X : Type 0} (R : X → X → Type 0) (xs ys : List X) → EachPair R xs → EachPair R ys → Each (λ (x : X). Each (R x) ys) xs → EachPair R (xs ++ ys)
+pairs-append R [] ys p q across = q
+pairs-append R (x ∷ xs) ys p q across = (each-append (R x) xs ys p.0 across.0, pairs-append R xs ys p.1 q across.1)
+
+-- the item at the index comes first among those that are left
+pub drop_here : {X : Type 0} (xs : List X) (i : ℕ) (x : X) → i < length xs → x ≡ get_or xs i x → drop i xs ≡ x ∷ drop (i + 1) xs
+drop_here {X} xs i x low is = rw add-one (drop-cons xs i x low ∙ ap (λ (y : X). y ∷ drop (suc i) xs) (sym is))

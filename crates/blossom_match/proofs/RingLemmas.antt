@@ -1,0 +1,82 @@
+-- Rings told from another part.
+use Rattle.std.proofs.Common.{◌≡◌, ℕ, ◌+◌, ◌≤◌, ◌<◌, ◌%◌, suc, List, [], ◌∷◌, ◌++◌, length, take, drop, get_or, drop-cons, add-one, arith, refl, sym, ap, subst, ◌∙◌, append_assoc, length-append}
+use Rattle.std.proofs.lemmas.List.{append-nil, take-append-drop}
+use Rattle.blossom_match.specs.Bands.{NoneHold, Kept, bands, count, IsPaid, TollIsPaid}
+use Rattle.blossom_match.specs.Rings.{members_in, bands_in, toll_of, tolls_along, Joins, Linked, ring_tolls, IsLinkedRing, AllKept, IsMade, IsNest, nest_of, nest_value}
+use Rattle.blossom_match.specs.declared.nest.Part.{Part}
+use Rattle.blossom_match.specs.declared.nest.Nest.TheInside.{Inside}
+use Rattle.blossom_match.proofs.SumLemmas.{count-append, NoneHold-append, none_hold}
+
+-- a chain that goes on by one part
+Linked_on : (p a b : Part) (qs : List Part) → Linked p (qs ++ a ∷ []) → Joins a b → Linked p ((qs ++ a ∷ []) ++ b ∷ [])
+Linked_on p a b [] l j = (l.0, (j, tt))
+Linked_on p a b (q ∷ qs) l j = (l.0, Linked_on q a b qs l.1 j)
+
+paid_on : (d : ℕ → ℕ → ℕ) (p a b : Part) (qs : List Part) →
+    IsPaid d (tolls_along p (qs ++ a ∷ [])) → TollIsPaid d (toll_of a b) → IsPaid d (tolls_along p ((qs ++ a ∷ []) ++ b ∷ []))
+paid_on d p a b [] l j = (l.0, (j, tt))
+paid_on d p a b (q ∷ qs) l j = (l.0, paid_on d q a b qs l.1 j)
+
+ring_by_one : (p : Part) (ps : List Part) → IsLinkedRing (p ∷ ps) → IsLinkedRing (ps ++ p ∷ [])
+ring_by_one p [] l = l
+ring_by_one p (q ∷ qs) l = Linked_on q p q qs l.1 l.0
+
+paid_by_one : (d : ℕ → ℕ → ℕ) (p : Part) (ps : List Part) → IsPaid d (ring_tolls (p ∷ ps)) → IsPaid d (ring_tolls (ps ++ p ∷ []))
+paid_by_one d p [] l = l
+paid_by_one d p (q ∷ qs) l = paid_on d q p q qs l.1 l.0
+
+shifted : (xs ys : List Part) (x : Part) → (ys ++ x ∷ []) ++ xs ≡ ys ++ (x ∷ xs)
+shifted xs ys x = append_assoc ys (x ∷ []) xs
+
+-- a ring stays linked when it is told from another part
+pub ring_turned : (xs ys : List Part) → IsLinkedRing (xs ++ ys) → IsLinkedRing (ys ++ xs)
+ring_turned [] ys l = subst IsLinkedRing (sym (append-nil ys)) l
+ring_turned (x ∷ xs) ys l =
+    subst IsLinkedRing (shifted xs ys x)
+    (ring_turned xs (ys ++ x ∷ []) (subst IsLinkedRing (append_assoc xs ys (x ∷ [])) (ring_by_one x (xs ++ ys) l)))
+
+pub paid_turned : (d : ℕ → ℕ → ℕ) (xs ys : List Part) → IsPaid d (ring_tolls (xs ++ ys)) → IsPaid d (ring_tolls (ys ++ xs))
+paid_turned d [] ys l = subst (λ (zs : List Part). IsPaid d (ring_tolls zs)) (sym (append-nil ys)) l
+paid_turned d (x ∷ xs) ys l =
+    subst (λ (zs : List Part). IsPaid d (ring_tolls zs)) (shifted xs ys x)
+    (paid_turned d xs (ys ++ x ∷ []) (subst (λ (zs : List Part). IsPaid d (ring_tolls zs)) (append_assoc xs ys (x ∷ [])) (paid_by_one d x (xs ++ ys) l)))
+
+-- the part at the index does not hold the place: a later one does
+pub held_later : (x : ℕ) (ps : List Part) (i : ℕ) (p : Part) → i < length ps → p ≡ get_or ps i p → count x p.nest.members ≡ 0 →
+    1 ≤ count x (members_in (drop i ps)) → 1 ≤ count x (members_in (drop (i + 1) ps))
+held_later x ps i p lt is none some =
+    let e : drop i ps ≡ get_or ps i p ∷ drop (suc i) ps = drop-cons ps i p lt in
+    let f : count x (members_in (drop i ps)) ≡ count x (get_or ps i p).nest.members + count x (members_in (drop (i + 1) ps)) =
+    rw (add-one, e) (count-append x (get_or ps i p).nest.members (members_in (drop (suc i) ps))) in
+    let g : count x (get_or ps i p).nest.members ≡ 0 = subst (λ (q : Part). count x q.nest.members ≡ 0) is none in
+    omega arith
+
+pub members_in-append : (x : ℕ) (ps qs : List Part) → count x (members_in (ps ++ qs)) ≡ count x (members_in ps) + count x (members_in qs)
+members_in-append x [] qs = omega arith
+members_in-append x (p ∷ ps) qs =
+    omega (arith, members_in-append x ps qs, count-append x p.nest.members (members_in (ps ++ qs)), count-append x p.nest.members (members_in ps))
+
+pub members_turned : (x : ℕ) (i : ℕ) (ps : List Part) → count x (members_in (drop i ps ++ take i ps)) ≡ count x (members_in ps)
+members_turned x i ps =
+    omega (arith, members_in-append x (drop i ps) (take i ps), members_in-append x (take i ps) (drop i ps), ap (λ (qs : List Part). count x (members_in qs)) (take-append-drop i ps))
+
+pub members_size : (ps : List Part) → AllKept ps → (length (members_in ps) + length ps) % 2 ≡ 0
+members_size [] all = refl
+members_size (p ∷ ps) all = omega (arith, length-append p.nest.members (members_in ps), members_size ps all.1, all.0.odd)
+
+pub none_in : (x : ℕ) (ps : List Part) → AllKept ps → count x (members_in ps) ≡ 0 → NoneHold x (bands_in ps)
+none_in x [] all none = tt
+none_in x (p ∷ ps) all none =
+    let c = count-append x p.nest.members (members_in ps) in
+    NoneHold-append x (bands p.nest) (bands_in ps) (none_hold x p.nest all.0 (omega (arith, c))) (none_in x ps all.1 (omega (arith, c)))
+
+pub made_kept : (ms : List ℕ) (w : ℕ) (ps : List Part) → IsMade ms ps → Kept (nest_of ms w ps)
+made_kept ms w [] one = record { odd = omega (arith, one); covered = λ x none. tt; single = λ e. one }
+made_kept ms w (p ∷ ps) made = record {
+  odd = omega (arith, ap (λ (xs : List ℕ). length xs) made.0, members_size (p ∷ ps) made.1.kept, made.1.odd);
+  covered = λ x none. none_in x (p ∷ ps) made.1.kept (sym (ap (λ (xs : List ℕ). count x xs) made.0) ∙ none);
+  single = λ e. absurd (omega arith);
+}
+
+pub nest_kept : (a : Inside) → IsNest a → Kept (nest_value a)
+nest_kept a nest = made_kept a.members.items a.width a.parts.items nest

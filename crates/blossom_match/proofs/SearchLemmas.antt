@@ -1,0 +1,261 @@
+-- Each step leads from a search to a search.
+use Rattle.std.proofs.Common.{◌≡◌, ℕ, ◌+◌, ◌≤◌, ◌<◌, suc, List, [], ◌∷◌, ◌++◌, length, take, drop, Bool, true, false, cond, ltb, arith, refl, sym, ap, subst, ◌∙◌, drop-cons, get_or}
+use Rattle.std.proofs.lemmas.Bool.{ltb-true, ltb-false}
+use Rattle.std.proofs.lemmas.List.{take-append-drop}
+use Rattle.blossom_match.specs.Lists.{Each}
+use Rattle.blossom_match.specs.Bands.{Adds, Band, NestValue, bands, count, height, hit, load}
+use Rattle.blossom_match.specs.Rings.{back_of, single_of}
+use Rattle.blossom_match.specs.Couples.{couple_members, couple_bands, IsJoined}
+use Rattle.blossom_match.specs.Sound.{IsFirm, IsFirmCouple, IsSound, IsSymmetric, IsTight}
+use Rattle.blossom_match.specs.Trees.{branch_bands, hung_by, inner_bands, inner_members, outer_members, IsGrown, Augments, TakesOut}
+use Rattle.blossom_match.specs.Shrinks.{Shrinks}
+use Rattle.blossom_match.specs.Lays.{Expands}
+use Rattle.blossom_match.specs.Searches.{is_place, outers, Advances, Ends, IsSearch, IsStanding}
+use Rattle.blossom_match.specs.TableValue.{TableValue}
+use Rattle.blossom_match.specs.Tables.{entry}
+use Rattle.blossom_match.specs.declared.nest.Link.{Link}
+use Rattle.blossom_match.specs.declared.couples.Couple.{Couple}
+use Rattle.blossom_match.specs.declared.branches.Branch.{Branch}
+use Rattle.blossom_match.specs.declared.search.Search.{Search}
+use Rattle.blossom_match.specs.declared.search.Standing.{Standing}
+use Rattle.blossom_match.specs.declared.search.Step.TheVariants.{Meet, Grow, Shrink, Expand}
+use Rattle.blossom_match.proofs.ListLemmas.{each-append, each-left, each-right, each-push}
+use Rattle.blossom_match.proofs.SumLemmas.{count-append, height-append, hit_is, hit_same, load-append, low, size-append}
+use Rattle.blossom_match.proofs.RingLemmas.{made_kept}
+use Rattle.blossom_match.proofs.ShrinkLemmas.{tight_back}
+use Rattle.blossom_match.proofs.TableLemmas.{entry-comm}
+use Rattle.blossom_match.proofs.TreeLemmas.{base_in, branch_bands_push, couple_bands-append, couple_members-append, grown_push, inner_bands_push, inner_members_push, outer_members_push}
+
+pub shrunk : (link : Link) (s r : Search) → Shrinks link s.root r.root s.tree.items r.tree.items → r.rest.items ≡ s.rest.items → r.free.items ≡ s.free.items → Advances s (Shrink link) r
+shrunk link s r sh e f = record {
+  search = λ t h i ready.
+      let firm = sh.firm (entry t) h (entry-comm t) ready.3 i.root i.tree in
+      record {
+        tall = λ x. omega (arith, i.tall x, sh.sums (height x) (height-append x), ap (λ (cs : List Couple). height x (couple_bands cs)) e);
+        places = λ x. omega (arith, i.places x, sh.places x, ap (λ (cs : List Couple). count x (couple_members cs)) e, ap (λ (xs : List ℕ). count x xs) f);
+        grown = sh.grown;
+        joined = subst (λ (cs : List Couple). Each IsJoined cs) (sym e) i.joined;
+        root = firm.0;
+        tree = firm.1;
+        rest = subst (λ (cs : List Couple). Each (IsFirmCouple (entry t) h) cs) (sym e) i.rest;
+        loads = λ a b la lb ne. omega (arith, i.loads a b la lb ne, sh.sums (load a b) (load-append a b), ap (λ (cs : List Couple). load a b (couple_bands cs)) e);
+      };
+  fewer = omega (arith, sh.fewer, ap (λ (cs : List Couple). length (couple_bands cs)) e);
+  free = f;
+}
+
+pub came_apart : (at : ℕ) (s r : Search) → Expands s.root s.tree.items r.tree.items s.rest.items r.rest.items → r.root ≡ s.root → r.free.items ≡ s.free.items → Advances s (Expand at) r
+came_apart at s r ex e f = record {
+  search = λ t h i ready.
+      let firm = ex.firm (entry t) h (entry-comm t) i.tree i.rest in
+      record {
+        tall = λ x. omega (arith, i.tall x, ex.sums (height x) (height-append x), ap (λ (v : NestValue). height x (bands v)) e);
+        places = λ x. omega (arith, i.places x, ex.places x, ap (λ (v : NestValue). count x (outer_members v.members r.tree.items)) e, ap (λ (xs : List ℕ). count x xs) f);
+        grown = subst (λ (v : NestValue). IsGrown v.members r.tree.items) (sym e) ex.grown;
+        joined = ex.joined i.joined;
+        root = subst (λ (v : NestValue). IsSound (entry t) h v) (sym e) i.root;
+        tree = firm.0;
+        rest = firm.1;
+        loads = λ a b la lb ne. omega (arith, i.loads a b la lb ne, ex.sums (load a b) (load-append a b), ap (λ (v : NestValue). load a b (bands v)) e);
+      };
+  fewer = ex.fewer;
+  free = f;
+}
+
+-- what a couple's sets are as a branch
+record IsHung (up : Link) (c : Couple) (b : Branch) : Type 0 where
+  same : b.up ≡ up
+  counts : (x : ℕ) → count x b.inner.members + count x b.outer.members ≡ count x c.first.members + count x c.second.members
+  sums : (F : List Band → ℕ) → F (bands b.inner) + F (bands b.outer) ≡ F (bands c.first) + F (bands c.second)
+  up_to : count up.to b.inner.members ≡ 1
+  pair_from : count b.pair.from b.inner.members ≡ 1
+  pair_to : count b.pair.to b.outer.members ≡ 1
+  firm : (d : ℕ → ℕ → ℕ) (h : ℕ → ℕ) → IsSymmetric d → IsTight d h up → IsFirmCouple d h c → IsFirm d h b
+
+hung_case : (b : Bool) (up : Link) (c : Couple) → ltb 0 (count up.to c.first.members) ≡ b → count up.to c.first.members + count up.to c.second.members ≡ 1 → IsJoined c → IsHung up c (cond b (record { up = up; inner = c.first; pair = c.link; outer = c.second }) (record { up = up; inner = c.second; pair = back_of c.link; outer = c.first }))
+hung_case true up c is one j =
+    let some = ltb-true 0 (count up.to c.first.members) is in
+    record {
+      same = refl;
+      counts = λ x. refl;
+      sums = λ F. refl;
+      up_to = omega (arith, some, one);
+      pair_from = j.from;
+      pair_to = j.to;
+      firm = λ d h sy t f. record { up = t; pair = f.link; inner = f.first; outer = f.second };
+    }
+hung_case false up c is one j =
+    let none = ltb-false 0 (count up.to c.first.members) is in
+    record {
+      same = refl;
+      counts = λ x. omega arith;
+      sums = λ F. omega arith;
+      up_to = omega (arith, none, one);
+      pair_from = j.to;
+      pair_to = j.from;
+      firm = λ d h sy t f. record { up = t; pair = tight_back d h c.link sy f.link; inner = f.second; outer = f.first };
+    }
+
+hung_is : (up : Link) (c : Couple) → count up.to c.first.members + count up.to c.second.members ≡ 1 → IsJoined c → IsHung up c (hung_by up c)
+hung_is up c one j = hung_case (ltb 0 (count up.to c.first.members)) up c refl one j
+
+members_split : (x : ℕ) (before after : List Couple) (c : Couple) →
+    count x (couple_members (before ++ c ∷ after)) ≡ count x (couple_members (before ++ after)) + count x c.first.members + count x c.second.members
+members_split x before after c =
+    omega (arith, couple_members-append x before (c ∷ after), couple_members-append x before after, count-append x c.first.members (c.second.members ++ couple_members after), count-append x c.second.members (couple_members after))
+
+bands_split : (F : List Band → ℕ) → Adds F → (before after : List Couple) (c : Couple) →
+    F (couple_bands (before ++ c ∷ after)) ≡ F (couple_bands (before ++ after)) + F (bands c.first) + F (bands c.second)
+bands_split F add before after c =
+    omega (arith, couple_bands-append F add before (c ∷ after), couple_bands-append F add before after, add (bands c.first) (bands c.second ++ couple_bands after), add (bands c.second) (couple_bands after))
+
+without : (P : Couple → Type 0) (before after : List Couple) (c : Couple) → Each P (before ++ c ∷ after) → P c × Each P (before ++ after)
+without P before after c all =
+    let rest = each-right P before (c ∷ after) all in
+    (rest.0, each-append P before after (each-left P before (c ∷ after) all) rest.1)
+
+one_case : (b : Bool) → cond b 1 0 ≤ 1
+one_case true = omega arith
+one_case false = omega arith
+
+pub is_one : (t : TableValue) (x : ℕ) → is_place t x ≤ 1
+is_one t x = one_case (ltb x t.places)
+
+-- the inner set of a couple's branch is fewer sets than the couple
+abbrev InnerIsFewer : Couple → Branch → Type 0
+InnerIsFewer c b = length (bands b.inner) < length (bands c.first) + length (bands c.second)
+
+hung_fewer : (p : Bool) (up : Link) (c : Couple) →
+    InnerIsFewer c (cond p (record { up = up; inner = c.first; pair = c.link; outer = c.second }) (record { up = up; inner = c.second; pair = back_of c.link; outer = c.first }))
+hung_fewer true up c = omega arith
+hung_fewer false up c = omega arith
+
+pub hung : (link : Link) (s r : Search) (c : Couple) → TakesOut link.to s.rest.items r.rest.items c → r.tree.items ≡ s.tree.items ++ hung_by link c ∷ [] → r.root ≡ s.root → r.free.items ≡ s.free.items →
+    Advances s (Grow link) r
+hung link s r c out g e f =
+    let b = hung_by link c in
+    let sizes = λ (ks : List Band). length ks in
+    let was = λ (F : List Band → ℕ) (add : Adds F). ap (λ (cs : List Couple). F (couple_bands cs)) out.was ∙ bands_split F add out.before out.after c in
+    let now = λ (F : List Band → ℕ). ap (λ (cs : List Couple). F (couple_bands cs)) out.now in
+    let held = λ (x : ℕ). ap (λ (cs : List Couple). count x (couple_members cs)) out.was ∙ members_split x out.before out.after c in
+    let kept = λ (x : ℕ). ap (λ (cs : List Couple). count x (couple_members cs)) out.now in
+    let grew = λ (F : List Band → ℕ) (add : Adds F). ap (λ (ks : List Branch). F (branch_bands ks)) g ∙ branch_bands_push F add s.tree.items b in
+    let outside = λ (x : ℕ). ap (λ (v : NestValue). count x (outer_members v.members r.tree.items)) e ∙ ap (λ (ks : List Branch). count x (outer_members s.root.members ks)) g ∙ outer_members_push x s.root.members s.tree.items b in
+    let inside = λ (x : ℕ). ap (λ (ks : List Branch). count x (inner_members ks)) g ∙ inner_members_push x s.tree.items b in
+    record {
+      search = λ t h i ready.
+          let joined = without IsJoined out.before out.after c (subst (λ (cs : List Couple). Each IsJoined cs) out.was i.joined) in
+          let firm = without (IsFirmCouple (entry t) h) out.before out.after c (subst (λ (cs : List Couple). Each (IsFirmCouple (entry t) h) cs) out.was i.rest) in
+          let k = hung_is link c (omega (arith, out.here, held link.to, i.places link.to, is_one t link.to)) joined.0 in
+          record {
+            tall = λ x. omega (arith, i.tall x, was (height x) (height-append x), now (height x), grew (height x) (height-append x), k.sums (height x), ap (λ (v : NestValue). height x (bands v)) e);
+            places = λ x. omega (arith, i.places x, held x, kept x, outside x, inside x, k.counts x, ap (λ (xs : List ℕ). count x xs) f);
+            grown = subst (λ (v : NestValue). IsGrown v.members r.tree.items) (sym e) (subst (λ (ks : List Branch). IsGrown s.root.members ks) (sym g)
+                (grown_push s.root.members s.tree.items b i.grown (subst (λ (l : Link). 1 ≤ count l.from (outers s)) (sym k.same) ready.0)
+                (subst (λ (l : Link). count l.to b.inner.members ≡ 1) (sym k.same) k.up_to) k.pair_from k.pair_to));
+            joined = subst (λ (cs : List Couple). Each IsJoined cs) (sym out.now) joined.1;
+            root = subst (λ (v : NestValue). IsSound (entry t) h v) (sym e) i.root;
+            tree = subst (λ (ks : List Branch). Each (IsFirm (entry t) h) ks) (sym g) (each-push (IsFirm (entry t) h) s.tree.items b i.tree (k.firm (entry t) h (entry-comm t) ready.2 firm.0));
+            rest = subst (λ (cs : List Couple). Each (IsFirmCouple (entry t) h) cs) (sym out.now) firm.1;
+            loads = λ x y lx ly ne. omega (arith, i.loads x y lx ly ne, was (load x y) (load-append x y), now (load x y), grew (load x y) (load-append x y), k.sums (load x y), ap (λ (v : NestValue). load x y (bands v)) e);
+          };
+      fewer = omega (
+        arith,
+        hung_fewer (ltb 0 (count link.to c.first.members)) link c,
+        ap (λ (ks : List Branch). length (inner_bands ks)) g ∙ inner_bands_push sizes size-append s.tree.items b,
+        was sizes size-append,
+        now sizes,
+      );
+      free = f;
+    }
+
+-- a place in no set has height 0
+pub low_branches : (d : ℕ → ℕ → ℕ) (h : ℕ → ℕ) (x : ℕ) (base : List ℕ) (tree : List Branch) → Each (IsFirm d h) tree → count x (outer_members base tree) ≡ 0 → count x (inner_members tree) ≡ 0 →
+    height x (branch_bands tree) ≡ 0
+low_branches d h x base [] f none empty = refl
+low_branches d h x base (b ∷ bs) f none empty =
+    let o = count-append x b.outer.members (outer_members base bs) in
+    let i = count-append x b.inner.members (inner_members bs) in
+    omega (
+      arith,
+      low x b.inner f.0.inner.kept (omega (arith, i, empty)),
+      low x b.outer f.0.outer.kept (omega (arith, o, none)),
+      low_branches d h x base bs f.1 (omega (arith, o, none)) (omega (arith, i, empty)),
+      height-append x (bands b.inner) (bands b.outer ++ branch_bands bs),
+      height-append x (bands b.outer) (branch_bands bs),
+    )
+
+pub low_couples : (d : ℕ → ℕ → ℕ) (h : ℕ → ℕ) (x : ℕ) (cs : List Couple) → Each (IsFirmCouple d h) cs → count x (couple_members cs) ≡ 0 → height x (couple_bands cs) ≡ 0
+low_couples d h x [] f none = refl
+low_couples d h x (c ∷ cs) f none =
+    let o = count-append x c.first.members (c.second.members ++ couple_members cs) in
+    let i = count-append x c.second.members (couple_members cs) in
+    omega (
+      arith,
+      low x c.first f.0.first.kept (omega (arith, o, i, none)),
+      low x c.second f.0.second.kept (omega (arith, o, i, none)),
+      low_couples d h x cs f.1 (omega (arith, o, i, none)),
+      height-append x (bands c.first) (bands c.second ++ couple_bands cs),
+      height-append x (bands c.second) (couple_bands cs),
+    )
+
+pub low_free : (t : TableValue) (h : ℕ → ℕ) (s : Search) (x : ℕ) → IsSearch t h s → 1 ≤ count x s.free.items → h x ≡ 0
+low_free t h s x i some =
+    let one = is_one t x in
+    omega (
+      arith,
+      i.tall x,
+      low x s.root i.root.kept (omega (arith, i.places x, one, base_in x s.root.members s.tree.items, some)),
+      low_branches (entry t) h x s.root.members s.tree.items i.tree (omega (arith, i.places x, one, some)) (omega (arith, i.places x, one, some)),
+      low_couples (entry t) h x s.rest.items i.rest (omega (arith, i.places x, one, some)),
+    )
+
+-- one place of height 0 is a sound set
+pub single_sound : (d : ℕ → ℕ → ℕ) (h : ℕ → ℕ) (x : ℕ) → h x ≡ 0 → IsSound d h (single_of x)
+single_sound d h x none =
+    let at = λ (y : ℕ) (here : 1 ≤ hit y x + 0). ap h (hit_is y x (omega (arith, here))) ∙ none in
+    record {
+      kept = made_kept (x ∷ []) 0 [] refl;
+      paid = tt;
+      local = λ y here. omega (arith, at y here);
+      even = λ y z hy hz. omega (arith, at y hy, at z hz);
+    }
+
+pub met : (link : Link) (s : Search) (r : Standing) (m : NestValue) → Augments s.root m link s.tree.items s.rest.items r.couples.items → m ≡ single_of link.to →
+    ((x : ℕ) → count x r.free.items + hit x link.to ≡ count x s.free.items) → length r.free.items + 1 ≡ length s.free.items → Ends s (Meet link) r
+met link s r m aug e counts fewer =
+    let at = λ (F : List Band → ℕ). ap (λ (v : NestValue). F (bands v)) e in
+    record {
+      standing = λ t h i ready. record {
+        tall = λ x. omega (arith, i.tall x, aug.sums (height x) (height-append x), at (height x));
+        places = λ x. omega (arith, i.places x, aug.places x, ap (λ (v : NestValue). count x v.members) e, counts x);
+        joined = aug.joined i.joined;
+        firm = aug.firm (entry t) h ready.2 i.root (subst (λ (v : NestValue). IsSound (entry t) h v) (sym e) (single_sound (entry t) h link.to (low_free t h s link.to i ready.1))) i.tree i.rest;
+        loads = λ a b la lb ne. omega (arith, i.loads a b la lb ne, aug.sums (load a b) (load-append a b), at (load a b));
+      };
+      fewer = fewer;
+    }
+
+-- a place is taken from the free ones
+pub taken_place : (x : ℕ) (xs new : List ℕ) (i place : ℕ) → i < length xs → get_or xs i 0 ≡ place → new ≡ take i xs ++ drop (suc i) xs → count x new + hit x place ≡ count x xs
+taken_place x xs new i place low is e =
+    let here : drop i xs ≡ place ∷ drop (suc i) xs = drop-cons xs i 0 low ∙ ap (λ (y : ℕ). y ∷ drop (suc i) xs) is in
+    omega (arith, ap (λ (ys : List ℕ). count x ys) e, count-append x (take i xs) (drop (suc i) xs), ap (λ (ys : List ℕ). count x ys) (take-append-drop i xs), count-append x (take i xs) (drop i xs), ap (λ (ys : List ℕ). count x ys) here)
+
+-- a search from a free place
+pub begun : (t : TableValue) (h : ℕ → ℕ) (place : ℕ) (s : Search) → IsStanding t h s.rest.items (s.free.items ++ place ∷ []) → s.root ≡ single_of place → s.tree.items ≡ [] → IsSearch t h s
+begun t h place s i e f =
+    let at = λ (x : ℕ). count-append x s.free.items (place ∷ []) in
+    let none = i.tall place ∙ low_couples (entry t) h place s.rest.items i.firm (omega (arith, i.places place, at place, is_one t place, hit_same place)) in
+    let sums = λ (F : List Band → ℕ). ap (λ (v : NestValue). F (bands v)) e in
+    let none_hung = λ (F : List Band → ℕ). ap (λ (bs : List Branch). F (branch_bands bs)) f in
+    record {
+      tall = λ x. omega (arith, i.tall x, sums (height x), none_hung (height x));
+      places = λ x. omega (arith, i.places x, at x, ap (λ (v : NestValue). count x (outer_members v.members s.tree.items)) e, ap (λ (bs : List Branch). count x (outer_members (place ∷ []) bs)) f, ap (λ (bs : List Branch). count x (inner_members bs)) f);
+      grown = subst (λ (bs : List Branch). IsGrown s.root.members bs) (sym f) tt;
+      joined = i.joined;
+      root = subst (λ (v : NestValue). IsSound (entry t) h v) (sym e) (single_sound (entry t) h place none);
+      tree = subst (λ (bs : List Branch). Each (IsFirm (entry t) h) bs) (sym f) tt;
+      rest = i.firm;
+      loads = λ a b la lb ne. omega (arith, i.loads a b la lb ne, sums (load a b), none_hung (load a b));
+    }

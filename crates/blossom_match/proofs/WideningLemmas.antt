@@ -1,0 +1,218 @@
+-- After a change of widths the step can be done, and all holds that held before.
+use Rattle.std.proofs.Common.{◌≡◌, ◌≢◌, ℕ, ◌+◌, ◌-◌, ◌*◌, ◌^◌, ◌≤◌, ◌<◌, suc, zero, List, [], ◌∷◌, ◌++◌, length, drop, arith, refl, sym, ap, subst, ◌∙◌, append_assoc}
+use Rattle.blossom_match.specs.Lists.{Each}
+use Rattle.blossom_match.specs.Bands.{Band, NestValue, apart, bands, count, height, load, with_width}
+use Rattle.blossom_match.specs.Couples.{couple_members, couple_bands, IsJoined}
+use Rattle.blossom_match.specs.Sound.{IsFirm, IsFirmCouple, IsSound, IsTight}
+use Rattle.blossom_match.specs.Trees.{around, both, branch_bands, inner_bands, inner_members, outer_members, IsGrown}
+use Rattle.blossom_match.specs.Lays.{FirstComesApart}
+use Rattle.blossom_match.specs.Searches.{holding_both, outers, IsReady, IsSearch}
+use Rattle.blossom_match.specs.Bounds.{height_of, Bounds, FirstIsDue, IsDue, RingIsWide}
+use Rattle.blossom_match.specs.Widths.{all_changed, CanChange, CanWiden, Changes, StepsOn, Widens}
+use Rattle.blossom_match.specs.TableValue.{TableValue}
+use Rattle.blossom_match.specs.Tables.{entry, IsTable, KeepsTriangles}
+use Rattle.blossom_match.specs.declared.table.TheConstants.{MAX_DISTANCE}
+use Rattle.blossom_match.specs.declared.nest.Link.{Link}
+use Rattle.blossom_match.specs.declared.couples.Couple.{Couple}
+use Rattle.blossom_match.specs.declared.branches.Branch.{Branch}
+use Rattle.blossom_match.specs.declared.search.Search.{Search}
+use Rattle.blossom_match.specs.declared.search.Step.{Step}
+use Rattle.blossom_match.specs.declared.search.Step.TheVariants.{Meet, Grow, Shrink, Expand}
+use Rattle.blossom_match.specs.declared.least.Change.{Change}
+use Rattle.blossom_match.proofs.ListLemmas.{each-right}
+use Rattle.blossom_match.proofs.SumLemmas.{count-append, height-append, hit_is, load-append, size-append, some_member}
+use Rattle.blossom_match.proofs.TreeLemmas.{base_in, inner-append, outer-append, outer_members_base}
+use Rattle.blossom_match.proofs.ExpandLemmas.{grown-right}
+use Rattle.blossom_match.proofs.ScanLemmas.{apart_from}
+use Rattle.blossom_match.proofs.SearchLemmas.{is_one}
+use Rattle.blossom_match.proofs.BoundLemmas.{in_place, load_of, loads_apart, place_in}
+use Rattle.blossom_match.proofs.TableLemmas.{entry-comm}
+use Rattle.blossom_match.proofs.WidthLemmas.{around-comm, around_same_all, between_in, between_out, branches_load, branches_tall, counted_in, counted_out, couples_same, drop_changed, each_split, firm_changed, grown_same, inner_same, inside, load-comm, more_wide, one_place, outer_limit, outer_same, set_limit, sizes_same, sound_up, times_by, wide_tall, within}
+
+-- the inner ring at which the step is due has no width after the change
+due_comes_apart : (by : ℕ) (bs : List Branch) → FirstIsDue by bs → FirstComesApart (all_changed by bs)
+due_comes_apart by [] due = due
+due_comes_apart by (b ∷ bs) due = (omega (arith, due.0), due.1)
+
+none_below : (v : ℕ) (bs : List Band) → length bs ≡ 0 → height v bs ≡ 0
+none_below v [] e = refl
+none_below v (b ∷ bs) e = absurd (omega arith)
+
+narrow_case : (n : ℕ) (t : TableValue) (h : ℕ → ℕ) (by : ℕ) (b : Branch) → length b.inner.below ≡ n → RingIsWide by b → IsFirm (entry t) h b → count b.up.to b.inner.members ≡ 1 → count b.pair.from b.inner.members ≡ 1 →
+    entry t b.up.from b.pair.to ≤ entry t b.up.from b.up.to + entry t b.up.to b.pair.to → h b.up.from + h b.pair.to + 2 * by ≤ 2 * entry t b.up.from b.pair.to → by ≤ b.inner.width
+narrow_case (suc n) t h by b e ring f to from triangle room = ring (omega (arith, e))
+narrow_case zero t h by b e ring f to from triangle room =
+    let v = b.up.to in
+    let same : v ≡ b.pair.from = one_place v b.pair.from b.inner.members (f.inner.kept.single e) (omega (arith, to)) (omega (arith, from)) in
+    let pair : 2 * entry t v b.pair.to ≡ h v + h b.pair.to = subst (λ (x : ℕ). 2 * entry t x b.pair.to ≡ h x + h b.pair.to) (sym same) f.pair in
+    let tall : height v (bands b.inner) ≡ h v = f.inner.local v (omega (arith, to)) in
+    omega (arith, f.up, pair, triangle, room, tall, none_below v b.inner.below e, ap (λ (k : ℕ). b.inner.width * k) to)
+
+-- each inner set has the width of the change: a ring by the bound on rings, a single place by the triangles
+can_change : (t : TableValue) (h : ℕ → ℕ) (s : Search) (c : Change) → IsTable t → KeepsTriangles t → IsSearch t h s → Bounds t h s c → 1 ≤ length s.free.items → Each (CanChange c.by) s.tree.items
+can_change t h s c is tri i b some =
+    let f = some_member s.free.items some in
+    each_split (CanChange c.by) s.tree.items s.tree.items [] refl (λ bs k after e.
+    let grown = grown-right s.root.members bs (k ∷ after) (subst (λ (ks : List Branch). IsGrown s.root.members ks) e i.grown) in
+    let firm = (each-right (IsFirm (entry t) h) bs (k ∷ after) (subst (λ (ks : List Branch). Each (IsFirm (entry t) h) ks) e i.tree)).0 in
+    let ring = (each-right (RingIsWide c.by) bs (k ∷ after) (subst (λ (ks : List Branch). Each (RingIsWide c.by) ks) e b.rings)).0 in
+    let at = λ (x : ℕ). ap (λ (ks : List Branch). count x (outer_members s.root.members ks)) e ∙ outer-append x s.root.members bs (k ∷ after) in
+    let on = λ (x : ℕ). count-append x k.outer.members (outer_members [] after) in
+    let deep = λ (x : ℕ). ap (λ (ks : List Branch). count x (inner_members ks)) e ∙ inner-append x bs (k ∷ after) in
+    let under = λ (x : ℕ). count-append x k.inner.members (inner_members after) in
+    let from : 1 ≤ count k.up.from (outers s) = omega (arith, at k.up.from, grown.0) in
+    let to : 1 ≤ count k.pair.to (outers s) = omega (arith, at k.pair.to, on k.pair.to, grown.3) in
+    let apart : holding_both k.up.from k.pair.to s ≡ 0 = subst (λ (ks : List Branch). both k.up.from k.pair.to s.root + around k.up.from k.pair.to ks ≡ 0) (sym e)
+    (apart_from k.up.from k.pair.to s.root bs k after (λ x. omega (arith, i.places x, is_one t x, ap (λ (ks : List Branch). count x (outer_members s.root.members ks)) e)) grown.0 (omega (arith, grown.3))) in
+    record {
+      room = set_limit (entry t) h k.outer c.by firm.outer (λ x. omega (arith, i.places x, is_one t x, at x, on x)) (λ x here. outer_limit t h s c x f.0 is i b f.1 (omega (arith, at x, on x, here)));
+      wide = narrow_case (length k.inner.below) t h c.by k refl ring firm grown.1 grown.2
+          (tri k.up.from k.up.to (place_in t k.up.from (omega (arith, i.places k.up.from, from))) (place_in t k.up.to (omega (arith, i.places k.up.to, deep k.up.to, under k.up.to, grown.1)))
+          k.pair.to (place_in t k.pair.to (omega (arith, i.places k.pair.to, to))))
+          (b.two k.up.from k.pair.to from to apart);
+    })
+
+pub can_widen : (s : Search) (c : Change) → CanWiden s c → (s.root.width + c.by < 2 ^ 32) × Each (CanChange c.by) s.tree.items
+can_widen s c w =
+    let f = some_member s.free.items w.some in (
+      set_limit (entry w.t) w.h s.root c.by w.search.root (λ x. omega (arith, w.search.places x, is_one w.t x, base_in x s.root.members s.tree.items))
+          (λ x here. outer_limit w.t w.h s c x f.0 w.table w.search w.bounds f.1 (omega (arith, base_in x s.root.members s.tree.items, here))),
+      can_change w.t w.h s c w.table w.triangles w.search w.bounds w.some,
+    )
+
+-- how the heights move
+moved : (by : ℕ) (s r : Search) → Changes by s r → Each (CanChange by) s.tree.items → (x : ℕ) →
+    height_of r x + by * count x (inner_members s.tree.items) ≡ height_of s x + by * count x (outers s)
+moved by s r ch can x =
+    omega (
+      arith,
+      branches_tall x by s.tree.items can,
+      wide_tall x by s.root,
+      ap (λ (v : NestValue). height x (bands v)) ch.root,
+      ap (λ (ks : List Branch). height x (branch_bands ks)) ch.tree,
+      ap (λ (cs : List Couple). height x (couple_bands cs)) ch.rest,
+      times_by by _ _ _ (outer-append x s.root.members [] s.tree.items),
+    )
+
+-- the bound on a place of an outer set and any other that no set holds with it
+room_case : (n : ℕ) (t : TableValue) (h : ℕ → ℕ) (s : Search) (c : Change) (a b : ℕ) → IsSearch t h s → Bounds t h s c → b < t.places → 1 ≤ count a (outers s) → count b (inner_members s.tree.items) ≡ 0 → holding_both a b s ≡ 0 →
+    count b (outers s) ≡ n → h a + h b + c.by ≤ 2 * entry t a b
+room_case zero t h s c a b i bd lb ha none apart e = bd.one a b ha (omega (arith, i.places b, in_place t b lb, none, e))
+room_case (suc n) t h s c a b i bd lb ha none apart e = omega (arith, bd.two a b ha (omega (arith, e)) apart)
+
+one_room : (t : TableValue) (h : ℕ → ℕ) (s : Search) (c : Change) (a b : ℕ) → IsSearch t h s → Bounds t h s c → b < t.places → 1 ≤ count a (outers s) → count b (inner_members s.tree.items) ≡ 0 → holding_both a b s ≡ 0 →
+    h a + h b + c.by ≤ 2 * entry t a b
+one_room t h s c a b i bd lb ha none apart = room_case (count b (outers s)) t h s c a b i bd lb ha none apart refl
+
+abbrev apart_of : ℕ → ℕ → NestValue → ℕ
+apart_of a b n = apart (count a n.members) (count b n.members)
+
+sum_all : (by r1 r2 r3 s1 s2 s3 c2 ao bo bi : ℕ) → r1 ≡ s1 + by * ao → r2 ≡ c2 → r3 ≡ s3 → c2 + by * bi ≡ s2 + by * bo → r1 + r2 + r3 + by * bi ≡ s1 + s2 + s3 + by * (ao + bo)
+sum_all by r1 r2 r3 s1 s2 s3 c2 ao bo bi e f g k = omega arith
+
+load_of-comm : (s : Search) (a b : ℕ) → load_of s a b ≡ load_of s b a
+load_of-comm s a b = omega (arith, load-comm a b (bands s.root), load-comm a b (branch_bands s.tree.items), load-comm a b (couple_bands s.rest.items))
+
+-- exactly one of the two places, or each, is in an outer set
+one_case : (n : ℕ) (t : TableValue) (h : ℕ → ℕ) (s : Search) (c : Change) (a b : ℕ) → IsSearch t h s → Bounds t h s c → a < t.places → b < t.places → count a (outers s) ≡ n → 1 ≤ count a (outers s) + count b (outers s) →
+    count a (inner_members s.tree.items) + count b (inner_members s.tree.items) ≡ 0 → holding_both a b s ≡ 0 → load_of s a b + c.by ≤ 2 * entry t a b
+one_case (suc n) t h s c a b i bd la lb e some none apart =
+    omega (arith, loads_apart t h s a b i (omega (arith, e)) apart, one_room t h s c a b i bd lb (omega (arith, e)) (omega (arith, none)) apart)
+one_case zero t h s c a b i bd la lb e some none apart =
+    let other : holding_both b a s ≡ 0 = omega (arith, apart, around-comm a b s.tree.items) in
+    omega (arith, load_of-comm s a b, loads_apart t h s b a i (omega (arith, some, e)) other, one_room t h s c b a i bd la (omega (arith, some, e)) (omega (arith, none)) other, entry-comm t a b)
+
+-- the load between two places stays within its bound
+loads_stay : (t : TableValue) (h : ℕ → ℕ) (s r : Search) (c : Change) → IsSearch t h s → Bounds t h s c → Changes c.by s r → Each (CanChange c.by) s.tree.items → (a b : ℕ) → a < t.places → b < t.places → a ≢ b →
+    load_of r a b ≤ 2 * entry t a b
+loads_stay t h s r c i bd ch can a b la lb ne =
+    let by = c.by in
+    let tree = s.tree.items in
+    let bo = apart_of a b s.root + between_out a b tree in
+    let root : load a b (bands r.root) ≡ load a b (bands s.root) + by * apart_of a b s.root = ap (λ (v : NestValue). load a b (bands v)) ch.root ∙ more_wide s.root.width by (apart_of a b s.root) (load a b s.root.below) _ (load a b (bands s.root)) refl refl in
+    let branches = ap (λ (ks : List Branch). load a b (branch_bands ks)) ch.tree in
+    let rest = ap (λ (cs : List Couple). load a b (couple_bands cs)) ch.rest in
+    let oa = outer-append a s.root.members [] tree in
+    let ob = outer-append b s.root.members [] tree in
+    let pa = i.places a in
+    let pb = i.places b in
+    within (2 * entry t a b) (load_of s a b) (load_of r a b) by bo (between_in a b tree) (holding_both a b s) (inside a b tree)
+    (count a (outers s)) (count b (outers s)) (count a (inner_members tree)) (count b (inner_members tree))
+    (sum_all by (load a b (bands r.root)) (load a b (branch_bands r.tree.items)) (load a b (couple_bands r.rest.items)) (load a b (bands s.root)) (load a b (branch_bands tree)) (load a b (couple_bands s.rest.items))
+    (load a b (branch_bands (all_changed by tree))) (apart_of a b s.root) (between_out a b tree) (between_in a b tree) root branches rest (branches_load a b by tree can))
+    (omega (arith, counted_out a b tree, oa, ob)) (counted_in a b tree) (omega (arith, pa, is_one t a)) (omega (arith, pb, is_one t b)) (i.loads a b la lb ne)
+    (λ some none apart. one_case (count a (outers s)) t h s c a b i bd la lb refl some none apart)
+    (λ two apart. omega (arith, loads_apart t h s a b i (omega (arith, two, pb, is_one t b)) apart, bd.two a b (omega (arith, two, pb, is_one t b)) (omega (arith, two, pa, is_one t a)) apart))
+
+-- a tight link after the change
+tight_after : (d : ℕ → ℕ → ℕ) (k : ℕ → ℕ) (l : Link) → k l.from + k l.to ≡ 2 * d l.from l.to → IsTight d k l
+tight_after d k l e = sym e
+
+due_ready : (step : Step) (t : TableValue) (h : ℕ → ℕ) (s r : Search) (by : ℕ) → Changes by s r → ((x : ℕ) → 1 ≤ count x (outers s) → height_of r x ≡ h x + by) →
+    ((x : ℕ) → 1 ≤ count x (couple_members s.rest.items) + count x s.free.items → height_of r x ≡ h x) → ((x : ℕ) → count x (outers r) ≡ count x (outers s)) →
+    IsDue t h s by step → IsReady t (height_of r) r step
+due_ready (Meet l) t h s r by ch up same outer due =
+    (omega (arith, due.0, outer l.from), omega (arith, due.1, ap (λ (xs : List ℕ). count l.to xs) ch.free), tight_after (entry t) (height_of r) l (omega (arith, due.2, up l.from due.0, same l.to (omega (arith, due.1)))))
+due_ready (Grow l) t h s r by ch up same outer due = (
+  omega (arith, due.0, outer l.from),
+  omega (arith, due.1, ap (λ (cs : List Couple). count l.to (couple_members cs)) ch.rest),
+  tight_after (entry t) (height_of r) l (omega (arith, due.2, up l.from due.0, same l.to (omega (arith, due.1)))),
+)
+due_ready (Shrink l) t h s r by ch up same outer due = (
+  omega (arith, due.0, outer l.from),
+  omega (arith, due.1, outer l.to),
+  omega (arith, due.2, ap (λ (v : NestValue). both l.from l.to v) ch.root, ap (λ (ks : List Branch). around l.from l.to ks) ch.tree, around_same_all by l.from l.to s.tree.items),
+  tight_after (entry t) (height_of r) l (omega (arith, due.3, up l.from due.0, up l.to due.1)),
+)
+due_ready (Expand at) t h s r by ch up same outer due =
+    subst (λ (ks : List Branch). FirstComesApart (drop at ks)) (sym ch.tree) (subst FirstComesApart (sym (drop_changed by at s.tree.items)) (due_comes_apart by (drop at s.tree.items) due))
+
+rise : (by k s h i o : ℕ) → k + by * i ≡ s + by * o → h ≡ s → i ≡ 0 → o ≡ 1 → k ≡ h + by
+rise by k s h i o e f g j = omega (arith, ap (λ (x : ℕ). by * x) g, ap (λ (x : ℕ). by * x) j)
+
+fall : (by k s h i o : ℕ) → k + by * i ≡ s + by * o → h ≡ s → i ≡ 1 → o ≡ 0 → k + by ≡ h
+fall by k s h i o e f g j = omega (arith, ap (λ (x : ℕ). by * x) g, ap (λ (x : ℕ). by * x) j)
+
+stay : (by k s h i o : ℕ) → k + by * i ≡ s + by * o → h ≡ s → i ≡ 0 → o ≡ 0 → k ≡ h
+stay by k s h i o e f g j = omega (arith, ap (λ (x : ℕ). by * x) g, ap (λ (x : ℕ). by * x) j)
+
+steps_on : (t : TableValue) (h : ℕ → ℕ) (s r : Search) (c : Change) → Changes c.by s r → IsTable t → KeepsTriangles t → IsSearch t h s → Bounds t h s c → 1 ≤ length s.free.items → StepsOn t c r
+steps_on t h s r c ch is tri i b some =
+    let by = c.by in
+    let can = can_change t h s c is tri i b some in
+    let k = height_of r in
+    let move = λ (x : ℕ). moved by s r ch can x in
+    let one = λ (x : ℕ). is_one t x in
+    let outer : (x : ℕ) → count x (outers r) ≡ count x (outers s) =
+    λ x. ap (λ (v : NestValue). count x (outer_members v.members r.tree.items)) ch.root ∙ ap (λ (ks : List Branch). count x (outer_members s.root.members ks)) ch.tree ∙ ap (λ (xs : List ℕ). count x xs) (outer_same by s.root.members s.tree.items) in
+    let inner : (x : ℕ) → count x (inner_members r.tree.items) ≡ count x (inner_members s.tree.items) =
+    λ x. ap (λ (ks : List Branch). count x (inner_members ks)) ch.tree ∙ ap (λ (xs : List ℕ). count x xs) (inner_same by s.tree.items) in
+    let up : (x : ℕ) → 1 ≤ count x (outers s) → k x ≡ h x + by =
+    λ x here. rise by (k x) (height_of s x) (h x) (count x (inner_members s.tree.items)) (count x (outers s)) (move x) (i.tall x) (omega (arith, i.places x, one x, here)) (omega (arith, i.places x, one x, here)) in
+    let down : (x : ℕ) → 1 ≤ count x (inner_members s.tree.items) → k x + by ≡ h x =
+    λ x here. fall by (k x) (height_of s x) (h x) (count x (inner_members s.tree.items)) (count x (outers s)) (move x) (i.tall x) (omega (arith, i.places x, one x, here)) (omega (arith, i.places x, one x, here)) in
+    let same : (x : ℕ) → 1 ≤ count x (couple_members s.rest.items) + count x s.free.items → k x ≡ h x =
+    λ x here. stay by (k x) (height_of s x) (h x) (count x (inner_members s.tree.items)) (count x (outers s)) (move x) (i.tall x) (omega (arith, i.places x, one x, here)) (omega (arith, i.places x, one x, here)) in
+    record {
+      h = k;
+      search = record {
+        tall = λ x. refl;
+        places = λ x. omega (arith, i.places x, outer x, inner x, ap (λ (cs : List Couple). count x (couple_members cs)) ch.rest, ap (λ (xs : List ℕ). count x xs) ch.free);
+        grown = subst (λ (v : NestValue). IsGrown v.members r.tree.items) (sym ch.root) (subst (λ (ks : List Branch). IsGrown s.root.members ks) (sym ch.tree) (grown_same by s.root.members s.tree.items i.grown));
+        joined = subst (λ (cs : List Couple). Each IsJoined cs) (sym ch.rest) i.joined;
+        root = subst (λ (v : NestValue). IsSound (entry t) k v) (sym ch.root)
+            (sound_up (entry t) h k by s.root (λ x. omega (arith, i.places x, one x, base_in x s.root.members s.tree.items)) (λ x here. up x (omega (arith, here, base_in x s.root.members s.tree.items))) i.root);
+        tree = subst (λ (ks : List Branch). Each (IsFirm (entry t) k) ks) (sym ch.tree)
+            (firm_changed (entry t) h k by s.root.members s.tree.items i.grown can i.tree (λ x. omega (arith, i.places x, one x)) up down);
+        rest = subst (λ (cs : List Couple). Each (IsFirmCouple (entry t) k) cs) (sym ch.rest) (couples_same (entry t) h k s.rest.items i.joined i.rest (λ x here. same x (omega (arith, here))));
+        loads = loads_stay t h s r c i b ch can;
+      };
+      ready = due_ready c.step t h s r by ch up same outer b.due;
+    }
+
+pub widens : (s r : Search) (c : Change) → Changes c.by s r → Widens s c r
+widens s r c ch = record {
+  search = λ t h is tri i b some. steps_on t h s r c ch is tri i b some;
+  size = omega (arith, ap (λ (ks : List Branch). length (inner_bands ks)) ch.tree, sizes_same c.by s.tree.items, ap (λ (cs : List Couple). length (couple_bands cs)) ch.rest);
+  free = ch.free;
+}

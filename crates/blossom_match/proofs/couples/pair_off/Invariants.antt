@@ -1,0 +1,11 @@
+use Rattle.std.proofs.Common.{◌≡◌, ◌++◌, length}
+use Rattle.std.specs.Vec.Iter.{into_iter_items}
+use Rattle.blossom_match.specs.Couples.{couples_along}
+use Rattle.blossom_match.proofs.couples.pair_off.Given as goal
+
+-- the couples so far and those of the parts that are left
+abbrev pub invariant-loop-p : goal.invariant-loop-p
+invariant-loop-p l = l.out.items ++ couples_along (into_iter_items l.left) ≡ couples_along (into_iter_items l.fn.parts)
+
+abbrev pub decreases-loop-p : goal.decreases-loop-p
+decreases-loop-p l = length (into_iter_items l.left)

@@ -1,0 +1,6 @@
+use Rattle.blossom_match.proofs.ScanLemmas.{Narrowing}
+use Rattle.blossom_match.proofs.least.scan_rings.Given as goal
+
+-- the least width of the rings so far
+abbrev pub invariant-loop-i : goal.invariant-loop-i
+invariant-loop-i l = Narrowing l.tree l.i l.fn.best l.least

@@ -1,0 +1,7 @@
+use Rattle.std.proofs.Common.{ℕ, ◌+◌, ◌<◌, ◌≤◌}
+use Rattle.blossom_match.specs.Tables.{entry}
+use Rattle.blossom_match.proofs.tests.plain.keeps_by.Given as goal
+
+-- no shorter way so far
+abbrev pub invariant-loop-c : goal.invariant-loop-c
+invariant-loop-c l = (x : ℕ) → x < l.c → entry l.t l.a x ≤ entry l.t l.a l.b + entry l.t l.b x

@@ -1,0 +1,7 @@
+use Rattle.std.proofs.Common.{ℕ, ◌+◌, ◌<◌, ◌≤◌}
+use Rattle.blossom_match.specs.Tables.{entry}
+use Rattle.blossom_match.proofs.tests.plain.keeps_from.Given as goal
+
+-- no shorter way so far
+abbrev pub invariant-loop-b : goal.invariant-loop-b
+invariant-loop-b l = (y : ℕ) → y < l.b → (x : ℕ) → x < l.t.places → entry l.t l.a x ≤ entry l.t l.a y + entry l.t y x

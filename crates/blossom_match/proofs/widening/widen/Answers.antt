@@ -1,0 +1,11 @@
+use Rattle.blossom_match.proofs.WideningLemmas.{can_widen, widens}
+use Rattle.blossom_match.proofs.widening.widen.Goals as goal
+
+pub change_widths-requires-clause-root : goal.change_widths-requires-clause-root
+change_widths-requires-clause-root c = (can_widen c.args.s c.args.change c.requires).0
+
+pub change_widths-requires-clause-tree : goal.change_widths-requires-clause-tree
+change_widths-requires-clause-tree c = (can_widen c.args.s c.args.change c.requires).1
+
+pub returns : goal.returns
+returns c = widens c.args.s c.in_ok-changed.changed c.args.change c.in_ok-changed.ensures

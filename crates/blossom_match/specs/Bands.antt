@@ -1,0 +1,80 @@
+-- Odd sets of places with widths, as flat lists. Widths and heights count halves of a step.
+use Rattle.std.specs.Prelude.{◌≡◌, ℕ, ◌+◌, ◌-◌, ◌*◌, ◌%◌, List, [], ◌∷◌, ◌++◌, length, eqb, cond}
+
+-- a set with a width
+pub record Band : Type 0 where
+  pub members : List ℕ
+  pub width : ℕ
+
+-- a link between two parts of a set, and the widths that it uses up
+pub record Toll : Type 0 where
+  pub from : ℕ
+  pub to : ℕ
+  pub price : ℕ
+
+-- an odd set: its members, its width, all sets inside it, and all links inside it
+pub record NestValue : Type 0 where
+  pub members : List ℕ
+  pub width : ℕ
+  pub below : List Band
+  pub tolls : List Toll
+
+-- the set and all sets inside it
+abbrev pub bands : NestValue → List Band
+bands s = record { members = s.members; width = s.width } ∷ s.below
+
+-- the same set with another width
+abbrev pub with_width : ℕ → NestValue → NestValue
+with_width w s = record { members = s.members; width = w; below = s.below; tolls = s.tolls }
+
+-- 1 where the two are one place
+abbrev pub hit : ℕ → ℕ → ℕ
+hit x y = cond (eqb x y) 1 0
+
+-- how often the list has the place
+abbrev pub count : ℕ → List ℕ → ℕ
+count x [] = 0
+count x (y ∷ ys) = hit x y + count x ys
+
+-- the widths of the sets that hold the place
+abbrev pub height : ℕ → List Band → ℕ
+height x [] = 0
+height x (b ∷ bs) = b.width * count x b.members + height x bs
+
+-- all widths
+abbrev pub total : List Band → ℕ
+total [] = 0
+total (b ∷ bs) = b.width + total bs
+
+-- how far two counts are apart: 1 where a set holds exactly one of two places
+abbrev pub apart : ℕ → ℕ → ℕ
+apart m n = (m - n) + (n - m)
+
+-- the widths of the sets that hold exactly one of the two places
+abbrev pub load : ℕ → ℕ → List Band → ℕ
+load a b [] = 0
+load a b (s ∷ ss) = s.width * apart (count a s.members) (count b s.members) + load a b ss
+
+-- a quantity that adds up over lists of sets
+abbrev pub Adds : (List Band → ℕ) → Type 0
+Adds F = (xs ys : List Band) → F (xs ++ ys) ≡ F xs + F ys
+
+-- no set of the list holds the place
+abbrev pub NoneHold : ℕ → List Band → Type 0
+NoneHold x [] = Unit {0}
+NoneHold x (b ∷ bs) = (count x b.members ≡ 0) × NoneHold x bs
+
+-- a link uses up its distance
+abbrev pub TollIsPaid : (ℕ → ℕ → ℕ) → Toll → Type 0
+TollIsPaid d t = 2 * d t.from t.to ≡ t.price
+
+-- all links use up their distances
+abbrev pub IsPaid : (ℕ → ℕ → ℕ) → List Toll → Type 0
+IsPaid d [] = Unit {0}
+IsPaid d (t ∷ ts) = TollIsPaid d t × IsPaid d ts
+
+-- what each set keeps: it is odd, a place that is no member is in no set inside, and without a set inside it is one place
+pub record Kept (s : NestValue) : Type 0 where
+  pub odd : length s.members % 2 ≡ 1
+  pub covered : (x : ℕ) → count x s.members ≡ 0 → NoneHold x s.below
+  pub single : length s.below ≡ 0 → length s.members ≡ 1

@@ -1,0 +1,12 @@
+-- Facts of each item of a list, one after another.
+use Rattle.std.specs.Prelude.{List, [], ◌∷◌}
+
+-- P holds of each item
+abbrev pub Each : {X : Type 0} → (X → Type 0) → List X → Type 0
+Each P [] = Unit {0}
+Each P (x ∷ xs) = P x × Each P xs
+
+-- R holds of each item and each later one
+abbrev pub EachPair : {X : Type 0} → (X → X → Type 0) → List X → Type 0
+EachPair R [] = Unit {0}
+EachPair R (x ∷ xs) = Each (R x) xs × EachPair R xs

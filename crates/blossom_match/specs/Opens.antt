@@ -1,0 +1,38 @@
+-- A set taken apart at one of its members.
+use Rattle.std.specs.Prelude.{◌≡◌, ℕ, ◌+◌, ◌%◌, ◌≤◌, List, [], length, Option, Some, None}
+use Rattle.blossom_match.specs.Lists.{Each}
+use Rattle.blossom_match.specs.Bands.{Band, NestValue, Adds, bands, count, height, hit, IsPaid}
+use Rattle.blossom_match.specs.Couples.{couple_members, couple_bands, IsJoined, IsSettled}
+use Rattle.blossom_match.specs.declared.couples.Couple.{Couple}
+
+-- the sets of the part that is left; of a single place, none
+abbrev pub core_bands : Option NestValue → List Band
+core_bands None = []
+core_bands (Some s) = bands s
+
+-- the members of the part that is left; of a single place, the place
+abbrev pub core_count : ℕ → ℕ → Option NestValue → ℕ
+core_count left x None = hit x left
+core_count left x (Some s) = count x s.members
+
+-- the part that is left holds the place, and others hold some place
+abbrev pub CoreHolds : ℕ → Option NestValue → List Couple → Type 0
+CoreHolds left None cs = Unit {0}
+CoreHolds left (Some s) cs = (count left s.members ≡ 1) × ((x : ℕ) × (1 ≤ count x (couple_members cs)))
+
+-- the links inside the part that is left use up their distances
+abbrev pub CoreIsPaid : (ℕ → ℕ → ℕ) → Option NestValue → Type 0
+CoreIsPaid d None = Unit {0}
+CoreIsPaid d (Some s) = IsPaid d s.tolls
+
+-- the shell, the part with the place that is left out, and the other parts in pairs
+pub record OpensAt (left : ℕ) (s : NestValue) (members : List ℕ) (width : ℕ) (core : Option NestValue) (couples : List Couple) : Type 0 where
+  pub same : members ≡ s.members
+  pub wide : width ≡ s.width
+  pub odd : length s.members % 2 ≡ 1
+  pub sums : (F : List Band → ℕ) → Adds F → F s.below ≡ F (core_bands core) + F (couple_bands couples)
+  pub tall : height left s.below ≡ height left (core_bands core)
+  pub places : (x : ℕ) → count x s.members ≡ core_count left x core + count x (couple_members couples)
+  pub holds : CoreHolds left core couples
+  pub joined : Each IsJoined couples
+  pub paid : (d : ℕ → ℕ → ℕ) → IsPaid d s.tolls → CoreIsPaid d core × Each (IsSettled d) couples

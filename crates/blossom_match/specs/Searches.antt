@@ -1,0 +1,77 @@
+-- What holds between two steps of the search.
+use Rattle.std.specs.Prelude.{◌≡◌, ◌≢◌, ℕ, ◌+◌, ◌*◌, ◌<◌, ◌≤◌, List, drop, length, nat_lt, if◌then◌else◌}
+use Rattle.blossom_match.specs.Lists.{Each}
+use Rattle.blossom_match.specs.Bands.{bands, count, height, load}
+use Rattle.blossom_match.specs.Couples.{couple_members, couple_bands, IsJoined}
+use Rattle.blossom_match.specs.Sound.{IsFirm, IsFirmCouple, IsSound, IsTight}
+use Rattle.blossom_match.specs.Trees.{around, both, branch_bands, inner_bands, inner_members, outer_members, IsGrown}
+use Rattle.blossom_match.specs.Lays.{FirstComesApart}
+use Rattle.blossom_match.specs.TableValue.{TableValue}
+use Rattle.blossom_match.specs.Tables.{entry}
+use Rattle.blossom_match.specs.declared.couples.Couple.{Couple}
+use Rattle.blossom_match.specs.declared.search.Search.{Search}
+use Rattle.blossom_match.specs.declared.search.Standing.{Standing}
+use Rattle.blossom_match.specs.declared.search.Step.{Step}
+use Rattle.blossom_match.specs.declared.search.Step.TheVariants.{Meet, Grow, Shrink, Expand}
+
+-- 1 where x is a place of the table
+abbrev pub is_place : TableValue → ℕ → ℕ
+is_place t x = if nat_lt x t.places then 1 else 0
+
+-- all places that are in couples or free, with the heights h that the couples make
+pub record IsStanding (t : TableValue) (h : ℕ → ℕ) (couples : List Couple) (free : List ℕ) : Type 0 where
+  pub tall : (x : ℕ) → h x ≡ height x (couple_bands couples)
+  pub places : (x : ℕ) → count x (couple_members couples) + count x free ≡ is_place t x
+  pub joined : Each IsJoined couples
+  pub firm : Each (IsFirmCouple (entry t) h) couples
+  pub loads : (a b : ℕ) → a < t.places → b < t.places → a ≢ b → load a b (couple_bands couples) ≤ 2 * entry t a b
+
+-- the places of the root and of the outer sets of a search
+abbrev pub outers : Search → List ℕ
+outers s = outer_members s.root.members s.tree.items
+
+-- the search tree, the couples beside it and the free places, with the heights h that all sets make
+pub record IsSearch (t : TableValue) (h : ℕ → ℕ) (s : Search) : Type 0 where
+  pub tall : (x : ℕ) → h x ≡ height x (bands s.root) + height x (branch_bands s.tree.items) + height x (couple_bands s.rest.items)
+  pub places : (x : ℕ) → count x (outers s) + count x (inner_members s.tree.items) + count x (couple_members s.rest.items) + count x s.free.items ≡ is_place t x
+  pub grown : IsGrown s.root.members s.tree.items
+  pub joined : Each IsJoined s.rest.items
+  pub root : IsSound (entry t) h s.root
+  pub tree : Each (IsFirm (entry t) h) s.tree.items
+  pub rest : Each (IsFirmCouple (entry t) h) s.rest.items
+  pub loads : (a b : ℕ) → a < t.places → b < t.places → a ≢ b →
+      load a b (bands s.root) + load a b (branch_bands s.tree.items) + load a b (couple_bands s.rest.items) ≤ 2 * entry t a b
+
+-- how many outer sets hold both places
+abbrev pub holding_both : ℕ → ℕ → Search → ℕ
+holding_both a b s = both a b s.root + around a b s.tree.items
+
+-- the step can be done
+abbrev pub IsReady : TableValue → (ℕ → ℕ) → Search → Step → Type 0
+IsReady t h s (Meet link) = (1 ≤ count link.from (outers s)) × (1 ≤ count link.to s.free.items) × IsTight (entry t) h link
+IsReady t h s (Grow link) = (1 ≤ count link.from (outers s)) × (1 ≤ count link.to (couple_members s.rest.items)) × IsTight (entry t) h link
+IsReady t h s (Shrink link) =
+    (1 ≤ count link.from (outers s)) × (1 ≤ count link.to (outers s)) × (holding_both link.from link.to s ≡ 0) × IsTight (entry t) h link
+IsReady t h s (Expand at) = FirstComesApart (drop at s.tree.items)
+
+-- a search at which the step can be done
+pub record CanStep (s : Search) (step : Step) : Type 0 where
+  pub t : TableValue
+  pub h : ℕ → ℕ
+  pub search : IsSearch t h s
+  pub ready : IsReady t h s step
+
+-- the number that falls with each step: the sets that are in no outer set
+abbrev pub size_of : Search → ℕ
+size_of s = length (inner_bands s.tree.items) + length (couple_bands s.rest.items)
+
+-- the step leads to a search again
+pub record Advances (s : Search) (step : Step) (r : Search) : Type 0 where
+  pub search : (t : TableValue) (h : ℕ → ℕ) → IsSearch t h s → IsReady t h s step → IsSearch t h r
+  pub fewer : size_of r < size_of s
+  pub free : r.free.items ≡ s.free.items
+
+-- the step ends the search
+pub record Ends (s : Search) (step : Step) (r : Standing) : Type 0 where
+  pub standing : (t : TableValue) (h : ℕ → ℕ) → IsSearch t h s → IsReady t h s step → IsStanding t h r.couples.items r.free.items
+  pub fewer : length r.free.items + 1 ≡ length s.free.items

@@ -1,0 +1,68 @@
+-- A link between two outer sets closes a ring.
+use Rattle.std.specs.Prelude.{◌≡◌, ℕ, ◌+◌, ◌*◌, ◌%◌, ◌<◌, ◌≤◌, List, [], ◌∷◌, ◌++◌, length, reverse}
+use Rattle.blossom_match.specs.Lists.{Each}
+use Rattle.blossom_match.specs.Bands.{Adds, Band, NestValue, Kept, bands, count}
+use Rattle.blossom_match.specs.Rings.{members_in, bands_in, ring_of, AllKept}
+use Rattle.blossom_match.specs.Sound.{IsFirm, IsFirmPart, IsSound, IsSymmetric, IsTight}
+use Rattle.blossom_match.specs.Trees.{around, both, branch_bands, inner_bands, outer_members, inner_members, IsGrown}
+use Rattle.blossom_match.specs.declared.nest.Link.{Link}
+use Rattle.blossom_match.specs.declared.nest.Part.{Part}
+use Rattle.blossom_match.specs.declared.branches.Branch.{Branch}
+
+-- a way in, a chain of parts, and the place that its last link leads to
+abbrev pub Leads : Link → List Part → ℕ → Type 0
+Leads way [] to = way.to ≡ to
+Leads way (p ∷ ps) to = (count way.to p.nest.members ≡ 1) × (count p.next.from p.nest.members ≡ 1) × Leads p.next ps to
+
+-- the set that the set at the top and the chain make
+abbrev pub ring_value : NestValue → Link → List Part → NestValue
+ring_value top way chain = ring_of (record { nest = top; next = way } ∷ chain)
+
+-- a chain that begins and ends at the set at the top
+pub record Closable (top : NestValue) (way : Link) (chain : List Part) (to : ℕ) : Type 0 where
+  pub leads : Leads way chain to
+  pub from : count way.from top.members ≡ 1
+  pub back : count to top.members ≡ 1
+  pub even : length chain % 2 ≡ 0
+  pub some : 1 ≤ length chain
+  pub kept : AllKept chain
+
+-- a link between places of two outer sets
+pub record Shrinking (link : Link) (root : NestValue) (tree : List Branch) : Type 0 where
+  pub grown : IsGrown root.members tree
+  pub from : 1 ≤ count link.from (outer_members root.members tree)
+  pub to : 1 ≤ count link.to (outer_members root.members tree)
+  pub apart : both link.from link.to root + around link.from link.to tree ≡ 0
+  pub once : (x : ℕ) → count x (outer_members root.members tree) + count x (inner_members tree) ≤ 1
+  pub kept : Kept root
+
+-- the ring that the link closes is one outer set, without a width
+pub record Shrinks (link : Link) (root new_root : NestValue) (old new : List Branch) : Type 0 where
+  pub grown : IsGrown new_root.members new
+  pub places : (x : ℕ) → count x (outer_members new_root.members new) + count x (inner_members new)
+      ≡ count x (outer_members root.members old) + count x (inner_members old)
+  pub ring : List ℕ
+  pub sums : (F : List Band → ℕ) → Adds F →
+      F (bands new_root) + F (branch_bands new) ≡ F (bands root) + F (branch_bands old) + F (record { members = ring; width = 0 } ∷ [])
+  pub fewer : length (inner_bands new) < length (inner_bands old)
+  pub firm : (d : ℕ → ℕ → ℕ) (h : ℕ → ℕ) → IsSymmetric d → IsTight d h link → IsSound d h root → Each (IsFirm d h) old →
+      IsSound d h new_root × Each (IsFirm d h) new
+
+-- the tree that is left, the chain so far and the branches set aside
+pub record Chaining (link : Link) (root : NestValue) (tree left : List Branch) (chain : List Part) (aside : List Branch) (way : Link) (to : ℕ) : Type 0 where
+  pub grown : IsGrown root.members left
+  pub leads : Leads way chain to
+  pub from : 1 ≤ count way.from (outer_members root.members left)
+  pub back : 1 ≤ count to (outer_members root.members left)
+  pub even : length chain % 2 ≡ 0
+  pub begun : length chain ≡ 0 → (way.from ≡ link.from) × (to ≡ link.to)
+  pub apart : both link.from link.to root + around link.from link.to left ≡ 0
+  pub kept : AllKept chain
+  pub hung : IsGrown (members_in chain ++ outer_members root.members left) (reverse aside)
+  pub once : (x : ℕ) → count x (outer_members root.members tree) + count x (inner_members tree) ≤ 1
+  pub places : (x : ℕ) → count x (outer_members root.members left) + count x (inner_members left) + count x (members_in chain)
+      + count x (outer_members [] (reverse aside)) + count x (inner_members (reverse aside)) ≡ count x (outer_members root.members tree) + count x (inner_members tree)
+  pub sums : (F : List Band → ℕ) → Adds F → F (branch_bands left) + F (bands_in chain) + F (branch_bands (reverse aside)) ≡ F (branch_bands tree)
+  pub fewer : 2 * (length (inner_bands left) + length (inner_bands (reverse aside))) + length chain ≤ 2 * length (inner_bands tree)
+  pub firm : (d : ℕ → ℕ → ℕ) (h : ℕ → ℕ) → IsSymmetric d → IsTight d h link → Each (IsFirm d h) tree →
+      Each (IsFirm d h) left × Each (IsFirm d h) (reverse aside) × Each (IsFirmPart d h) chain × IsTight d h way

@@ -1,0 +1,78 @@
+-- The search tree as a list of branches, the oldest first.
+use Rattle.std.specs.Prelude.{◌≡◌, ℕ, ◌+◌, ◌≤◌, List, [], ◌∷◌, ◌++◌, min, nat_lt, if◌then◌else◌}
+use Rattle.blossom_match.specs.Lists.{Each}
+use Rattle.blossom_match.specs.Bands.{Adds, Band, NestValue, bands, count}
+use Rattle.blossom_match.specs.Rings.{back_of}
+use Rattle.blossom_match.specs.Couples.{couple_members, couple_bands, IsJoined}
+use Rattle.blossom_match.specs.Sound.{IsTight, IsSound, IsFirm, IsFirmCouple}
+use Rattle.blossom_match.specs.declared.nest.Link.{Link}
+use Rattle.blossom_match.specs.declared.couples.Couple.{Couple}
+use Rattle.blossom_match.specs.declared.branches.Branch.{Branch}
+
+-- the places of the root and of the outer sets
+abbrev pub outer_members : List ℕ → List Branch → List ℕ
+outer_members places [] = places
+outer_members places (b ∷ bs) = b.outer.members ++ outer_members places bs
+
+-- the places of the inner sets
+abbrev pub inner_members : List Branch → List ℕ
+inner_members [] = []
+inner_members (b ∷ bs) = b.inner.members ++ inner_members bs
+
+-- the branches' sets and all sets inside them
+abbrev pub branch_bands : List Branch → List Band
+branch_bands [] = []
+branch_bands (b ∷ bs) = bands b.inner ++ (bands b.outer ++ branch_bands bs)
+
+-- the inner sets and all sets inside them
+abbrev pub inner_bands : List Branch → List Band
+inner_bands [] = []
+inner_bands (b ∷ bs) = bands b.inner ++ inner_bands bs
+
+-- places is what the outer sets before hold
+abbrev pub IsGrown : List ℕ → List Branch → Type 0
+IsGrown places [] = Unit {0}
+IsGrown places (b ∷ bs) =
+    (1 ≤ count b.up.from places) × (count b.up.to b.inner.members ≡ 1) × (count b.pair.from b.inner.members ≡ 1)
+    × (count b.pair.to b.outer.members ≡ 1) × IsGrown (b.outer.members ++ places) bs
+
+-- 1 where the set holds both places
+abbrev pub both : ℕ → ℕ → NestValue → ℕ
+both a b s = min (count a s.members) (count b s.members)
+
+-- how many outer sets of the branches hold both places
+abbrev pub around : ℕ → ℕ → List Branch → ℕ
+around a b [] = 0
+around a b (c ∷ cs) = both a b c.outer + around a b cs
+
+-- the hand: a set and a link to it from an outer set
+pub record Augmenting (met : NestValue) (link : Link) (root : NestValue) (tree : List Branch) : Type 0 where
+  pub grown : IsGrown root.members tree
+  pub from : 1 ≤ count link.from (outer_members root.members tree)
+  pub to : count link.to met.members ≡ 1
+  pub once : (x : ℕ) → count x met.members + count x (outer_members root.members tree) + count x (inner_members tree) ≤ 1
+
+-- all sets of the tree and the hand in pairs, with the pairs of before
+pub record Augments (root met : NestValue) (link : Link) (tree : List Branch) (old new : List Couple) : Type 0 where
+  pub joined : Each IsJoined old → Each IsJoined new
+  pub firm : (d : ℕ → ℕ → ℕ) (h : ℕ → ℕ) → IsTight d h link → IsSound d h root → IsSound d h met → Each (IsFirm d h) tree →
+      Each (IsFirmCouple d h) old → Each (IsFirmCouple d h) new
+  pub places : (x : ℕ) → count x (couple_members new) ≡
+      count x (couple_members old) + count x met.members + count x (outer_members root.members tree) + count x (inner_members tree)
+  pub sums : (F : List Band → ℕ) → Adds F →
+      F (couple_bands new) ≡ F (couple_bands old) + F (bands met) + F (bands root) + F (branch_bands tree)
+
+-- the couple hung below an outer set by the link
+abbrev pub hung_by : Link → Couple → Branch
+hung_by up c =
+    if nat_lt 0 (count up.to c.first.members)
+    then record { up = up; inner = c.first; pair = c.link; outer = c.second }
+    else record { up = up; inner = c.second; pair = back_of c.link; outer = c.first }
+
+-- one couple leaves the list
+pub record TakesOut (place : ℕ) (old new : List Couple) (c : Couple) : Type 0 where
+  pub before : List Couple
+  pub after : List Couple
+  pub was : old ≡ before ++ c ∷ after
+  pub now : new ≡ before ++ after
+  pub here : 1 ≤ count place c.first.members + count place c.second.members

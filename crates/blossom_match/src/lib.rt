@@ -1,0 +1,25 @@
+//! Least perfect matchings of a table of distances, with moats that show that no matching costs
+//! less.
+#![tactic(auto)]
+
+mod branches;
+mod couples;
+mod expanding;
+mod heights;
+mod least;
+mod matching;
+mod nest;
+mod opening;
+mod pairing;
+mod phase;
+mod ring;
+mod search;
+mod shrinking;
+mod table;
+mod taking;
+#[cfg(test)]
+mod tests;
+mod widening;
+
+pub use matching::{Matching, Moat, Moats, Pair, Pairs, match_all};
+pub use table::{DistTable, MAX_DISTANCE, MAX_PLACES};

@@ -1,0 +1,49 @@
+ghost use Rattle.std.specs.Prelude.{◌≡◌, ◌%◌, IfOk};
+ghost use Rattle.blossom_match.specs.Tables.{KeepsTriangles};
+ghost use Rattle.blossom_match.specs.Matchings.{IsMatching};
+
+use crate::pairing::couple_all;
+use crate::table::DistTable;
+use crate::taking::take_couples;
+use design_model::{Items, Memory, Numbers};
+use std::alloc::Global;
+
+/// Two places that are matched.
+#[derive(Clone, Copy, Debug, PartialEq, Eq)]
+pub struct Pair {
+    pub a: u32,
+    pub b: u32,
+}
+
+/// An odd set of places and its width, in halves of a step.
+#[derive(Debug, Drop)]
+pub struct Moat {
+    pub members: Numbers,
+    pub width: u32,
+}
+
+/// A list of pairs.
+pub type Pairs = Items<Pair>;
+/// A list of moats.
+pub type Moats = Items<Moat>;
+
+/// All places in pairs, and the moats that pay for them.
+#[derive(Debug, Drop)]
+pub struct Matching {
+    pub pairs: Pairs,
+    pub moats: Moats,
+}
+
+/// A least perfect matching of the places, and moats that show that none costs less. Widths count
+/// halves of a step.
+pub fn match_all(alloc: Global, t: &DistTable) -> Result<Matching, Memory>
+    requires even { t.now.places % 2 ≡ 0 }
+    requires triangles { KeepsTriangles t.now }
+    ensures { IfOk result (λ m. IsMatching t.now m.pairs m.moats) }
+{
+    let couples = couple_all(alloc, t)?;
+    let mut pairs = Pairs::new(alloc);
+    let mut moats = Moats::new(alloc);
+    take_couples(alloc, couples, &mut pairs, &mut moats)?;
+    Ok(Matching { pairs, moats })
+}

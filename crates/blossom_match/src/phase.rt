@@ -1,0 +1,93 @@
+ghost use Rattle.std.specs.Prelude.{◌≡◌, ◌≤◌, ◌+◌, ◌++◌, ◌∷◌, [], length, IfOk};
+ghost use Rattle.blossom_match.specs.Tables.{IsMetric};
+ghost use Rattle.blossom_match.specs.Bounds.{CanSearch};
+ghost use Rattle.blossom_match.specs.Searches.{CanStep};
+ghost use Rattle.blossom_match.specs.Phases.{Begins, Goes, Leads, Stands};
+
+use crate::couples::Couple;
+use crate::least::least;
+use crate::nest::single;
+use crate::search::{Search, Standing, Step, expand_at, grow_to, meet, shrink_by};
+use crate::table::DistTable;
+use crate::widening::widen;
+use design_model::Memory;
+use std::alloc::Global;
+
+/// A search that goes on, or what stands at its end.
+#[derive(Drop)]
+enum Stepped {
+    More(Search),
+    Done(Standing),
+}
+
+/// Searches from a free place until it is paired.
+pub fn pair_up(
+    alloc: Global,
+    t: &DistTable,
+    place: u32,
+    couples: Vec<Couple>,
+    free: Vec<u32>,
+) -> Result<Standing, Memory>
+    requires metric { IsMetric t.now }
+    requires stands { Stands t.now couples.items (free.items ++ place ∷ []) }
+    requires some { 1 ≤ length free.items }
+    ensures stands { IfOk result (λ r. Stands t.now r.couples.items r.free.items) }
+    ensures fewer { IfOk result (λ r. length r.free.items + 1 ≡ length free.items) }
+{
+    let mut now = begin(alloc, place, couples, free)?;
+    'steps: loop {
+        match advance(alloc, t, now)? {
+            Stepped::More(next) => now = next,
+            Stepped::Done(standing) => return Ok(standing),
+        }
+    }
+}
+
+/// A search with the place alone in its tree.
+fn begin(alloc: Global, place: u32, couples: Vec<Couple>, free: Vec<u32>) -> Result<Search, Memory>
+    ensures { IfOk result (λ s. Begins place couples.items free.items s) }
+{
+    let root = single(alloc, place)?;
+    Ok(Search {
+        root,
+        tree: Vec::new(alloc),
+        rest: couples,
+        free,
+    })
+}
+
+/// Changes the widths as little as allows a step, and takes it.
+fn advance(alloc: Global, t: &DistTable, s: Search) -> Result<Stepped, Memory>
+    requires metric { IsMetric t.now }
+    requires search { CanSearch t.now s }
+    ensures { IfOk result (λ r. Goes t.now s r) }
+{
+    let change = least(alloc, t, &s)?;
+    let wide = widen(alloc, s, change)?;
+    let next = take_step(alloc, wide, change.step)?;
+    Ok(next)
+}
+
+fn take_step(alloc: Global, s: Search, step: Step) -> Result<Stepped, Memory>
+    requires { CanStep s step }
+    ensures { IfOk result (λ r. Leads s step r) }
+{
+    match step {
+        Step::Meet(link) => {
+            let standing = meet(alloc, s, link)?;
+            Ok(Stepped::Done(standing))
+        }
+        Step::Grow(link) => {
+            let grown = grow_to(s, link)?;
+            Ok(Stepped::More(grown))
+        }
+        Step::Shrink(link) => {
+            let shrunk = shrink_by(alloc, s, link)?;
+            Ok(Stepped::More(shrunk))
+        }
+        Step::Expand(at) => {
+            let expanded = expand_at(alloc, s, at)?;
+            Ok(Stepped::More(expanded))
+        }
+    }
+}

@@ -1,0 +1,84 @@
+ghost use Rattle.std.specs.Prelude.{◌≡◌, ◌≢◌, ◌+◌, ◌*◌, ◌<◌, ◌≤◌, length, max, min, IfOk};
+ghost use Rattle.blossom_match.specs.Tables.{after_set, entry, EntriesAre, IsTable};
+ghost use Rattle.blossom_match.specs.declared.table.TheConstants.{MAX_DISTANCE, MAX_PLACES};
+
+use design_model::Memory;
+use std::alloc::Global;
+use std::marker::Model;
+
+/// The most places that a table has.
+pub const MAX_PLACES: u32 = 1024;
+/// The largest distance, in steps.
+pub const MAX_DISTANCE: u32 = 200_000;
+
+/// The distance of each two of n places, in steps.
+#[derive(Drop)]
+pub struct DistTable {
+    places: u32,
+    cells: Vec<u32>,
+}
+
+impl Model for DistTable {
+    ghost use Rattle.blossom_match.specs.TableValue.{TableValue};
+
+    ghost Value = { TableValue };
+
+    ghost use Rattle.blossom_match.specs.Tables.{IsTable};
+
+    ghost view = { λ t. record { places = t.places; cells = t.cells.items } };
+
+    ghost invariant = { λ t. IsTable (record { places = t.places; cells = t.cells.items }) };
+}
+
+impl DistTable {
+    /// A table of n places, in which all entries are 0.
+    pub fn new(alloc: Global, n: u32) -> Result<DistTable, Memory>
+        requires { n ≤ MAX_PLACES }
+        ensures places { IfOk result (λ t. t.places ≡ n) }
+        ensures entries { IfOk result (λ t. EntriesAre t (λ a b. 0)) }
+    {
+        let cells = vec![in alloc; 0; n as usize * n as usize]?;
+        Ok(DistTable { places: n, cells })
+    }
+
+    /// The number of places.
+    pub fn places(&self) -> u32
+        ensures value { result ≡ self.now.places }
+        ensures table { IsTable self.now }
+    {
+        self.places
+    }
+
+    /// Sets the entry of two places, both ways.
+    pub fn set(&mut self, a: u32, b: u32, d: u32)
+        requires differ { a ≢ b }
+        requires a_in { a < self.old.places }
+        requires b_in { b < self.old.places }
+        requires short { d ≤ MAX_DISTANCE }
+        ensures places { self.new.places ≡ self.old.places }
+        ensures entries { EntriesAre self.new (after_set self.old a b d) }
+    {
+        let at = self.cell(a, b);
+        self.cells[at] = d;
+    }
+
+    /// The entry of two places.
+    pub fn get(&self, a: u32, b: u32) -> u32
+        requires a_in { a < self.now.places }
+        requires b_in { b < self.now.places }
+        ensures value { result ≡ entry self.now a b }
+        ensures short { result ≤ MAX_DISTANCE }
+    {
+        self.cells[self.cell(a, b)]
+    }
+
+    /// Where the entry of two places stands: in the row of the lower one.
+    fn cell(&self, a: u32, b: u32) -> usize
+        requires a_in { a < self.now.places }
+        requires b_in { b < self.now.places }
+        ensures value { result ≡ min a b * self.now.places + max a b }
+        ensures within { result < length self.now.cells }
+    {
+        a.min(b) as usize * self.places as usize + a.max(b) as usize
+    }
+}

@@ -1,0 +1,95 @@
+mod plain;
+mod tables;
+
+use crate::tests::plain::{cost, distance, fault, matched};
+use crate::tests::tables::{axis, clusters, random, star};
+use std::test::Fail;
+
+#[test]
+fn an_entry_is_set_both_ways(rt: HostRuntime) -> Result<(), Fail> {
+    let t = axis(rt.alloc(), &[3, 5, 0, 9])?;
+    assert_eq!(rt; t.places(), 4);
+    assert_eq!(rt;
+        [
+            distance(&t, 1, 3),
+            distance(&t, 3, 1),
+            distance(&t, 2, 3),
+            distance(&t, 2, 2)
+        ],
+        [4, 4, 9, 0]
+    );
+    Ok(())
+}
+
+#[test]
+fn small_tables_have_their_least_matchings(rt: HostRuntime) -> Result<(), Fail> {
+    let alloc = rt.alloc();
+    let rows = [
+        (star(alloc, 0, 0)?, 0),
+        (star(alloc, 2, 200_000)?, 200_000),
+        (star(alloc, 4, 1)?, 2),
+        (axis(alloc, &[3, 5, 0, 9])?, 7),
+        (clusters(alloc, &[3, 3], 1, 10)?, 12),
+    ];
+    for (t, total) in &rows {
+        let m = matched(alloc, t)?;
+        assert_eq!(rt; fault(t, &m), "", "{total}");
+        assert_eq!(rt; cost(t, &m), *total, "{total}");
+    }
+    Ok(())
+}
+
+#[test]
+fn an_empty_table_has_no_pair_and_no_moat(rt: HostRuntime) -> Result<(), Fail> {
+    let m = matched(rt.alloc(), &star(rt.alloc(), 0, 0)?)?;
+    assert_eq!(rt; (m.pairs.len(), m.moats.len()), (0, 0));
+    Ok(())
+}
+
+#[test]
+fn larger_tables_have_totals_known_by_hand(rt: HostRuntime) -> Result<(), Fail> {
+    let alloc = rt.alloc();
+    let rows = [
+        // each pair costs 2
+        (star(alloc, 12, 2)?, 12),
+        // neighbours pair up
+        (
+            axis(alloc, &[20, 0, 31, 1, 7, 11, 28, 18, 32, 40, 37, 25])?,
+            1 + 4 + 2 + 3 + 1 + 3,
+        ),
+        // two pairs in the five, one in the three, and one across
+        (clusters(alloc, &[5, 3], 2, 14)?, 2 + 2 + 2 + 14),
+        // three odd clusters and one more place, two pairs across
+        (clusters(alloc, &[3, 3, 3, 1], 2, 9)?, 2 + 2 + 2 + 9 + 9),
+    ];
+    for (t, total) in &rows {
+        let m = matched(alloc, t)?;
+        assert_eq!(rt; fault(t, &m), "", "{total}");
+        assert_eq!(rt; cost(t, &m), *total, "{total}");
+    }
+    Ok(())
+}
+
+#[test]
+fn random_tables_have_the_totals_of_another_program(rt: HostRuntime) -> Result<(), Fail> {
+    let alloc = rt.alloc();
+    // places, seed and total; distances from 20 to 40, by networkx
+    let rows = [
+        (6, 1, 76),
+        (6, 4, 79),
+        (8, 1, 89),
+        (8, 3, 103),
+        (10, 2, 123),
+        (14, 1, 154),
+        (14, 4, 150),
+        (20, 1, 216),
+        (30, 5, 313),
+    ];
+    for (n, seed, total) in &rows {
+        let t = random(alloc, *n, *seed)?;
+        let m = matched(alloc, &t)?;
+        assert_eq!(rt; fault(&t, &m), "", "{n} {seed}");
+        assert_eq!(rt; cost(&t, &m), *total, "{n} {seed}");
+    }
+    Ok(())
+}
