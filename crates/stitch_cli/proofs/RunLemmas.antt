@@ -43,13 +43,13 @@ told_fault route before after why stops (inl (planned, told)) = inl (record {
   failed = step_failed route before after why stops planned;
   told = told;
 })
-told_fault route before after why stops (inr (here, broke)) = inr broke.rose
+told_fault route before after why stops (inr (here, broke)) = inr (why, stops, broke)
 
 -- what `Fault` means
 fault_ends : (order : Option Order) (before after : Sights) → Ends order before after status.Fault
     → IsFault order before after
 fault_ends None before after (store, out, inl (planned, told)) = cc
-fault_ends None before after (store, out, inr (here, broke)) = inr broke.rose
+fault_ends None before after (store, out, inr (here, broke)) = inr (record { store = store; out = out }, broke)
 fault_ends (Some (routing route)) before after (inl (done, route_done, err)) = cc
 fault_ends (Some (routing route)) before after (inr (why, stops, tells)) = told_fault route before after why stops tells
 

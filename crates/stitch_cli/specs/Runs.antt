@@ -9,11 +9,11 @@ use Rattle.stitch_cli.specs.declared.usage.TheConstants.{USAGE}
 use Rattle.line_graph.specs.Drawings.{DrawingValue}
 use Rattle.stitch_cli.specs.Certificates.{line_end}
 use Rattle.stitch_cli.specs.Requests.{Order, RouteOrder, routing}
-use Rattle.stitch_cli.specs.Routes.{Accepts, ChangesTwo, LacksCertificate, LacksDesign, LacksReport, Refuses, RouteIsDone}
-use Rattle.stitch_cli.specs.Sights.{SinkSight, StoreSight, fed, sink_sight, store_sight}
+use Rattle.stitch_cli.specs.Routes.{Accepts, ChangesTwo, LacksCertificate, LacksDesign, LacksReport, Refuses, RouteIsDone, RouteStops}
+use Rattle.stitch_cli.specs.Sights.{Broke, SinkSight, StoreSight, fed, sink_sight, store_sight}
 use Rattle.outside_io.specs.Blames.{Blame, read_of}
 use Rattle.outside_io.specs.Causes.{Faults}
-use Rattle.outside_io.specs.Counts.{IsQuiet, Rose}
+use Rattle.outside_io.specs.Counts.{IsQuiet}
 use Rattle.outside_io.specs.Files.{Files, Lacks}
 use Rattle.stitch_cli.specs.Texts.{refusal_line, route_line}
 
@@ -108,10 +108,16 @@ pub record IsFailedRoute (order : Option Order) (before after : Sights) : Type 0
   pub failed : FailedAt route before after step
   pub told : after.err ≡ fed before.err (route_line route step)
 
--- `Fault`: a step of the route failed; or the line on the standard error could not be put
+-- the standard error failed on the way of its text: all else is as that text would have told
+abbrev pub IsUntold : Option Order → Sights → Sights → Type 0
+IsUntold None before after = IsUntouched before after × Broke before.err after.err USAGE.now
+IsUntold (Some (routing route)) before after = (step : Stop)
+    × RouteStops route before.store after.store before.out after.out step
+    × Broke before.err after.err (route_line route step)
+
+-- `Fault`: a step of the route failed; or the text on the standard error could not be put
 abbrev pub IsFault : Option Order → Sights → Sights → Type 0
-IsFault order before after =
-    IsFailedRoute order before after ⊎ Rose before.err.faults after.err.faults
+IsFault order before after = IsFailedRoute order before after ⊎ IsUntold order before after
 
 -- files that a route doesn't write stay, and all files stay where the words ask for nothing
 abbrev pub KeepsOthers : Option Order → Option Files → Option Files → Type 0
