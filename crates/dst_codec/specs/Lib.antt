@@ -6,7 +6,6 @@ pub mod Reading
 pub mod Writing
 pub mod Surveys
 pub mod Steps
-pub mod Lines
 pub mod Format
 pub mod Laws
 pub mod Samples

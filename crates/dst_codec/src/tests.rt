@@ -1,9 +1,9 @@
 ghost use Rattle.std.specs.Prelude.{◌≡◌, IfOk};
 ghost use Rattle.dst_codec.specs.Samples.{square as square_value};
 
-use crate::{Dst, encode_move};
+use crate::{Dst, decode_move, encode_move};
 use design_model::{Command, Design, ModelFault, Point};
-use format_traits::{Format, find};
+use format_traits::{Format, ReadFault, WriteFault, find};
 use std::alloc::{AllocError, Global};
 use std::test::Fail;
 
@@ -49,8 +49,95 @@ fn a_square_has_its_539_bytes(rt: HostRuntime) -> Result<(), Fail> {
     Ok(())
 }
 
+fn spaces(alloc: Global, count: u32) -> Result<Vec<u8>, AllocError> {
+    let mut bytes = Vec::new(alloc);
+    for _ in 0..count {
+        bytes.push(b' ')?;
+    }
+    Ok(bytes)
+}
+
+#[test]
+fn a_square_reads_as_its_needles_and_a_trim(rt: HostRuntime) -> Result<(), Fail> {
+    let alloc = rt.alloc();
+    let design = square(alloc).ok().ok_or("no design")?;
+    let file = Dst.encode(alloc, &design).ok().ok_or("not written")?;
+    let loaded = Dst.decode(alloc, file.as_slice()).ok().ok_or("not read")?;
+    assert_eq!(rt; loaded.ended, true);
+    let expected = [
+        Command::Stitch(Point { x: 0, y: 0 }),
+        Command::Stitch(Point { x: 30, y: 0 }),
+        Command::Stitch(Point { x: 30, y: 30 }),
+        Command::Stitch(Point { x: 0, y: 30 }),
+        Command::Stitch(Point { x: 0, y: 0 }),
+        Command::Jump(Point { x: 2, y: 2 }),
+        Command::Jump(Point { x: -2, y: -2 }),
+        Command::Trim,
+        Command::Jump(Point { x: 0, y: 0 }),
+    ];
+    assert_eq!(rt; loaded.design.commands(), expected.as_slice());
+    Ok(())
+}
+
+#[test]
+fn the_third_jump_of_a_run_reads_as_a_trim_too(rt: HostRuntime) -> Result<(), Fail> {
+    let alloc = rt.alloc();
+    for (jumps, commands) in [(2, 4), (3, 6), (4, 7), (7, 10)] {
+        let mut file = spaces(alloc, 512)?;
+        file.extend_from_slice(&[0, 0, 0x03])?;
+        for _ in 0..jumps {
+            file.extend_from_slice(&[0, 0, 0x83])?;
+        }
+        file.extend_from_slice(&[0, 0, 0x03, 0, 0, 0xF3])?;
+        let loaded = Dst.decode(alloc, file.as_slice()).ok().ok_or("not read")?;
+        assert_eq!(rt; loaded.design.commands().len(), commands, "{jumps} jumps");
+    }
+    Ok(())
+}
+
+#[test]
+fn a_file_without_an_end_is_read(rt: HostRuntime) -> Result<(), Fail> {
+    let alloc = rt.alloc();
+    let mut file = spaces(alloc, 512)?;
+    file.extend_from_slice(&[0x00, 0x05, 0x03, 0x00, 0x05])?;
+    let loaded = Dst.decode(alloc, file.as_slice()).ok().ok_or("not read")?;
+    assert_eq!(rt; loaded.ended, false);
+    assert_eq!(rt; loaded.design.commands(), [Command::Stitch(Point { x: 30, y: 0 })].as_slice());
+    Ok(())
+}
+
+#[test]
+fn a_file_is_refused_at_its_first_fault(rt: HostRuntime) -> Result<(), Fail> {
+    let alloc = rt.alloc();
+    let short = spaces(alloc, 511)?;
+    assert_eq!(rt; Dst.decode(alloc, short.as_slice()).err(), Some(ReadFault::Short { at: 511 }));
+    let mut file = spaces(alloc, 512)?;
+    for _ in 0..248 {
+        file.extend_from_slice(&[0x05, 0x05, 0x07])?;
+    }
+    assert_eq!(rt; Dst.decode(alloc, file.as_slice()).err(), Some(ReadFault::Range { at: 1253 }));
+    let mut sequin = spaces(alloc, 512)?;
+    sequin.extend_from_slice(&[0x00, 0x00, 0x43])?;
+    assert_eq!(rt; Dst.decode(alloc, sequin.as_slice()).err(), Some(ReadFault::Sequin { at: 512 }));
+    Ok(())
+}
+
+#[test]
+fn a_design_of_a_thousand_stops_is_refused_at_the_last(rt: HostRuntime) -> Result<(), Fail> {
+    let alloc = rt.alloc();
+    let mut design = Design::new(alloc);
+    for _ in 0..1000 {
+        design.push(Command::Stop).ok().ok_or("no stop")?;
+    }
+    assert_eq!(rt; Dst.encode(alloc, &design).err(), Some(WriteFault::TooManyStops { number: 1000 }));
+    Ok(())
+}
+
 #[test]
 fn the_greatest_moves_have_their_one_spelling(rt: HostRuntime) {
+    assert_eq!(rt; decode_move([0x05, 0x05, 0x07]), Point { x: 121, y: 0 });
+    assert_eq!(rt; decode_move([0x50, 0x50, 0x13]), Point { x: 0, y: 121 });
+    assert_eq!(rt; decode_move([0x82, 0x41, 0x83]), Point { x: 2, y: 2 });
     assert_eq!(rt; encode_move(121, 0), [0x05, 0x05, 0x07]);
     assert_eq!(rt; encode_move(0, 121), [0x50, 0x50, 0x13]);
     assert_eq!(rt; encode_move(-121, 0), [0x0A, 0x0A, 0x0B]);

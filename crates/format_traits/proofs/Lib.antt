@@ -4,3 +4,4 @@ pub mod LabelLemmas
 pub mod EndingLemmas
 pub mod PartLemmas
 mod PlacingFacts
+pub mod PlainLemmas
