@@ -104,11 +104,11 @@ line_is_plain step limit thread (p ∷ rest) some more first close few =
     (λ (near : KeepsClose step origin rest). record {
       needles = close_is_plain step limit 2 origin rest more near;
       stops = let none : stops_of (acts_from 2 false false (map (λ q. Stitch q) rest ++ Trim ∷ [])) ≡ 0 = no_stops 2 rest in
-              omega (arith, none);
+          omega (arith, none);
       room = let along : room_from limit false origin (acts_from 2 false false (map (λ q. Stitch q) rest ++ Trim ∷ [])) ≡ length rest + 4
-                 = room_along limit 2 origin rest in
-             let spot : loose_room (hops limit (move_between origin origin)) ≡ 1 = loose_on_the_spot _ (no_hops limit some) in
-             omega (arith, along, spot, few);
+          = room_along limit 2 origin rest in
+          let spot : loose_room (hops limit (move_between origin origin)) ≡ 1 = loose_on_the_spot _ (no_hops limit some) in
+          omega (arith, along, spot, few);
     }) close
 
 -- a line with a first point has needles
