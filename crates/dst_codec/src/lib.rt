@@ -4,6 +4,7 @@
 
 mod dst;
 mod header;
+mod laws;
 mod record_kind;
 mod records;
 mod spelling;
@@ -12,4 +13,5 @@ mod survey;
 mod tests;
 
 pub use dst::{Dst, LIMIT, MAX_FLOAT_HOPS, MAX_STOPS};
+pub use laws::the_limits_of_dst;
 pub use spelling::encode_move;

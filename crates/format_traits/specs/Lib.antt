@@ -1,3 +1,4 @@
+pub mod Limits
 pub mod Placing
 pub mod Rooms
 pub mod Refusals
