@@ -1,13 +1,13 @@
 -- The record of a move has that move, and its kind is that of its flags.
 use Rattle.std.proofs.Common.{◌≡◌, ℕ, ◌+◌, ◌-◌, ◌*◌, ◌/◌, ◌%◌, ◌<◌, ◌≤◌, ℤ, pos, negsuc, ◌-ℤ◌, unsigned_abs, IsTrue, nat_le, refl, arith}
-use Rattle.std.proofs.lemmas.Bool.{and_parts, leb-true, eq-eqb, ne_eqb}
+use Rattle.std.proofs.lemmas.Bool.{and_from, and_parts, le-leb, leb-true, eq-eqb, ne_eqb}
 use Rattle.std.proofs.lemmas.Int.{ints}
 use Rattle.design_model.specs.declared.point.Point.{Point}
 use Rattle.design_model.specs.Points.{is_within}
 use Rattle.dst_codec.specs.declared.dst.TheConstants.{LIMIT}
 use Rattle.dst_codec.specs.declared.record_kind.RecordKind.TheVariants as kind
-use Rattle.dst_codec.specs.Bits.{bit, move_of, kind_of, rightwards, leftwards, upwards, downwards}
-use Rattle.dst_codec.specs.Spelling.{shifted, taken, plus, minus, x_signs, y_signs}
+use Rattle.dst_codec.specs.Bits.{IsStitchBy, bit, move_of, kind_of, rightwards, leftwards, upwards, downwards}
+use Rattle.dst_codec.specs.Spelling.{shifted, taken, plus, minus, x_signs, y_signs, stitch_record}
 
 -- the third byte of a record with flags
 abbrev pub third_of : ℕ → Point → ℕ
@@ -190,3 +190,13 @@ pub kind_of-jump : (m : Point) → kind_of (third_of 128 m) ≡ kind.Jump
 kind_of-jump m =
     let x = one_sign 81 m.x in let y = one_sign 81 m.y in
     kind_with_jump (third_of 128 m) (omega (arith, x, y)) (omega (arith, x, y))
+
+-- a move is within the limit where both of its coordinates are
+pub within_limit : (m : Point) → unsigned_abs m.x ≤ LIMIT → unsigned_abs m.y ≤ LIMIT → IsTrue (is_within LIMIT m)
+within_limit m x y = and_from (nat_le (unsigned_abs m.x) LIMIT) (nat_le (unsigned_abs m.y) LIMIT) (le-leb _ _ x) (le-leb _ _ y)
+
+-- what is spelled for a stitch is its record
+pub stitch_record-is : (m : Point) → IsTrue (is_within LIMIT m) → IsStitchBy m (stitch_record m)
+stitch_record-is m within =
+    let x = one_sign 81 m.x in let y = one_sign 81 m.y in
+    (move_of-record 0 0 m refl within, omega (arith, x, y), omega (arith, x, y))

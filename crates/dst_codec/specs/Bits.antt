@@ -5,7 +5,7 @@
 --   first   y+1    y-1    y+9    y-9    x-9    x+9    x-1    x+1
 --   second  y+3    y-3    y+27   y-27   x-27   x+27   x-3    x+3
 --   third   flag   flag   y+81   y-81   x-81   x+81   set    set
-use Rattle.std.specs.Prelude.{ℕ, ◌+◌, ◌*◌, ◌/◌, ◌%◌, pos, ◌-ℤ◌, ◌==◌, if◌then◌else◌}
+use Rattle.std.specs.Prelude.{◌≡◌, ℕ, ◌+◌, ◌*◌, ◌/◌, ◌%◌, ◌<◌, pos, ◌-ℤ◌, ◌==◌, if◌then◌else◌, List, [], ◌∷◌}
 use Rattle.design_model.specs.declared.point.Point.{Point}
 use Rattle.dst_codec.specs.declared.record_kind.RecordKind.{RecordKind}
 use Rattle.dst_codec.specs.declared.record_kind.RecordKind.TheVariants as kind
@@ -50,3 +50,9 @@ kind_of third =
     else (if third / 64 == 1 then kind.Sequin
     else kind.Stitch))))
     else kind.Stitch
+
+-- the bytes are the record of a stitch by that move: the low bits of the third are set, its flags clear
+abbrev pub IsStitchBy : Point → List ℕ → Type 0
+IsStitchBy m (first ∷ second ∷ third ∷ []) =
+    (move_of first second third ≡ m) × (third % 4 ≡ 3) × (third < 64)
+IsStitchBy m _ = ⊥

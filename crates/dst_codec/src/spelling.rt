@@ -1,6 +1,7 @@
 ghost use Rattle.std.specs.Prelude.{◌≡◌, ◌<◌, ◌≤◌, ◌+◌, ◌*◌, ◌/◌, ◌-◌, IsTrue, unsigned_abs};
 ghost use Rattle.design_model.specs.Points.{is_within};
 ghost use Rattle.dst_codec.specs.declared.dst.TheConstants.{LIMIT};
+ghost use Rattle.dst_codec.specs.Bits.{IsStitchBy};
 ghost use Rattle.dst_codec.specs.Spelling.{shifted as shifted_by, taken as taken_of, plus as plus_of, minus as minus_of, x_signs as x_signs_of, y_signs as y_signs_of, record_of, stitch_record};
 
 use crate::dst::LIMIT;
@@ -13,7 +14,8 @@ pub const JUMP: u8 = 0x80;
 pub fn encode_move(dx: i32, dy: i32) -> [u8; 3]
     requires x { unsigned_abs dx ≤ LIMIT }
     requires y { unsigned_abs dy ≤ LIMIT }
-    ensures { result ≡ stitch_record (record { x = dx; y = dy }) }
+    ensures value { result ≡ stitch_record (record { x = dx; y = dy }) }
+    ensures moves { IsStitchBy (record { x = dx; y = dy }) result }
 {
     spell(Point { x: dx, y: dy }, 0)
 }
