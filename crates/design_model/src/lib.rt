@@ -7,6 +7,7 @@ mod act_lists;
 mod command;
 mod design;
 mod items;
+mod laws;
 mod memory;
 mod point;
 #[cfg(test)]
@@ -18,6 +19,7 @@ pub use act_lists::acts;
 pub use command::Command;
 pub use design::{Design, MAX_COMMANDS, MAX_LABEL, MAX_THREADS, ModelFault};
 pub use items::{Acts, Bytes, Commands, Items, Numbers, Points};
+pub use laws::the_limits_of_designs;
 pub use memory::Memory;
 pub use point::{JUMP_LIMIT, NEEDLE_LIMIT, Point};
 pub use thread_state::ThreadState;

@@ -1,3 +1,4 @@
+ghost use Rattle.dst_codec.specs.Limits.{DstLimits};
 ghost use Rattle.dst_codec.specs.Laws.{LabelReadsAgain, PlainIsWritten, ReadIsWithinReach, WrittenMovesWithin, WrittenReadsAgain};
 
 /// What any design is written as reads as the same acts and moves within the limit, and any plain
@@ -16,4 +17,9 @@ pub fn label_reads_again()
 /// No stitch and no float of a design that was read is too long to be written.
 pub fn read_is_within_reach()
     ensures { ReadIsWithinReach }
+{}
+
+/// The limits of the format are these numbers.
+pub fn the_limits_of_dst()
+    ensures { DstLimits }
 {}

@@ -1,3 +1,4 @@
+pub mod Limits
 pub mod Placing
 pub mod Walks
 pub mod Rooms

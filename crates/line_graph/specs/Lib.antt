@@ -1,6 +1,7 @@
 -- words of the crate below that public clauses cite
 pub use Rattle.step_splitter.specs.Chains
 pub use Rattle.step_splitter.specs.Steps
+pub mod Limits
 pub mod Needles
 pub mod Drawings
 -- read this one first: what walks are, and which of them are least

@@ -1,4 +1,10 @@
 ghost use Rattle.line_graph.specs.Laws.{ALoopIsSewnByItsLine, PlainTextsShareSteps, TheSewnDesignSews};
+ghost use Rattle.line_graph.specs.Limits.{DrawingLimits};
+
+/// The limits of drawings are these numbers.
+pub fn the_limits_of_drawings()
+    ensures { DrawingLimits }
+{}
 
 /// A drawing of one closed line is sewn by the walk along that line, which is closed and least.
 pub fn a_loop_is_sewn_by_its_line()

@@ -19,7 +19,10 @@ mod tests;
 mod words;
 
 pub use drawing::Drawing;
-pub use laws::{a_loop_is_sewn_by_its_line, plain_texts_share_steps, the_sewn_design_sews};
+pub use laws::{
+    a_loop_is_sewn_by_its_line, plain_texts_share_steps, the_limits_of_drawings,
+    the_sewn_design_sews,
+};
 pub use limits::{MAX_BLOCKS, MAX_COST, MAX_LINES, MAX_POINTS, MAX_TEXT};
 pub use loop_fault::LoopFault;
 pub use loop_text::read_loop;

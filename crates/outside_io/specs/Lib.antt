@@ -1,3 +1,4 @@
+pub mod Limits
 pub mod Counts
 pub mod Blames
 -- read these two first: what files are, and what each answer of the outside tells

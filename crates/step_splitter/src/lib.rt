@@ -1,9 +1,11 @@
 //! Straight segments of stitching, taken apart into steps that are short enough.
 #![tactic(auto)]
 
+mod laws;
 mod segment;
 #[cfg(test)]
 mod tests;
 mod way;
 
+pub use laws::the_limit_of_steps;
 pub use segment::{MAX_STEP, split, steps};

@@ -191,3 +191,31 @@ fn a_stream_that_fails_is_a_fault(rt: HostRuntime) -> Result<(), Fail> {
     assert_eq!(rt; status, Status::Fault);
     Ok(())
 }
+
+#[test]
+fn a_route_makes_six_calls_and_prints_once(rt: HostRuntime) -> Result<(), Fail> {
+    let mut store = square_store(&rt)?;
+    store.fail_at(7)?;
+    let mut out = MemSink::new(rt.alloc(), 1_000)?;
+    out.fail_at(2)?;
+    let mut err = MemSink::new(rt.alloc(), 0)?;
+    err.fail_at(1)?;
+    let status = answer(&rt, &ROUTE_SQUARE, &mut store, &mut out, &mut err)?;
+    assert_eq!(rt; status, Status::Done);
+    assert_eq!(rt; out.taken(), SQUARE_REPORT);
+    Ok(())
+}
+
+#[test]
+fn each_status_has_its_number(rt: HostRuntime) {
+    let statuses = [
+        Status::Done,
+        Status::Refused,
+        Status::Usage,
+        Status::Fault,
+        Status::Memory,
+    ];
+    for (number, status) in statuses.into_iter().enumerate() {
+        assert_eq!(rt; status as usize, number, "{status:?}");
+    }
+}

@@ -3,12 +3,11 @@ use Rattle.std.specs.Prelude.{◌≡◌, ◌⊎◌, List, ℕ, Option, Some, Non
 use Rattle.stitch_cli.specs.declared.status.Status.{Status}
 use Rattle.stitch_cli.specs.declared.status.Status.TheVariants as status
 use Rattle.stitch_cli.specs.declared.stop.Stop.{Stop}
-use Rattle.stitch_cli.specs.declared.usage.TheConstants.{USAGE}
 use Rattle.stitch_cli.specs.Requests.{Order, RouteOrder, routing}
 use Rattle.stitch_cli.specs.Routes.{RouteIsDone, RouteStops}
 use Rattle.stitch_cli.specs.Runs.{Sights, status_of}
 use Rattle.stitch_cli.specs.Sights.{Broke, SinkSight, fed}
-use Rattle.stitch_cli.specs.Texts.{route_line}
+use Rattle.stitch_cli.specs.Texts.{route_line, usage_text}
 
 -- the text is on the standard error and the status is as planned; or it could not be put there, and
 -- the status is `Fault`
@@ -27,5 +26,5 @@ RouteEnds order before after s =
 -- how the program ends, where the words spell this complete request, or none
 abbrev pub Ends : Option Order → Sights → Sights → Status → Type 0
 Ends None before after s = (after.store ≡ before.store) × (after.out ≡ before.out)
-    × Tells USAGE.now status.Usage before.err after.err s
+    × Tells usage_text status.Usage before.err after.err s
 Ends (Some (routing order)) before after s = RouteEnds order before after s

@@ -5,7 +5,6 @@ use Rattle.stitch_cli.specs.declared.status.Status.TheVariants as status
 use Rattle.stitch_cli.specs.declared.stop.Refusal.{Refusal}
 use Rattle.stitch_cli.specs.declared.stop.Stop.{Stop}
 use Rattle.stitch_cli.specs.declared.stop.Stop.TheVariants as stop
-use Rattle.stitch_cli.specs.declared.usage.TheConstants.{USAGE}
 use Rattle.line_graph.specs.Drawings.{DrawingValue}
 use Rattle.stitch_cli.specs.Certificates.{line_end}
 use Rattle.stitch_cli.specs.Requests.{Order, RouteOrder, routing}
@@ -15,7 +14,7 @@ use Rattle.outside_io.specs.Blames.{Blame, read_of}
 use Rattle.outside_io.specs.Causes.{Faults}
 use Rattle.outside_io.specs.Counts.{IsQuiet}
 use Rattle.outside_io.specs.Files.{Files, Lacks}
-use Rattle.stitch_cli.specs.Texts.{refusal_line, route_line}
+use Rattle.stitch_cli.specs.Texts.{refusal_line, route_line, usage_text}
 
 -- what the store, the standard output and the standard error show
 pub record Sights : Type 0 where
@@ -77,7 +76,7 @@ pub record IsRefused (order : Option Order) (before after : Sights) : Type 0 whe
 pub record IsUsage (order : Option Order) (before after : Sights) : Type 0 where
   pub asked : order ≡ None
   pub untouched : IsUntouched before after
-  pub told : after.err ≡ fed before.err USAGE.now
+  pub told : after.err ≡ fed before.err usage_text
 
 -- `Memory`: nothing but the line that says so
 pub record IsMemory (before after : Sights) : Type 0 where
@@ -110,7 +109,7 @@ pub record IsFailedRoute (order : Option Order) (before after : Sights) : Type 0
 
 -- the standard error failed on the way of its text: all else is as that text would have told
 abbrev pub IsUntold : Option Order → Sights → Sights → Type 0
-IsUntold None before after = IsUntouched before after × Broke before.err after.err USAGE.now
+IsUntold None before after = IsUntouched before after × Broke before.err after.err usage_text
 IsUntold (Some (routing route)) before after = (step : Stop)
     × RouteStops route before.store after.store before.out after.out step
     × Broke before.err after.err (route_line route step)

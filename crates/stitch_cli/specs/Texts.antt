@@ -9,6 +9,16 @@ use Rattle.stitch_cli.specs.declared.stop.Refusal.TheVariants as refusal
 use Rattle.stitch_cli.specs.Certificates.{line_end}
 use Rattle.stitch_cli.specs.Requests.{RouteOrder}
 
+-- what the words may be
+abbrev pub usage_text : List ℕ
+usage_text = codes "usage: stitch route DRAWING OUT CERT" ++ line_end
+    ++ codes "       stitch check DRAWING FILE CERT" ++ line_end
+    ++ codes "       stitch convert IN OUT [--split] [--cut]" ++ line_end
+    ++ codes "       stitch show FILE" ++ line_end
+    ++ codes "       stitch edit IN OUT EDIT..." ++ line_end
+    ++ codes "       stitch hoop FILE WIDTH HEIGHT" ++ line_end
+    ++ codes "       stitch sample N DRAWING" ++ line_end
+
 -- how often the needle goes down in a piece
 abbrev pub penetrations_of : PieceReport → ℕ
 penetrations_of piece = piece.cost + piece.retraced + 1

@@ -3,13 +3,13 @@ ghost use Rattle.stitch_cli.specs.Certificates.{line_end};
 ghost use Rattle.stitch_cli.specs.Endings.{Tells};
 ghost use Rattle.stitch_cli.specs.Requests.{route_order};
 ghost use Rattle.stitch_cli.specs.Sights.{Puts, sink_sight};
-ghost use Rattle.stitch_cli.specs.Texts.{line_about, refusal_line, route_line, step_line, step_text};
+ghost use Rattle.stitch_cli.specs.Texts.{line_about, refusal_line, route_line, step_line, step_text, usage_text};
 
 use crate::putting::{put_five, put_four, put_one, put_three};
 use crate::requests::RouteNames;
 use crate::status::Status;
 use crate::stop::{Refusal, Stop};
-use crate::usage::USAGE;
+use crate::usage::usage;
 use format_traits::{Format, ext_of, limit_of};
 use itoa::Buffer;
 use outside_io::{Failed, Sink};
@@ -118,11 +118,11 @@ fn put_step<E: Sink>(
 
 /// Puts the usage text.
 pub(crate) fn tell_usage<E: Sink>(err: &mut E) -> Result<(), Failed>
-    ensures { Puts USAGE.now
+    ensures { Puts usage_text
         (sink_sight (E.taken err.old) (E.faults err.old))
         (sink_sight (E.taken err.new) (E.faults err.new)) result }
 {
-    put_one(err, USAGE)
+    put_one(err, usage())
 }
 
 /// Says that memory was wanted and not found, where nothing else can be done.

@@ -4,13 +4,13 @@ ghost use Rattle.stitch_cli.specs.Requests.{AreNames, are_apart as names_are_apa
 ghost use Rattle.stitch_cli.specs.Endings.{Ends, RouteEnds, Tells};
 ghost use Rattle.stitch_cli.specs.Runs.{IsDecided, IsDone, IsFault, IsMemory, IsQuietRun, IsRefused, IsUsage, KeepsOthers, sights};
 ghost use Rattle.stitch_cli.specs.Sights.{sink_sight};
+ghost use Rattle.stitch_cli.specs.Texts.{usage_text};
 
 use crate::command_words::request;
 use crate::messages::{tell_stop, tell_usage};
 use crate::requests::{Request, RouteNames};
 use crate::routing::route;
 use crate::status::Status;
-use crate::usage::USAGE;
 use format_traits::{Format, find};
 use line_graph::plain_texts_share_steps;
 use outside_io::{Failed, Sink, Store};
@@ -173,7 +173,7 @@ fn are_apart(names: &RouteNames<'_>) -> bool
 }
 
 fn ask_again<E: Sink>(err: &mut E) -> Status
-    ensures { Tells USAGE.now Status.Usage
+    ensures { Tells usage_text Status.Usage
         (sink_sight (E.taken err.old) (E.faults err.old))
         (sink_sight (E.taken err.new) (E.faults err.new)) result }
 {

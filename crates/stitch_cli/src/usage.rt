@@ -1,3 +1,6 @@
+ghost use Rattle.std.specs.Prelude.{◌≡◌};
+ghost use Rattle.stitch_cli.specs.Texts.{usage_text};
+
 /// The usage text, which stands on standard error where the words ask for nothing that the program does.
 pub const USAGE: &[u8] = b"usage: stitch route DRAWING OUT CERT
        stitch check DRAWING FILE CERT
@@ -7,3 +10,10 @@ pub const USAGE: &[u8] = b"usage: stitch route DRAWING OUT CERT
        stitch hoop FILE WIDTH HEIGHT
        stitch sample N DRAWING
 ";
+
+/// The usage text.
+pub(crate) fn usage() -> &'static [u8]
+    ensures { result.now ≡ usage_text }
+{
+    USAGE
+}
