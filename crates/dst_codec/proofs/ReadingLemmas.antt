@@ -6,7 +6,7 @@ use Rattle.std.proofs.lemmas.Int.{ints}
 use Rattle.std.proofs.lemmas.List.{append_assoc, append-nil, take_all, length-drop}
 use Rattle.std.specs.List.{list_all}
 use Rattle.design_model.specs.declared.command.Command.{Command}
-use Rattle.design_model.specs.declared.command.Command.TheVariants.{Stitch, Jump, Trim, Stop}
+use Rattle.design_model.specs.declared.command.Command.TheVariants.{Jump, Trim, Stop}
 use Rattle.design_model.specs.declared.design.TheConstants.{MAX_COMMANDS}
 use Rattle.design_model.specs.declared.point.Point.{Point}
 use Rattle.design_model.specs.declared.point.TheConstants.{NEEDLE_LIMIT, JUMP_LIMIT}
@@ -27,7 +27,7 @@ use Rattle.dst_codec.specs.declared.record_kind.RecordKind.{RecordKind}
 use Rattle.dst_codec.specs.declared.record_kind.RecordKind.TheVariants as kind
 use Rattle.dst_codec.specs.Bits.{move_of, kind_of}
 use Rattle.dst_codec.specs.Reading.{reads, reads_from, read_record, commands_of, run_after, label_of}
-use Rattle.dst_codec.specs.Steps.{SameButCommands, RefusesRecord, ReadsRecord, ReadsRecords, Stops, first_reader, is_kept, continues, whole, ends_with}
+use Rattle.dst_codec.specs.Steps.{SameButCommands, RefusesRecord, ReadsRecord, ReadsRecords, Stops, first_reader, is_kept, whole, ends_with}
 use Rattle.dst_codec.proofs.SpellingLemmas.{same_point, same_points, within_parts}
 
 -- a record of that kind and that move, and the rest
@@ -84,27 +84,28 @@ pub kept_record : (r : Reader) (d d' : DesignValue) (a b c : ℕ) (k : RecordKin
     → kind_of c ≡ k → move_of a b c ≡ m → there ≡ moved r.place m → run ≡ run_after k r.run → IsTrue (is_kept k)
     → Fit (commands_of k r.run m there) d → d' ≡ with_commands d (commands_of k r.run m there)
     → SameButCommands d d' × ((rest : List ℕ) → whole r d (a ∷ b ∷ c ∷ rest)
-      ≡ whole (let next : Reader = record { at = r.at + 3; run = run; place = there } in next) d' rest)
+    ≡ whole (let next : Reader = record { at = r.at + 3; run = run; place = there } in next) d' rest)
 kept_record r d d' a b c k m there run of_kind of_move of_there of_run kept fit of_d =
     let given = commands_of k r.run m there in
     let label : d'.label ≡ d.label = ap (λ d. d.label) of_d in
     let threads : d'.threads ≡ d.threads = ap (λ d. d.threads) of_d in
     let commands : d'.commands ≡ d.commands ++ given = ap (λ d. d.commands) of_d in
     let count : length d'.commands ≡ length d.commands + length given =
-      ap length commands ∙ length-append d.commands given in
-    (record { label = label; threads = threads },
-    λ rest.
-      let n = length d.commands in
-      let after = λ (p : Point). reads_from (r.at + 3) (n + length given) (run_after k r.run) p rest in
-      ap (after_commands d.commands)
-        (reads-record r.at n r.run r.place a b c rest k m of_kind of_move
-        ∙ ap (λ p. read_record k r.at n (commands_of k r.run m p)
+    ap length commands ∙ length-append d.commands given in (
+      record { label = label; threads = threads },
+      λ rest.
+          let n = length d.commands in
+          let after = λ (p : Point). reads_from (r.at + 3) (n + length given) (run_after k r.run) p rest in
+          ap (after_commands d.commands)
+          (reads-record r.at n r.run r.place a b c rest k m of_kind of_move
+          ∙ ap (λ p. read_record k r.at n (commands_of k r.run m p)
           (reads_from (r.at + 3) (n + length (commands_of k r.run m p)) (run_after k r.run) p rest)) (sym of_there)
-        ∙ read_record-kept k r.at n given (after there) kept)
-      ∙ tries-kept r.at d.commands given (after there) fit.0 fit.1
-      ∙ ap (λ cs. after_commands cs (after there)) (sym commands)
-      ∙ ap (λ count. after_commands d'.commands (reads_from (r.at + 3) count (run_after k r.run) there rest)) (sym count)
-      ∙ ap (λ run. after_commands d'.commands (reads_from (r.at + 3) (length d'.commands) run there rest)) (sym of_run))
+          ∙ read_record-kept k r.at n given (after there) kept)
+          ∙ tries-kept r.at d.commands given (after there) fit.0 fit.1
+          ∙ ap (λ cs. after_commands cs (after there)) (sym commands)
+          ∙ ap (λ count. after_commands d'.commands (reads_from (r.at + 3) count (run_after k r.run) there rest)) (sym count)
+          ∙ ap (λ run. after_commands d'.commands (reads_from (r.at + 3) (length d'.commands) run there rest)) (sym of_run),
+    )
 
 -- a refusal, whatever it is
 pub refused_record : (f : ReadFault) (r r' : Reader) (d d' : DesignValue) (a b c : ℕ)
@@ -120,12 +121,13 @@ refused_record fault.Memory r r' d d' a b c is = tt
 -- the end or a sequin
 pub stopped_record : (r : Reader) (d : DesignValue) (a b c : ℕ) (k : RecordKind) (result : Result Bool ReadFault)
     → kind_of c ≡ k → Stops k r.at result → ReadsRecord r d a b c result r d
-stopped_record r d a b c k (Ok true) of_kind stops =
-    (record { label = refl; threads = refl },
-    λ rest. ap (after_commands d.commands)
-        (reads-record r.at (length d.commands) r.run r.place a b c rest k (move_of a b c) of_kind refl
-        ∙ (stops (length d.commands) _ _).1)
-      ∙ ap (λ cs. Ok (record { commands = cs; ended = true })) (append-nil d.commands))
+stopped_record r d a b c k (Ok true) of_kind stops = (
+  record { label = refl; threads = refl },
+  λ rest. ap (after_commands d.commands)
+      (reads-record r.at (length d.commands) r.run r.place a b c rest k (move_of a b c) of_kind refl
+      ∙ (stops (length d.commands) _ _).1)
+      ∙ ap (λ cs. Ok (record { commands = cs; ended = true })) (append-nil d.commands),
+)
 stopped_record r d a b c k (Ok false) of_kind stops =
     absurd (let no : false ≡ true = (stops 0 [] (over true)).0 in let none : ⊥ = cc in none)
 stopped_record r d a b c k (Err f) of_kind stops = refused_record f r r d d a b c
@@ -136,14 +138,14 @@ needle_in_jump_range : (p : Point) → IsTrue (is_within NEEDLE_LIMIT p) → IsT
 needle_in_jump_range p here =
     let near = within_parts NEEDLE_LIMIT p here in
     and_from (nat_le (unsigned_abs p.x) JUMP_LIMIT) (nat_le (unsigned_abs p.y) JUMP_LIMIT)
-      (le-leb _ _ (omega (arith, near.0))) (le-leb _ _ (omega (arith, near.1)))
+    (le-leb _ _ (omega (arith, near.0))) (le-leb _ _ (omega (arith, near.1)))
 
 moved_nowhere : (place m : Point) → IsTrue (is_same_point m origin) → moved place m ≡ place
 moved_nowhere place m same =
     ap (moved place) (same_points m origin same) ∙ same_point (still place.x) (still place.y)
   where
-  still : (x : ℤ) → x +ℤ pos 0 ≡ x
-  still x = omega (arith, ints)
+    still : (x : ℤ) → x +ℤ pos 0 ≡ x
+    still x = omega (arith, ints)
 
 -- the place after a record whose commands are in range is in the range of a jump
 pub place_kept : (k : RecordKind) (run : ℕ) (place m there : Point) → IsTrue (is_kept k)
@@ -153,17 +155,17 @@ place_kept kind.Stitch run place m there kept here is all =
     needle_in_jump_range there (and_parts (is_within NEEDLE_LIMIT there) true all).0
 place_kept kind.Jump run place m there kept here is all = by_test (run == 2) all
   where
-  by_test : (b : Bool) → IsTrue (list_all is_in_range (if b then Trim ∷ Jump there ∷ [] else Jump there ∷ []))
-      → IsTrue (is_within JUMP_LIMIT there)
-  by_test true all = (and_parts (is_within JUMP_LIMIT there) true all).0
-  by_test false all = (and_parts (is_within JUMP_LIMIT there) true all).0
+    by_test : (b : Bool) → IsTrue (list_all is_in_range (if b then Trim ∷ Jump there ∷ [] else Jump there ∷ []))
+        → IsTrue (is_within JUMP_LIMIT there)
+    by_test true all = (and_parts (is_within JUMP_LIMIT there) true all).0
+    by_test false all = (and_parts (is_within JUMP_LIMIT there) true all).0
 place_kept kind.Stop run place m there kept here is all = by_test (is_same_point m origin) refl all
   where
-  by_test : (b : Bool) → is_same_point m origin ≡ b
-      → IsTrue (list_all is_in_range (if b then Stop ∷ [] else Stop ∷ Jump there ∷ []))
-      → IsTrue (is_within JUMP_LIMIT there)
-  by_test true same all = subst (λ p. IsTrue (is_within JUMP_LIMIT p)) (sym (is ∙ moved_nowhere place m same)) here
-  by_test false same all = (and_parts (is_within JUMP_LIMIT there) true all).0
+    by_test : (b : Bool) → is_same_point m origin ≡ b
+        → IsTrue (list_all is_in_range (if b then Stop ∷ [] else Stop ∷ Jump there ∷ []))
+        → IsTrue (is_within JUMP_LIMIT there)
+    by_test true same all = subst (λ p. IsTrue (is_within JUMP_LIMIT p)) (sym (is ∙ moved_nowhere place m same)) here
+    by_test false same all = (and_parts (is_within JUMP_LIMIT there) true all).0
 place_kept kind.Sequin run place m there kept here is all = cc
 place_kept kind.End run place m there kept here is all = cc
 
@@ -174,9 +176,9 @@ whole-first d bytes none =
     ap (λ cs. after_commands cs (reads_from HEADER_LENGTH (length cs) 0 origin bytes)) none
     ∙ nothing_before (reads_from HEADER_LENGTH 0 0 origin bytes)
   where
-  nothing_before : (rest : Result Course ReadFault) → after_commands [] rest ≡ rest
-  nothing_before (Ok course) = refl
-  nothing_before (Err f) = refl
+    nothing_before : (rest : Result Course ReadFault) → after_commands [] rest ≡ rest
+    nothing_before (Ok course) = refl
+    nothing_before (Err f) = refl
 
 same-same : (d d' d'' : DesignValue) → SameButCommands d d' → SameButCommands d' d'' → SameButCommands d d''
 same-same d d' d'' one two = record { label = two.label ∙ one.label; threads = two.threads ∙ one.threads }
@@ -205,9 +207,10 @@ gone_on (a ∷ []) r r' d₀ d d' total ended test long read same is = absurd (l
 gone_on (a ∷ b ∷ []) r r' d₀ d d' total ended test long read same is = absurd (let no : ⊥ = omega (arith, long) in no)
 gone_on (a ∷ b ∷ c ∷ rest) r r' d₀ d d' total ended test long read same is =
     let left : length (a ∷ b ∷ c ∷ rest) - 3 ≡ length rest = omega arith in
-    let on = subst (λ e. ReadsRecord r d a b c (Ok e) r' d') test read in
-    (same-same d₀ d d' same on.0,
-    ap (λ n. whole r' d' (take n rest)) left ∙ ap (whole r' d') (take-length rest) ∙ sym (on.1 rest) ∙ is)
+    let on = subst (λ e. ReadsRecord r d a b c (Ok e) r' d') test read in (
+      same-same d₀ d d' same on.0,
+      ap (λ n. whole r' d' (take n rest)) left ∙ ap (whole r' d') (take-length rest) ∙ sym (on.1 rest) ∙ is,
+    )
 
 pub length-after : (rest : List ℕ) → 3 ≤ length rest → length (take (length rest - 3) (drop 3 rest)) + 3 ≡ length rest
 length-after rest long =
@@ -248,8 +251,8 @@ refused_at (a ∷ []) bytes r r' d₀ d d' f long read is = absurd (let no : ⊥
 refused_at (a ∷ b ∷ []) bytes r r' d₀ d d' f long read is = absurd (let no : ⊥ = omega (arith, long) in no)
 refused_at (a ∷ b ∷ c ∷ rest) bytes r r' d₀ d d' f long read is =
     refusal_of_record f r r' d d' a b c (ReadsRecords bytes d₀ (Err f) d') read
-      (λ refuses. refused_records f bytes d₀ d' (sym is ∙ ap (after_commands d.commands) (refuses rest)))
-      (λ memory. subst (λ f. ReadsRecords bytes d₀ (Err f) d') (sym memory) tt)
+    (λ refuses. refused_records f bytes d₀ d' (sym is ∙ ap (after_commands d.commands) (refuses rest)))
+    (λ memory. subst (λ f. ReadsRecords bytes d₀ (Err f) d') (sym memory) tt)
 
 -- fewer than three bytes are left
 pub run_out : (rest : List ℕ) (r : Reader) (d₀ d : DesignValue) (total : Result Course ReadFault)
@@ -288,7 +291,7 @@ loaded_file bytes d d' ended long of_d read =
     ∙ ap (λ body. loaded_with (label_of bytes) [] (reads_from HEADER_LENGTH 0 0 origin body)) (sym (whole_tail HEADER_LENGTH bytes))
     ∙ ap (loaded_with (label_of bytes) []) read.1
     ∙ ap (λ design. Ok (let l : Loaded = record { design = design; ended = ended } in l))
-      (same_design d' (label_of bytes) [] (read.0.label ∙ ap (λ d. d.label) of_d) (read.0.threads ∙ ap (λ d. d.threads) of_d))
+    (same_design d' (label_of bytes) [] (read.0.label ∙ ap (λ d. d.label) of_d) (read.0.threads ∙ ap (λ d. d.threads) of_d))
 
 -- what was refused
 pub refused_file : (f : ReadFault) (bytes : List ℕ) (d d' : DesignValue) → HEADER_LENGTH ≤ length bytes
@@ -297,11 +300,11 @@ pub refused_file : (f : ReadFault) (bytes : List ℕ) (d d' : DesignValue) → H
 refused_file f bytes d d' long read = as_refused f
     (subst (λ body. ReadsRecords body d (Err f) d') (whole_tail HEADER_LENGTH bytes) read)
   where
-  as_refused : (f : ReadFault) → ReadsRecords (drop HEADER_LENGTH bytes) d (Err f) d' → Reads (reads bytes) (Err f)
-  as_refused (fault.Short at) read = reads-long bytes long ∙ ap (loaded_with (label_of bytes) []) read
-  as_refused (fault.Signature at) read = reads-long bytes long ∙ ap (loaded_with (label_of bytes) []) read
-  as_refused (fault.Sequin at) read = reads-long bytes long ∙ ap (loaded_with (label_of bytes) []) read
-  as_refused (fault.Control at) read = reads-long bytes long ∙ ap (loaded_with (label_of bytes) []) read
-  as_refused (fault.Range at) read = reads-long bytes long ∙ ap (loaded_with (label_of bytes) []) read
-  as_refused (fault.TooMany at) read = reads-long bytes long ∙ ap (loaded_with (label_of bytes) []) read
-  as_refused fault.Memory read = tt
+    as_refused : (f : ReadFault) → ReadsRecords (drop HEADER_LENGTH bytes) d (Err f) d' → Reads (reads bytes) (Err f)
+    as_refused (fault.Short at) read = reads-long bytes long ∙ ap (loaded_with (label_of bytes) []) read
+    as_refused (fault.Signature at) read = reads-long bytes long ∙ ap (loaded_with (label_of bytes) []) read
+    as_refused (fault.Sequin at) read = reads-long bytes long ∙ ap (loaded_with (label_of bytes) []) read
+    as_refused (fault.Control at) read = reads-long bytes long ∙ ap (loaded_with (label_of bytes) []) read
+    as_refused (fault.Range at) read = reads-long bytes long ∙ ap (loaded_with (label_of bytes) []) read
+    as_refused (fault.TooMany at) read = reads-long bytes long ∙ ap (loaded_with (label_of bytes) []) read
+    as_refused fault.Memory read = tt

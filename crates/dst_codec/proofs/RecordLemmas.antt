@@ -1,5 +1,5 @@
 -- The records of jumps, one after the other.
-use Rattle.std.proofs.Common.{◌≡◌, ℕ, zero, suc, ◌+◌, ◌-◌, ◌*◌, ◌/◌, ◌<◌, ◌≤◌, ℤ, pos, negsuc, neg_ℤ, ◌*ℤ◌, IsTrue, nat_le, unsigned_abs, Option, None, option_to_list, List, [], ◌∷◌, ◌++◌, length, get_or, map, take, drop, refl, ap, sym, ◌∙◌, subst, arith}
+use Rattle.std.proofs.Common.{◌≡◌, ℕ, suc, ◌+◌, ◌-◌, ◌*◌, ◌/◌, ◌<◌, ◌≤◌, ℤ, pos, negsuc, neg_ℤ, ◌*ℤ◌, IsTrue, nat_le, unsigned_abs, Option, None, option_to_list, List, [], ◌∷◌, ◌++◌, length, get_or, map, take, drop, refl, ap, sym, ◌∙◌, subst, arith}
 use Rattle.std.proofs.Math.Seq.{take-length}
 use Rattle.std.proofs.lemmas.Bool.{and_parts, and_from, le-leb}
 use Rattle.std.proofs.lemmas.List.{append_assoc}
@@ -48,9 +48,9 @@ jumps_and out middle bytes jumps last of_middle of_bytes =
     of_bytes ∙ ap (λ bytes. bytes ++ last) of_middle ∙ append_assoc out (concat jumps) last
     ∙ ap (λ bytes. out ++ bytes) (sym (concat-append jumps (last ∷ []) ∙ ap (λ bytes. concat jumps ++ bytes) (nothing_after last)))
   where
-  nothing_after : (xs : List ℕ) → xs ++ [] ≡ xs
-  nothing_after [] = refl
-  nothing_after (x ∷ xs) = ap (λ ys. x ∷ ys) (nothing_after xs)
+    nothing_after : (xs : List ℕ) → xs ++ [] ≡ xs
+    nothing_after [] = refl
+    nothing_after (x ∷ xs) = ap (λ ys. x ∷ ys) (nothing_after xs)
 
 -- a third of three times a number
 thrice : (n : ℕ) → int_div_euclid (pos 3 *ℤ negsuc n) (pos 3) ≡ negsuc n
@@ -66,16 +66,16 @@ pub third_float : (out middle bytes : List ℕ) (m : Point) (count : ℕ) → co
     → bytes ≡ out ++ concat (float_records count m)
 third_float out middle bytes m count three of_middle of_bytes =
     subst (λ n. bytes ≡ out ++ concat (float_records n m)) (sym three)
-      (jumps_and out middle bytes (map jump_record (parts_from m 3 0 2))
-        (stitch_record (move_between (part_of m 3 2) m)) of_middle
-        (of_bytes ∙ ap (λ end. middle ++ stitch_record (move_between (part_of m 3 2) end)) (whole m)))
+    (jumps_and out middle bytes (map jump_record (parts_from m 3 0 2))
+    (stitch_record (move_between (part_of m 3 2) m)) of_middle
+    (of_bytes ∙ ap (λ end. middle ++ stitch_record (move_between (part_of m 3 2) end)) (whole m)))
   where
-  whole : (m : Point) → part_of m 3 3 ≡ m
-  whole m = same_point (third m.x) (third m.y)
-    where
-    third : (z : ℤ) → int_div_euclid (pos 3 *ℤ z) (pos 3) ≡ z
-    third (pos n) = ap pos (omega arith)
-    third (negsuc n) = thrice n
+    whole : (m : Point) → part_of m 3 3 ≡ m
+    whole m = same_point (third m.x) (third m.y)
+      where
+        third : (z : ℤ) → int_div_euclid (pos 3 *ℤ z) (pos 3) ≡ z
+        third (pos n) = ap pos (omega arith)
+        third (negsuc n) = thrice n
 
 -- the commands after the first
 abbrev pub rest_of : List Command → List Command

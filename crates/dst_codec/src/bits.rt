@@ -14,8 +14,14 @@ pub fn decode_move(bytes: [u8; 3]) -> Point
 {
     let [first, second, third] = bytes;
     Point {
-        x: difference(sum_along(1, 4, first, second, third), sum_along(2, 8, first, second, third)),
-        y: difference(sum_along(64, 16, first, second, third), sum_along(128, 32, first, second, third)),
+        x: difference(
+            sum_along(1, 4, first, second, third),
+            sum_along(2, 8, first, second, third),
+        ),
+        y: difference(
+            sum_along(64, 16, first, second, third),
+            sum_along(128, 32, first, second, third),
+        ),
     }
 }
 
@@ -53,7 +59,11 @@ fn sum_along(one: u32, nine: u32, first: u8, second: u8, third: u8) -> u32
     ensures value { result ≡ sum_of one nine first second third }
     ensures most { result ≤ LIMIT }
 {
-    bit(first, one) + 3 * bit(second, one) + 9 * bit(first, nine) + 27 * bit(second, nine) + 81 * bit(third, nine)
+    bit(first, one)
+        + 3 * bit(second, one)
+        + 9 * bit(first, nine)
+        + 27 * bit(second, nine)
+        + 81 * bit(third, nine)
 }
 
 fn bit(byte: u8, worth: u32) -> u32

@@ -6,17 +6,14 @@ pub fn written_reads_again()
     ensures again { WrittenReadsAgain }
     ensures within { WrittenMovesWithin }
     ensures plain { PlainIsWritten }
-{
-}
+{}
 
 /// The label of any design that is written is read again.
 pub fn label_reads_again()
     ensures { LabelReadsAgain }
-{
-}
+{}
 
 /// No stitch and no float of a design that was read is too long to be written.
 pub fn read_is_within_reach()
     ensures { ReadIsWithinReach }
-{
-}
+{}

@@ -83,7 +83,13 @@ impl Reader {
     }
 
     /// Reads one record, and says whether it was the end.
-    fn read(&mut self, design: &mut Design, first: u8, second: u8, third: u8) -> Result<bool, ReadFault>
+    fn read(
+        &mut self,
+        design: &mut Design,
+        first: u8,
+        second: u8,
+        third: u8,
+    ) -> Result<bool, ReadFault>
         requires at { self.old.at + 3 < 2 ^ 64 }
         requires run { self.old.run ≤ length design.old.commands }
         requires place { IsTrue (is_within JUMP_LIMIT self.old.place) }

@@ -72,7 +72,12 @@ fn put_act_records(out: &mut Bytes, before: &Standing, act: Act) -> Result<(), M
         ++ concat (records_of_act before.now.loose before.now.place act)) }
 {
     match act {
-        Act::Needle { at, float } => put_needle(out, before.loose, float, move_between(before.place, at)),
+        Act::Needle { at, float } => put_needle(
+            out,
+            before.loose,
+            float,
+            move_between(before.place, at),
+        ),
         Act::Trim => out.append(&TRIM),
         Act::Stop => out.append(&STOP),
     }

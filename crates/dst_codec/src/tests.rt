@@ -102,7 +102,10 @@ fn a_file_without_an_end_is_read(rt: HostRuntime) -> Result<(), Fail> {
     file.extend_from_slice(&[0x00, 0x05, 0x03, 0x00, 0x05])?;
     let loaded = Dst.decode(alloc, file.as_slice()).ok().ok_or("not read")?;
     assert_eq!(rt; loaded.ended, false);
-    assert_eq!(rt; loaded.design.commands(), [Command::Stitch(Point { x: 30, y: 0 })].as_slice());
+    assert_eq!(rt;
+        loaded.design.commands(),
+        [Command::Stitch(Point { x: 30, y: 0 })].as_slice()
+    );
     Ok(())
 }
 
@@ -110,15 +113,24 @@ fn a_file_without_an_end_is_read(rt: HostRuntime) -> Result<(), Fail> {
 fn a_file_is_refused_at_its_first_fault(rt: HostRuntime) -> Result<(), Fail> {
     let alloc = rt.alloc();
     let short = spaces(alloc, 511)?;
-    assert_eq!(rt; Dst.decode(alloc, short.as_slice()).err(), Some(ReadFault::Short { at: 511 }));
+    assert_eq!(rt;
+        Dst.decode(alloc, short.as_slice()).err(),
+        Some(ReadFault::Short { at: 511 })
+    );
     let mut file = spaces(alloc, 512)?;
     for _ in 0..248 {
         file.extend_from_slice(&[0x05, 0x05, 0x07])?;
     }
-    assert_eq!(rt; Dst.decode(alloc, file.as_slice()).err(), Some(ReadFault::Range { at: 1253 }));
+    assert_eq!(rt;
+        Dst.decode(alloc, file.as_slice()).err(),
+        Some(ReadFault::Range { at: 1253 })
+    );
     let mut sequin = spaces(alloc, 512)?;
     sequin.extend_from_slice(&[0x00, 0x00, 0x43])?;
-    assert_eq!(rt; Dst.decode(alloc, sequin.as_slice()).err(), Some(ReadFault::Sequin { at: 512 }));
+    assert_eq!(rt;
+        Dst.decode(alloc, sequin.as_slice()).err(),
+        Some(ReadFault::Sequin { at: 512 })
+    );
     Ok(())
 }
 
@@ -129,7 +141,10 @@ fn a_design_of_a_thousand_stops_is_refused_at_the_last(rt: HostRuntime) -> Resul
     for _ in 0..1000 {
         design.push(Command::Stop).ok().ok_or("no stop")?;
     }
-    assert_eq!(rt; Dst.encode(alloc, &design).err(), Some(WriteFault::TooManyStops { number: 1000 }));
+    assert_eq!(rt;
+        Dst.encode(alloc, &design).err(),
+        Some(WriteFault::TooManyStops { number: 1000 })
+    );
     Ok(())
 }
 

@@ -1,5 +1,5 @@
 -- A text without the spaces at its end, and what a label field holds.
-use Rattle.std.proofs.Common.{◌≡◌, ◌≢◌, ℕ, zero, suc, ◌+◌, ◌-◌, ◌<◌, ◌≤◌, Bool, true, false, ◌&&◌, List, [], ◌∷◌, ◌++◌, length, map, take, get_or, All, Some, None, slice_get, nat_le, ◌==◌, if◌then◌else◌, refl, ap, sym, ◌∙◌, subst, arith}
+use Rattle.std.proofs.Common.{◌≡◌, ◌≢◌, ℕ, suc, ◌+◌, ◌-◌, ◌<◌, ◌≤◌, Bool, true, false, ◌&&◌, List, [], ◌∷◌, ◌++◌, length, map, take, get_or, All, Some, slice_get, nat_le, ◌==◌, if◌then◌else◌, refl, ap, sym, ◌∙◌, subst, arith}
 use Rattle.std.proofs.Math.Seq.{take-length}
 use Rattle.std.proofs.lemmas.Bool.{and_parts, leb-true, eqb-false, ne_eqb}
 use Rattle.std.proofs.lemmas.List.{take_all, take_more, length-map}
@@ -41,9 +41,9 @@ trimmed-stays xs some other =
 length-before_trimmed : (x : ℕ) (rest : List ℕ) → length (before_trimmed x rest) ≤ suc (length rest)
 length-before_trimmed x [] = by_test (x == 32)
   where
-  by_test : (b : Bool) → length (if b then [] else x ∷ []) ≤ 1
-  by_test true = omega arith
-  by_test false = omega arith
+    by_test : (b : Bool) → length (if b then [] else x ∷ []) ≤ 1
+    by_test true = omega arith
+    by_test false = omega arith
 length-before_trimmed x (y ∷ rest) = omega arith
 
 length-trimmed : (xs : List ℕ) → length (trimmed xs) ≤ length xs
@@ -56,9 +56,9 @@ length-trimmed (x ∷ xs) =
 All-before_trimmed : (P : ℕ → Type 0) (x : ℕ) (rest : List ℕ) → P x → All P rest → All P (before_trimmed x rest)
 All-before_trimmed P x [] here all = by_test (x == 32)
   where
-  by_test : (b : Bool) → All P (if b then [] else x ∷ [])
-  by_test true = All-nil P
-  by_test false = All-cons P x [] here (All-nil P)
+    by_test : (b : Bool) → All P (if b then [] else x ∷ [])
+    by_test true = All-nil P
+    by_test false = All-cons P x [] here (All-nil P)
 All-before_trimmed P x (y ∷ rest) here all = All-cons P x (y ∷ rest) here all
 
 All-trimmed : (P : ℕ → Type 0) (xs : List ℕ) → All P xs → All P (trimmed xs)
@@ -72,9 +72,9 @@ IsTrimmed xs = slice_get xs (length xs - 1) ≢ Some 32
 before_is_trimmed : (x : ℕ) (rest : List ℕ) → IsTrimmed rest → IsTrimmed (before_trimmed x rest)
 before_is_trimmed x [] is = by_test (x == 32) refl
   where
-  by_test : (b : Bool) → (x == 32) ≡ b → IsTrimmed (if b then [] else x ∷ [])
-  by_test true test = λ no. cc
-  by_test false test = λ no. eqb-false x 32 test (let same : x ≡ 32 = cc in same)
+    by_test : (b : Bool) → (x == 32) ≡ b → IsTrimmed (if b then [] else x ∷ [])
+    by_test true test = λ no. cc
+    by_test false test = λ no. eqb-false x 32 test (let same : x ≡ 32 = cc in same)
 before_is_trimmed x (y ∷ rest) is =
     let next : length (x ∷ y ∷ rest) - 1 ≡ suc (length (y ∷ rest) - 1) = omega arith in
     subst (λ n. slice_get (x ∷ y ∷ rest) n ≢ Some 32) (sym next) is
@@ -86,10 +86,10 @@ trimmed_is_trimmed (x ∷ xs) = before_is_trimmed x (trimmed xs) (trimmed_is_tri
 shown_printable : (byte : ℕ) → IsPrintable (shown byte)
 shown_printable byte = by_test (nat_le 32 byte && nat_le byte 126) refl
   where
-  by_test : (b : Bool) → (nat_le 32 byte && nat_le byte 126) ≡ b → IsPrintable (if b then byte else 63)
-  by_test true test = let both = and_parts (nat_le 32 byte) (nat_le byte 126) test in
-    record { from_space = leb-true 32 byte both.0; to_tilde = leb-true byte 126 both.1 }
-  by_test false test = record { from_space = omega arith; to_tilde = omega arith }
+    by_test : (b : Bool) → (nat_le 32 byte && nat_le byte 126) ≡ b → IsPrintable (if b then byte else 63)
+    by_test true test = let both = and_parts (nat_le 32 byte) (nat_le byte 126) test in
+        record { from_space = leb-true 32 byte both.0; to_tilde = leb-true byte 126 both.1 }
+    by_test false test = record { from_space = omega arith; to_tilde = omega arith }
 
 All-shown : (xs : List ℕ) → All (λ byte. IsPrintable (shown byte)) xs
 All-shown [] = All-nil (λ byte. IsPrintable (shown byte))

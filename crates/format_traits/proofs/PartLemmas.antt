@@ -1,5 +1,5 @@
 -- The equal parts of a move, rounded towards the lesser number, are not larger than they should be.
-use Rattle.std.proofs.Common.{◌≡◌, ℕ, zero, suc, ◌+◌, ◌*◌, ◌/◌, ◌<◌, ◌≤◌, ◌↔◌, ℤ, pos, negsuc, neg_ℤ, ◌-ℤ◌, ◌*ℤ◌, unsigned_abs, refl, ap, sym, ◌∙◌, subst, arith}
+use Rattle.std.proofs.Common.{◌≡◌, ℕ, zero, suc, ◌+◌, ◌*◌, ◌/◌, ◌<◌, ◌≤◌, ℤ, pos, negsuc, neg_ℤ, ◌-ℤ◌, ◌*ℤ◌, unsigned_abs, refl, ap, sym, subst, arith}
 use Rattle.std.proofs.Math.Nat.{zero-div, mul-le-mul, mul_comm, div-le_of_le-mul, div-lt_iff_lt-mul, le-div_iff_mul-le, lt-div-mul-add, div-mul-le_self}
 use Rattle.std.proofs.lemmas.Int.{ints}
 use Rattle.std.specs.Int.{int_div_euclid}
@@ -14,7 +14,7 @@ quotient_step x a limit count some small =
     let high : x + a < (x / count + limit + 1) * count = omega (arith, over, small) in
     let first : x / count ≤ (x + a) / count = (le-div_iff_mul-le {k = count} {x = x / count} {y = x + a} some).1 low in
     let last : (x + a) / count < x / count + limit + 1 =
-      (div-lt_iff_lt-mul {k = count} {x = x + a} {y = x / count + limit + 1} some).1 high in
+    (div-lt_iff_lt-mul {k = count} {x = x + a} {y = x / count + limit + 1} some).1 high in
     (first, omega (arith, last))
 
 -- a quotient rounded upwards
@@ -40,7 +40,7 @@ upper_step (suc p) a limit count some small =
     let step = quotient_step p (suc a) limit count some small in
     let sum : suc p + suc a ≡ suc (p + suc a) = omega arith in
     subst (λ n. (suc (p / count) ≤ upper n count) × (upper n count ≤ suc (p / count) + limit)) (sym sum)
-      (omega (arith, step.0), omega (arith, step.1))
+    (omega (arith, step.0), omega (arith, step.1))
 
 abs_difference : (x y limit : ℕ) → y ≤ x → x ≤ y + limit → unsigned_abs (pos x -ℤ pos y) ≤ limit
 abs_difference x y limit low high = omega (arith, ints)
@@ -55,14 +55,14 @@ part_near (pos a) limit count done some small =
     let step = quotient_step (done * a) a limit count some small in
     let next : (done + 1) * a ≡ done * a + a = omega arith in
     subst (λ n. unsigned_abs (pos (n / count) -ℤ pos (done * a / count)) ≤ limit) (sym next)
-      (abs_difference ((done * a + a) / count) (done * a / count) limit step.0 step.1)
+    (abs_difference ((done * a + a) / count) (done * a / count) limit step.0 step.1)
 part_near (negsuc a) limit count done some small =
     let step = upper_step (done * suc a) a limit count some small in
     let next : (done + 1) * suc a ≡ done * suc a + suc a = omega arith in
     subst (λ n. unsigned_abs (int_div_euclid (neg_ℤ (pos n)) (pos count)
-        -ℤ int_div_euclid (neg_ℤ (pos (done * suc a))) (pos count)) ≤ limit) (sym next)
-      (rw (floor_negative (done * suc a + suc a) count, floor_negative (done * suc a) count)
-        (abs_opposites (upper (done * suc a + suc a) count) (upper (done * suc a) count) limit step.0 step.1))
+    -ℤ int_div_euclid (neg_ℤ (pos (done * suc a))) (pos count)) ≤ limit) (sym next)
+    (rw (floor_negative (done * suc a + suc a) count, floor_negative (done * suc a) count)
+    (abs_opposites (upper (done * suc a + suc a) count) (upper (done * suc a) count) limit step.0 step.1))
 
 upper_small : (p bound count : ℕ) → 0 < count → p ≤ bound * count → upper p count ≤ bound
 unfolding upper
@@ -84,4 +84,4 @@ part_small (negsuc a) bound count done some few small =
     let most : done * suc a ≤ count * bound = mul-le-mul few small in
     let turned : done * suc a ≤ bound * count = omega (arith, most, mul_comm count bound) in
     rw (floor_negative (done * suc a) count, abs_negative (upper (done * suc a) count))
-      (upper_small (done * suc a) bound count some turned)
+    (upper_small (done * suc a) bound count some turned)

@@ -17,7 +17,12 @@ pub fn keep(design: &mut Design, at: u64, command: Command) -> Result<(), ReadFa
 }
 
 /// Adds the two commands of the record at that offset, in order.
-pub fn keep_both(design: &mut Design, at: u64, first: Command, second: Command) -> Result<(), ReadFault>
+pub fn keep_both(
+    design: &mut Design,
+    at: u64,
+    first: Command,
+    second: Command,
+) -> Result<(), ReadFault>
     ensures { Keeps at (first ∷ second ∷ []) design.old result design.new }
 {
     if let Err(fault) = keep(design, at, first) {

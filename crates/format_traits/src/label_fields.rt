@@ -42,7 +42,11 @@ pub fn read_label(design: &mut Design, field: &[u8])
 fn shown(byte: u8) -> u8
     ensures { result ≡ shown_as byte }
 {
-    if 32 <= byte && byte <= 126 { byte } else { b'?' }
+    if 32 <= byte && byte <= 126 {
+        byte
+    } else {
+        b'?'
+    }
 }
 
 /// A text without the spaces at its end.

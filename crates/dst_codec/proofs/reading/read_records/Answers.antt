@@ -11,8 +11,8 @@ returns-in-Ok-true c = ended_at c.loop-rest.rest.now c.loop-rest.reader c.read.n
 pub loop-rest-preserved : goal.loop-rest-preserved
 loop-rest-preserved c =
     let on = gone_on c.loop-rest.rest.now c.loop-rest.reader c.read.new.self c.args.design.now c.loop-rest.design
-      c.read.new.design _ c.in-Ok-false.field-0 c.in-Ok-false.field-0-test c.in-len3-up.len_at_least
-      c.in-Ok-false.ensures.value c.loop-rest.invariant.same c.loop-rest.invariant.reads in
+    c.read.new.design _ c.in-Ok-false.field-0 c.in-Ok-false.field-0-test c.in-len3-up.len_at_least
+    c.in-Ok-false.ensures.value c.loop-rest.invariant.same c.loop-rest.invariant.reads in
     let left = length-after c.loop-rest.rest.now c.in-len3-up.len_at_least in
     record {
       at = omega (arith, left, c.in-Ok-false.ensures.at, c.loop-rest.invariant.at);

@@ -12,7 +12,7 @@ loop-rest-preserved-in_ok-put_act c =
     let some = c.in-len1-up.len_at_least in
     let split = acts_split rest _ c.loop-rest.walk c.next.new.self c.next.result some c.next.ensures.value in
     let is : acts_after c.loop-rest.walk rest ≡ c.in-Some.act ∷ acts_after c.next.new.self (rest_of rest) =
-      split ∙ ap (λ r. option_to_list r ++ acts_after c.next.new.self (rest_of rest)) c.in-Some.is in
+    split ∙ ap (λ r. option_to_list r ++ acts_after c.next.new.self (rest_of rest)) c.in-Some.is in
     let left = length-rest_of rest some in
     record {
       count = omega (arith, left, c.next.ensures.number, c.loop-rest.invariant.count);
@@ -21,9 +21,9 @@ loop-rest-preserved-in_ok-put_act c =
       room = c.in_ok-put_act.ensures.room;
       stops = c.in_ok-put_act.ensures.stops;
       accepted = accepted_rest c.loop-rest.standing c.put_act.new.standing c.in-Some.act _ _ is
-        c.loop-rest.invariant.accepted c.in_ok-put_act.ensures.accepted c.in_ok-put_act.ensures.standing;
+          c.loop-rest.invariant.accepted c.in_ok-put_act.ensures.accepted c.in_ok-put_act.ensures.standing;
       written = written_rest c.loop-rest.standing c.put_act.new.standing c.in-Some.act _ _ _ _ _ is
-        c.in_ok-put_act.ensures.standing c.in_ok-put_act.ensures.records c.loop-rest.invariant.written;
+          c.in_ok-put_act.ensures.standing c.in_ok-put_act.ensures.records c.loop-rest.invariant.written;
     }
 
 pub loop-rest-preserved : goal.loop-rest-preserved
@@ -32,7 +32,7 @@ loop-rest-preserved c =
     let some = c.in-len1-up.len_at_least in
     let split = acts_split rest _ c.loop-rest.walk c.next.new.self c.next.result some c.next.ensures.value in
     let is : acts_after c.loop-rest.walk rest ≡ acts_after c.next.new.self (rest_of rest) =
-      split ∙ ap (λ r. option_to_list r ++ acts_after c.next.new.self (rest_of rest)) c.in_default-next.is in
+    split ∙ ap (λ r. option_to_list r ++ acts_after c.next.new.self (rest_of rest)) c.in_default-next.is in
     let left = length-rest_of rest some in
     record {
       count = omega (arith, left, c.next.ensures.number, c.loop-rest.invariant.count);
@@ -42,6 +42,6 @@ loop-rest-preserved c =
       stops = c.loop-rest.invariant.stops;
       accepted = subst (λ acts. refusal_from reach c.loop-rest.standing acts ≡ None) is c.loop-rest.invariant.accepted;
       written = ap (λ acts. c.loop-rest.out
-        ++ concat (records_from c.loop-rest.standing.loose c.loop-rest.standing.place acts)) (sym is)
-        ∙ c.loop-rest.invariant.written;
+          ++ concat (records_from c.loop-rest.standing.loose c.loop-rest.standing.place acts)) (sym is)
+          ∙ c.loop-rest.invariant.written;
     }

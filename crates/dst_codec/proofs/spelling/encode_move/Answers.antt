@@ -1,4 +1,4 @@
-use Rattle.std.proofs.Common.{◌≡◌, ℤ, IsTrue, unsigned_abs, nat_le, ap, ◌∙◌, refl, rules}
+use Rattle.std.proofs.Common.{◌≡◌, IsTrue, unsigned_abs, nat_le, ap, ◌∙◌, refl, rules}
 use Rattle.std.proofs.lemmas.Bool.{and_from, le-leb}
 use Rattle.design_model.specs.declared.point.Point.{Point}
 use Rattle.design_model.specs.Points.{is_within}
@@ -12,7 +12,7 @@ pub returns-clause-back : goal.returns-clause-back
 returns-clause-back c =
     let m : Point = record { x = c.args.dx; y = c.args.dy } in
     let within : IsTrue (is_within LIMIT m) =
-      and_from (nat_le (unsigned_abs c.args.dx) LIMIT) (nat_le (unsigned_abs c.args.dy) LIMIT)
-        (le-leb _ _ c.requires.x) (le-leb _ _ c.requires.y) in
+    and_from (nat_le (unsigned_abs c.args.dx) LIMIT) (nat_le (unsigned_abs c.args.dy) LIMIT)
+    (le-leb _ _ c.requires.x) (le-leb _ _ c.requires.y) in
     let is : c.spell.result ≡ stitch_record m = search rules in
     ap move_in is ∙ move_of-record 0 0 m refl within

@@ -13,7 +13,7 @@ loop-rest-preserved c =
     let some = c.in-len1-up.len_at_least in
     let split = acts_split rest _ c.loop-rest.walk c.next.new.self c.next.result some c.next.ensures.value in
     let is : acts_after c.loop-rest.walk rest ≡ acts_after c.next.new.self (rest_of rest) =
-      split ∙ ap (λ r. option_to_list r ++ acts_after c.next.new.self (rest_of rest)) c.in_default-next.is in
+    split ∙ ap (λ r. option_to_list r ++ acts_after c.next.new.self (rest_of rest)) c.in_default-next.is in
     let left = length-rest_of rest some in
     record {
       count = omega (arith, left, c.next.ensures.number, c.loop-rest.invariant.count);

@@ -1,5 +1,5 @@
-use Rattle.std.proofs.Common.{◌≡◌, ◌≤◌, ◌*ℤ◌, pos, unsigned_abs, subst, sym, ap, ◌∙◌, arith, rules}
-use Rattle.std.proofs.lemmas.Int.{ints, to_z-of_z}
+use Rattle.std.proofs.Common.{◌≡◌, ◌≤◌, ◌*ℤ◌, pos, unsigned_abs, subst, sym, ap, ◌∙◌, rules}
+use Rattle.std.proofs.lemmas.Int.{to_z-of_z}
 use Rattle.std.specs.Int.{w32, int_div_euclid}
 use mir.Val.{to_z, of_z, SFits}
 use Rattle.format_traits.specs.declared.placing.TheConstants.{GREATEST_MOVE}
@@ -10,7 +10,7 @@ pub returns-clause-small : goal.returns-clause-small
 returns-clause-small c =
     let fits : SFits w32 c.floor_part.result = search rules in
     let is : to_z w32 (of_z w32 c.floor_part.result) ≡ int_div_euclid (pos c.args.done *ℤ c.args.step) (pos c.args.count) =
-      to_z-of_z w32 c.floor_part.result fits ∙ c.floor_part.ensures
-      ∙ ap (λ z. int_div_euclid (pos c.args.done *ℤ z) (pos c.args.count)) (to_z-of_z w32 c.args.step c.ranges.step) in
+    to_z-of_z w32 c.floor_part.result fits ∙ c.floor_part.ensures
+    ∙ ap (λ z. int_div_euclid (pos c.args.done *ℤ z) (pos c.args.count)) (to_z-of_z w32 c.args.step c.ranges.step) in
     subst (λ z. unsigned_abs z ≤ GREATEST_MOVE) (sym is)
-      (part_small c.args.step GREATEST_MOVE c.args.count c.args.done c.requires.some c.requires.there c.requires.size)
+    (part_small c.args.step GREATEST_MOVE c.args.count c.args.done c.requires.some c.requires.there c.requires.size)
