@@ -6,7 +6,7 @@ use Rattle.std.proofs.lemmas.Int.{ints}
 use Rattle.std.proofs.lemmas.List.{append_assoc, append-nil, take_all, length-drop}
 use Rattle.std.specs.List.{list_all}
 use Rattle.design_model.specs.declared.command.Command.{Command}
-use Rattle.design_model.specs.declared.command.Command.TheVariants.{Stitch, Jump, Trim, Stop}
+use Rattle.design_model.specs.declared.command.Command.TheVariants.{Jump, Trim, Stop}
 use Rattle.design_model.specs.declared.design.TheConstants.{MAX_COMMANDS}
 use Rattle.design_model.specs.declared.point.Point.{Point}
 use Rattle.design_model.specs.declared.point.TheConstants.{NEEDLE_LIMIT, JUMP_LIMIT}
@@ -27,7 +27,7 @@ use Rattle.dst_codec.specs.declared.record_kind.RecordKind.{RecordKind}
 use Rattle.dst_codec.specs.declared.record_kind.RecordKind.TheVariants as kind
 use Rattle.dst_codec.specs.Bits.{move_of, kind_of}
 use Rattle.dst_codec.specs.Reading.{reads, reads_from, read_record, commands_of, run_after, label_of}
-use Rattle.dst_codec.specs.Steps.{SameButCommands, RefusesRecord, ReadsRecord, ReadsRecords, Stops, first_reader, is_kept, continues, whole, ends_with}
+use Rattle.dst_codec.specs.Steps.{SameButCommands, RefusesRecord, ReadsRecord, ReadsRecords, Stops, first_reader, is_kept, whole, ends_with}
 use Rattle.dst_codec.proofs.SpellingLemmas.{same_point, same_points, within_parts}
 
 -- a record of that kind and that move, and the rest

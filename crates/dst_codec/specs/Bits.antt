@@ -5,7 +5,7 @@
 --   first   y+1    y-1    y+9    y-9    x-9    x+9    x-1    x+1
 --   second  y+3    y-3    y+27   y-27   x-27   x+27   x-3    x+3
 --   third   flag   flag   y+81   y-81   x-81   x+81   set    set
-use Rattle.std.specs.Prelude.{ℕ, ◌+◌, ◌*◌, ◌/◌, ◌%◌, pos, ◌-ℤ◌, List, [], ◌∷◌, ◌==◌, if◌then◌else◌}
+use Rattle.std.specs.Prelude.{ℕ, ◌+◌, ◌*◌, ◌/◌, ◌%◌, pos, ◌-ℤ◌, List, ◌∷◌, ◌==◌, if◌then◌else◌}
 use Rattle.design_model.specs.declared.point.Point.{Point}
 use Rattle.design_model.specs.Points.{origin}
 use Rattle.dst_codec.specs.declared.record_kind.RecordKind.{RecordKind}

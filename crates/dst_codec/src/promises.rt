@@ -1,5 +1,5 @@
-ghost use Rattle.dst_codec.specs.Limits.{DstLimits};
 ghost use Rattle.dst_codec.specs.Laws.{LabelReadsAgain, PlainIsWritten, ReadIsWithinReach, WrittenMovesWithin, WrittenReadsAgain};
+ghost use Rattle.dst_codec.specs.Limits.{DstLimits};
 
 /// What any design is written as reads as the same acts and moves within the limit, and any plain
 /// design is written.

@@ -4,13 +4,13 @@ ghost use Rattle.design_model.specs.declared.design.TheConstants.{MAX_COMMANDS};
 ghost use Rattle.design_model.specs.declared.point.TheConstants.{NEEDLE_LIMIT};
 ghost use Rattle.design_model.specs.Acts.{acts_along, numbered};
 ghost use Rattle.design_model.specs.Commands.{is_in_range};
-ghost use Rattle.design_model.specs.Points.{is_within, origin, size_of as size};
+ghost use Rattle.design_model.specs.Points.{is_within, size_of as size};
 ghost use Rattle.format_traits.specs.declared.placing.TheConstants.{GREATEST_MOVE, MOST_HOPS};
 ghost use Rattle.format_traits.specs.Placing.{is_act_in_range, parts_from};
 ghost use Rattle.format_traits.specs.Refusals.{first_refusal, refusal_at, standing_after};
 ghost use Rattle.dst_codec.specs.declared.dst.TheConstants.{LIMIT};
-ghost use Rattle.dst_codec.specs.Spelling.{record_of, jump_record, trim_records};
-ghost use Rattle.dst_codec.specs.Writing.{reach, records_of, records_of_act, needle_records, float_records, hop_records, third_stitched};
+ghost use Rattle.dst_codec.specs.Spelling.{record_of, jump_record};
+ghost use Rattle.dst_codec.specs.Writing.{reach, records_of, records_of_act, needle_records, float_records, hop_records};
 
 use crate::dst::LIMIT;
 use crate::spelling::{JUMP, spell};

@@ -8,7 +8,7 @@ ghost use Rattle.design_model.specs.Points.{is_within, size_of as size};
 ghost use Rattle.format_traits.specs.declared.placing.TheConstants.{GREATEST_MOVE};
 ghost use Rattle.format_traits.specs.Placing.{is_act_in_range};
 ghost use Rattle.dst_codec.specs.Header.{above as above_of, below as below_of};
-ghost use Rattle.dst_codec.specs.Surveys.{empty_survey, float_count as float_count_of, needle_count as needle_count_of, record_count as record_count_of, stretched, stretched_by, noted, Notes, SurveysActs};
+ghost use Rattle.dst_codec.specs.Surveys.{empty_survey, float_count as float_count_of, needle_count as needle_count_of, record_count as record_count_of, stretched, stretched_by, Notes, SurveysActs};
 
 use crate::dst::{LIMIT, MAX_FLOAT_HOPS, MAX_STOPS};
 use crate::header::{Extents, HeaderNumbers};

@@ -1,5 +1,5 @@
 -- The equal parts of a move, rounded towards the lesser number, are not larger than they should be.
-use Rattle.std.proofs.Common.{◌≡◌, ℕ, zero, suc, ◌+◌, ◌*◌, ◌/◌, ◌<◌, ◌≤◌, ◌↔◌, ℤ, pos, negsuc, neg_ℤ, ◌-ℤ◌, ◌*ℤ◌, unsigned_abs, refl, ap, sym, ◌∙◌, subst, arith}
+use Rattle.std.proofs.Common.{◌≡◌, ℕ, zero, suc, ◌+◌, ◌*◌, ◌/◌, ◌<◌, ◌≤◌, ℤ, pos, negsuc, neg_ℤ, ◌-ℤ◌, ◌*ℤ◌, unsigned_abs, refl, ap, sym, subst, arith}
 use Rattle.std.proofs.Math.Nat.{zero-div, mul-le-mul, mul_comm, div-le_of_le-mul, div-lt_iff_lt-mul, le-div_iff_mul-le, lt-div-mul-add, div-mul-le_self}
 use Rattle.std.proofs.lemmas.Int.{ints}
 use Rattle.std.specs.Int.{int_div_euclid}

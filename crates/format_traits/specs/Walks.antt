@@ -1,5 +1,5 @@
 -- Going through the acts of a design, command by command.
-use Rattle.std.specs.Prelude.{ℕ, ◌+◌, true, false, Bool, List}
+use Rattle.std.specs.Prelude.{◌+◌, List}
 use Rattle.design_model.specs.declared.act.NumberedAct.{NumberedAct}
 use Rattle.design_model.specs.declared.command.Command.{Command}
 use Rattle.design_model.specs.Acts.{acts_from}

@@ -13,8 +13,6 @@ mod loaded;
 mod lookup;
 mod placing;
 mod standing;
-#[cfg(test)]
-mod tests;
 
 pub use act_walk::ActWalk;
 pub use boxed::{decode_at, decode_by, encode_at, encode_by, ext_at, ext_of, limit_at, limit_of};

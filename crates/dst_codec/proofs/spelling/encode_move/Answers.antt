@@ -1,4 +1,4 @@
-use Rattle.std.proofs.Common.{◌≡◌, ℤ, IsTrue, unsigned_abs, nat_le, ap, ◌∙◌, refl, rules}
+use Rattle.std.proofs.Common.{◌≡◌, IsTrue, unsigned_abs, nat_le, ap, ◌∙◌, refl, rules}
 use Rattle.std.proofs.lemmas.Bool.{and_from, le-leb}
 use Rattle.design_model.specs.declared.point.Point.{Point}
 use Rattle.design_model.specs.Points.{is_within}

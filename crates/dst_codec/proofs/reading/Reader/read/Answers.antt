@@ -1,4 +1,4 @@
-use Rattle.std.proofs.Common.{IsTrue, sym, ◌∙◌, rules}
+use Rattle.std.proofs.Common.{IsTrue, sym, rules}
 use Rattle.dst_codec.specs.Steps.{is_kept}
 use Rattle.dst_codec.proofs.ReadingLemmas.{stopped_record, kept_record, place_kept}
 use Rattle.dst_codec.proofs.reading.Reader.read.Goals as goal
