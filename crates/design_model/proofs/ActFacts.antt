@@ -1,5 +1,5 @@
 -- Worked values of the acts.
-use Rattle.std.proofs.Common.{◌≡◌, ℤ, pos, true, false, List, [], ◌∷◌, refl}
+use Rattle.std.proofs.Common.{◌≡◌, ℤ, pos, true, false, [], ◌∷◌, refl}
 use Rattle.design_model.specs.declared.act.Act.TheVariants as act
 use Rattle.design_model.specs.declared.command.Command.TheVariants.{Stitch, Jump, Trim, Stop}
 use Rattle.design_model.specs.declared.point.Point.{Point}

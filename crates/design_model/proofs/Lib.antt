@@ -1,1 +1,6 @@
 mod ActFacts
+mod CountFacts
+mod ExtentFacts
+pub mod ExtentLemmas
+mod BlockFacts
+pub mod BlockLemmas

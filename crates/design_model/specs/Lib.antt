@@ -5,3 +5,7 @@ pub mod Commands
 -- read this one first: what a design is, and its limits
 pub mod Designs
 pub mod Acts
+pub mod ActKinds
+pub mod Counts
+pub mod Extents
+pub mod Blocks

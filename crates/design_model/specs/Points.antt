@@ -1,5 +1,5 @@
 -- Places, in whole tenths of a millimetre; x grows to the right, y grows downwards.
-use Rattle.std.specs.Prelude.{ℕ, ℤ, Bool, ◌&&◌, ◌-ℤ◌, max, nat_le, unsigned_abs, pos}
+use Rattle.std.specs.Prelude.{ℕ, Bool, ◌&&◌, ◌-ℤ◌, max, nat_le, unsigned_abs, pos}
 use Rattle.design_model.specs.declared.point.Point.{Point}
 
 -- neither coordinate is larger in size than the limit

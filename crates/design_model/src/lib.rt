@@ -4,22 +4,32 @@
 
 mod act;
 mod act_lists;
+mod block_needles;
+mod bounds;
 mod command;
 mod design;
+mod design_counts;
+mod design_extent;
 mod items;
 mod laws;
 mod memory;
 mod point;
+mod tally;
 #[cfg(test)]
 mod tests;
 mod thread_state;
 
 pub use act::{Act, NumberedAct};
 pub use act_lists::acts;
+pub use block_needles::block_counts;
+pub use bounds::Extent;
 pub use command::Command;
 pub use design::{Design, MAX_COMMANDS, MAX_LABEL, MAX_THREADS, ModelFault};
+pub use design_counts::counts;
+pub use design_extent::extent;
 pub use items::{Acts, Bytes, Commands, Items, Numbers, Points};
 pub use laws::the_limits_of_designs;
 pub use memory::Memory;
 pub use point::{JUMP_LIMIT, NEEDLE_LIMIT, Point};
+pub use tally::Counts;
 pub use thread_state::ThreadState;

@@ -1,4 +1,7 @@
-use crate::{Act, Acts, Bytes, Command, Design, Memory, ModelFault, NumberedAct, Point, acts};
+use crate::{
+    Act, Acts, Bytes, Command, Counts, Design, Extent, Memory, ModelFault, NumberedAct, Point,
+    acts, block_counts, counts, extent,
+};
 use std::test::Fail;
 
 fn at(x: i32) -> Point {
@@ -84,5 +87,58 @@ fn acts_carry_the_numbers_of_their_commands(rt: HostRuntime) -> Result<(), Fail>
         },
     ];
     assert_eq!(rt; listed?.as_slice(), expected.as_slice());
+    Ok(())
+}
+
+fn place(x: i32, y: i32) -> Point {
+    Point { x, y }
+}
+
+#[test]
+fn a_design_is_counted_measured_and_parted_into_blocks(rt: HostRuntime) -> Result<(), Fail> {
+    let mixed = [
+        Command::Jump(place(-500, 0)),
+        Command::Stitch(place(-3, 4)),
+        Command::Stitch(place(2, -7)),
+        Command::Trim,
+        Command::Stop,
+        Command::Stitch(place(-1, -1)),
+    ];
+    let bare = [
+        Command::Trim,
+        Command::Jump(place(9, 9)),
+        Command::Stop,
+        Command::Stop,
+    ];
+    let corners = Extent {
+        min: place(-3, -7),
+        max: place(2, 4),
+    };
+    let cases = [
+        ([].as_slice(), [0, 0, 0, 0], None, [0].as_slice()),
+        (
+            mixed.as_slice(),
+            [6, 3, 1, 1],
+            Some(corners),
+            [2, 1].as_slice(),
+        ),
+        (bare.as_slice(), [4, 0, 0, 2], None, [0, 0, 0].as_slice()),
+    ];
+    for (commands, [all, needles, trims, stops], corners, blocks) in cases {
+        let design = filled(&rt, commands)?;
+        let expected = Counts {
+            commands: all,
+            needles,
+            trims,
+            stops,
+        };
+        assert_eq!(rt; counts(&design), expected, "{commands:?}");
+        assert_eq!(rt; extent(&design), corners, "{commands:?}");
+        assert_eq!(rt;
+            block_counts(rt.alloc(), &design)?.as_slice(),
+            blocks,
+            "{commands:?}"
+        );
+    }
     Ok(())
 }

@@ -1,0 +1,23 @@
+-- Worked values of the needles of each block.
+use Rattle.std.proofs.Common.{◌≡◌, pos, [], ◌∷◌, refl}
+use Rattle.design_model.specs.declared.command.Command.TheVariants.{Stitch, Jump, Trim, Stop}
+use Rattle.design_model.specs.Acts.{acts_along}
+use Rattle.design_model.specs.Blocks.{needles_by_block}
+use Rattle.design_model.proofs.ActFacts.{at}
+
+-- a design without commands has one block, without needles
+pub known_nothing : needles_by_block (acts_along []) ≡ 0 ∷ []
+known_nothing = refl
+
+-- two needles before the stop, and one behind it
+pub known_blocks :
+    needles_by_block (acts_along (Jump (at (pos 9)) ∷ Stitch (at (pos 9)) ∷ Stitch (at (pos 7)) ∷ Trim
+    ∷ Stop ∷ Stitch (at (pos 5)) ∷ []))
+    ≡ 2 ∷ 1 ∷ []
+known_blocks = refl
+
+-- stops at both ends and beside one another part blocks without needles
+pub known_bare_blocks :
+    needles_by_block (acts_along (Stop ∷ Stitch (at (pos 1)) ∷ Stop ∷ Trim ∷ Stop ∷ []))
+    ≡ 0 ∷ 1 ∷ 0 ∷ 0 ∷ []
+known_bare_blocks = refl

@@ -1,0 +1,56 @@
+-- Needles of blocks, where a block is begun.
+use Rattle.std.proofs.Common.{◌≡◌, ℕ, ◌+◌, Bool, true, false, List, [], ◌∷◌, ◌++◌, length, refl, ap, sym, ◌∙◌, arith, append_assoc, add-zero, zero-add}
+use Rattle.std.proofs.lemmas.List.{length-map}
+use Rattle.std.proofs.lemmas.List.Sums.{sum_by-cons}
+use Rattle.std.specs.Prelude.{count_by, map, if◌then◌else◌}
+use Rattle.design_model.specs.declared.act.Act.{Act}
+use Rattle.design_model.specs.declared.act.Act.TheVariants as act
+use Rattle.design_model.specs.declared.act.NumberedAct.{NumberedAct}
+use Rattle.design_model.specs.ActKinds.{is_needle, is_stop}
+use Rattle.design_model.specs.Acts.{numbered}
+use Rattle.design_model.specs.Blocks.{blocks_of, carried, in_first, needles_by_block, with_first}
+
+-- the blocks of an act and of the acts behind it begin with a block, to which no needle is added
+none_more_in : (a : NumberedAct) (stops : Bool) (later : List (List NumberedAct))
+    → let blocks : List (List NumberedAct) = if stops then [] ∷ later else in_first a later in
+    with_first 0 (map (count_by is_needle) blocks) ≡ map (count_by is_needle) blocks
+none_more_in a true later = refl
+none_more_in a false [] = simp zero-add
+none_more_in a false (block ∷ later) = simp zero-add
+
+-- no needle more in the first block
+none_more : (acts : List NumberedAct) → with_first 0 (needles_by_block acts) ≡ needles_by_block acts
+none_more [] = refl
+none_more (a ∷ rest) = none_more_in a (is_stop a) (blocks_of rest)
+
+-- at the beginning no block ended, and the first has no needle
+pub carried_first : (acts : List NumberedAct) → carried [] 0 acts ≡ needles_by_block acts
+carried_first acts = none_more acts
+
+-- the number of a block that a stop ends is put behind the others, and the next block is begun
+pub carried_stop : (before after : List ℕ) (needles : ℕ) (a : Act)
+    → after ≡ before ++ needles ∷ [] → a ≡ act.Stop → (n : ℕ) (rest : List NumberedAct)
+    → carried after 0 rest ≡ carried before needles (numbered n a ∷ rest)
+carried_stop before after needles a pushed stop n rest =
+    rw (pushed, stop) (simp (append_assoc, none_more rest, add-zero))
+
+-- an act gives one block more, if it is a stop
+length-parted : (a : NumberedAct) (stops : Bool) (later : List (List NumberedAct)) (count : ℕ)
+    → length later ≡ count + 1
+    → length (if stops then [] ∷ later else in_first a later) ≡ (if stops then 1 else 0) + count + 1
+length-parted a true later count is = omega arith
+length-parted a false [] count is = omega arith
+length-parted a false (block ∷ later) count is = omega arith
+
+-- there is one block more than stops
+length-blocks_of : (acts : List NumberedAct) → length (blocks_of acts) ≡ count_by is_stop acts + 1
+length-blocks_of [] = refl
+length-blocks_of (a ∷ rest) =
+    length-parted a (is_stop a) (blocks_of rest) (count_by is_stop rest) (length-blocks_of rest)
+    ∙ ap (λ n. n + 1) (sym (sum_by-cons (λ x. if is_stop x then 1 else 0) a rest))
+
+-- the same of the numbers of the blocks
+pub blocks_by_stops : (needles : List ℕ) (acts : List NumberedAct) → needles ≡ needles_by_block acts
+    → length needles ≡ count_by is_stop acts + 1
+blocks_by_stops needles acts is =
+    ap length is ∙ length-map (blocks_of acts) (count_by is_needle) ∙ length-blocks_of acts

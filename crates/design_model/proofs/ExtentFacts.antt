@@ -1,0 +1,30 @@
+-- Worked values of the extent.
+use Rattle.std.proofs.Common.{◌≡◌, ℤ, pos, negsuc, [], ◌∷◌, Some, None, refl}
+use Rattle.design_model.specs.declared.command.Command.TheVariants.{Stitch, Jump, Trim, Stop}
+use Rattle.design_model.specs.declared.point.Point.{Point}
+use Rattle.design_model.specs.Acts.{acts_along}
+use Rattle.design_model.specs.Extents.{extent_of_points, needle_points}
+
+-- the point with those coordinates
+abbrev pub place : ℤ → ℤ → Point
+place x y = record { x = x; y = y }
+
+-- without a needle there is no extent
+pub known_no_needle :
+    extent_of_points (needle_points (acts_along (Jump (place (pos 9) (pos 9)) ∷ Trim ∷ Stop ∷ [])))
+    ≡ None
+known_no_needle = refl
+
+-- one needle is its own extent, and the origin is not in it
+pub known_one_needle :
+    extent_of_points (needle_points (acts_along (Stitch (place (pos 3) (negsuc 4)) ∷ [])))
+    ≡ Some (record { min = place (pos 3) (negsuc 4); max = place (pos 3) (negsuc 4) })
+known_one_needle = refl
+
+-- needles at (-2, 7), (-9, -1) and (-4, 12), and a jump far away that does not count
+pub known_extent :
+    extent_of_points (needle_points (acts_along (Stitch (place (negsuc 1) (pos 7))
+    ∷ Jump (place (pos 500) (negsuc 499)) ∷ Stitch (place (negsuc 8) (negsuc 0)) ∷ Trim ∷ Stop
+    ∷ Stitch (place (negsuc 3) (pos 12)) ∷ [])))
+    ≡ Some (record { min = place (negsuc 8) (negsuc 0); max = place (negsuc 1) (pos 12) })
+known_extent = refl

@@ -1,0 +1,64 @@
+ghost use Rattle.std.specs.Prelude.{◌≡◌, ◌∷◌, [], Some};
+ghost use Rattle.std.specs.Int.{int_min, int_max};
+ghost use Rattle.design_model.specs.Acts.{acts_along};
+ghost use Rattle.design_model.specs.Extents.{Bounds, extended, extent_of, extent_of_points, needle_points, needle_points_of};
+
+use crate::act::Act;
+use crate::bounds::Extent;
+use crate::command::Command;
+use crate::design::Design;
+use crate::point::Point;
+use crate::thread_state::ThreadState;
+
+/// The least and greatest x and y of a design's needle acts, and `None` where there is no needle
+/// act. This takes no memory.
+#[tactic(auto, using(crate::proofs::ExtentLemmas::bounds_of_points))]
+pub fn extent(design: &Design) -> Option<Extent>
+    ensures value { result ≡ extent_of design.now }
+    ensures bounds { Bounds (needle_points_of design.now) result }
+{
+    extent_in(design.commands())
+}
+
+fn extent_in(commands: &[Command]) -> Option<Extent>
+    ensures { result ≡ extent_of_points (needle_points (acts_along commands.now)) }
+{
+    let mut extent = None;
+    let mut thread = ThreadState::new();
+    for command in commands {
+        if let Some(Act::Needle { at, .. }) = thread.step(*command) {
+            extent = Some(extent_with(extent, at));
+        }
+    }
+    extent
+}
+
+fn extent_with(extent: Option<Extent>, at: Point) -> Extent
+    ensures { extended extent (at ∷ []) ≡ Some result }
+{
+    match extent {
+        Some(Extent { min, max }) => Extent {
+            min: least_corner(min, at),
+            max: greatest_corner(max, at),
+        },
+        None => Extent { min: at, max: at },
+    }
+}
+
+fn least_corner(corner: Point, at: Point) -> Point
+    ensures { result ≡ record { x = int_min corner.x at.x; y = int_min corner.y at.y } }
+{
+    Point {
+        x: corner.x.min(at.x),
+        y: corner.y.min(at.y),
+    }
+}
+
+fn greatest_corner(corner: Point, at: Point) -> Point
+    ensures { result ≡ record { x = int_max corner.x at.x; y = int_max corner.y at.y } }
+{
+    Point {
+        x: corner.x.max(at.x),
+        y: corner.y.max(at.y),
+    }
+}
