@@ -3,7 +3,7 @@ use Rattle.std.proofs.Common.{◌≡◌, ℕ, ◌+◌, ◌%◌, ◌≤◌, List,
 use Rattle.std.proofs.lemmas.List.{append-nil, reverse-append}
 use Rattle.blossom_match.specs.Lists.{Each}
 use Rattle.blossom_match.specs.Bands.{Adds, Band, NestValue, Kept, bands, count}
-use Rattle.blossom_match.specs.Rings.{back_of, members_in, bands_in, nest_of, IsRing}
+use Rattle.blossom_match.specs.Rings.{back_of, members_in, bands_in, IsRing}
 use Rattle.blossom_match.specs.Sound.{IsFirm, IsFirmPart, IsSound, IsSymmetric, IsTight}
 use Rattle.blossom_match.specs.Trees.{around, both, branch_bands, inner_bands, outer_members, inner_members, IsGrown}
 use Rattle.blossom_match.specs.Shrinks.{part_of, ring_value, Closable, Shrinking, Shrinks, Chaining}

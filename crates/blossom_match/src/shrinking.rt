@@ -72,7 +72,13 @@ fn close(
 }
 
 /// Puts an inner and an outer set before the chain.
-fn push_left(chain: &mut VecDeque<Part>, inner: Nest, pair: Link, outer: Nest, way: Link) -> Result<(), Memory>
+fn push_left(
+    chain: &mut VecDeque<Part>,
+    inner: Nest,
+    pair: Link,
+    outer: Nest,
+    way: Link,
+) -> Result<(), Memory>
     ensures { OnOk result (chain.new.items ≡ part_of inner pair ∷ part_of outer way ∷ chain.old.items) }
 {
     chain.push_front(Part {
@@ -87,7 +93,13 @@ fn push_left(chain: &mut VecDeque<Part>, inner: Nest, pair: Link, outer: Nest, w
 }
 
 /// Puts an outer and an inner set behind the chain, their links from the other ends.
-fn push_right(chain: &mut VecDeque<Part>, outer: Nest, pair: Link, inner: Nest, up: Link) -> Result<(), Memory>
+fn push_right(
+    chain: &mut VecDeque<Part>,
+    outer: Nest,
+    pair: Link,
+    inner: Nest,
+    up: Link,
+) -> Result<(), Memory>
     ensures { OnOk result (chain.new.items ≡ chained_back chain.old.items outer pair inner up) }
 {
     chain.push_back(Part {
@@ -101,7 +113,13 @@ fn push_right(chain: &mut VecDeque<Part>, outer: Nest, pair: Link, inner: Nest, 
     Ok(())
 }
 
-fn push_branch(tree: &mut Vec<Branch>, up: Link, inner: Nest, pair: Link, outer: Nest) -> Result<(), Memory>
+fn push_branch(
+    tree: &mut Vec<Branch>,
+    up: Link,
+    inner: Nest,
+    pair: Link,
+    outer: Nest,
+) -> Result<(), Memory>
     ensures { OnOk result (tree.new.items ≡ tree.old.items ++ branch_of up inner pair outer ∷ []) }
 {
     tree.push(Branch {
