@@ -3,10 +3,10 @@ use Rattle.std.proofs.Common.{◌≡◌, ℕ, ◌+◌, ◌%◌, ◌≤◌, List,
 use Rattle.std.proofs.lemmas.List.{append-nil, reverse-append}
 use Rattle.blossom_match.specs.Lists.{Each}
 use Rattle.blossom_match.specs.Bands.{Adds, Band, NestValue, Kept, bands, count}
-use Rattle.blossom_match.specs.Rings.{back_of, members_in, bands_in, nest_of, IsRing}
+use Rattle.blossom_match.specs.Rings.{back_of, members_in, bands_in, IsRing}
 use Rattle.blossom_match.specs.Sound.{IsFirm, IsFirmPart, IsSound, IsSymmetric, IsTight}
 use Rattle.blossom_match.specs.Trees.{around, both, branch_bands, inner_bands, outer_members, inner_members, IsGrown}
-use Rattle.blossom_match.specs.Shrinks.{ring_value, Closable, Shrinking, Shrinks, Chaining}
+use Rattle.blossom_match.specs.Shrinks.{part_of, ring_value, Closable, Shrinking, Shrinks, Chaining}
 use Rattle.blossom_match.specs.declared.nest.Link.{Link}
 use Rattle.blossom_match.specs.declared.nest.Part.{Part}
 use Rattle.blossom_match.specs.declared.branches.Branch.{Branch}
@@ -16,9 +16,6 @@ use Rattle.blossom_match.proofs.RingLemmas.{members_in-append}
 use Rattle.blossom_match.proofs.OpenLemmas.{bands_in-append}
 use Rattle.blossom_match.proofs.ClosingLemmas.{leads_on, chain_closes, ring_sound, tree_even}
 use Rattle.blossom_match.proofs.TreeLemmas.{last_of, outer_members_push, inner_members_push, branch_bands_push, branch_bands-append, inner_bands_push, inner_bands-append, grown_more, grown-append, outer-append, inner-append}
-
-abbrev part_of : NestValue → Link → Part
-part_of s l = record { nest = s; next = l }
 
 members_more : (x : ℕ) (chain : List Part) (p q : Part) → count x (members_in ((chain ++ p ∷ []) ++ q ∷ [])) ≡ count x (members_in chain) + count x p.nest.members + count x q.nest.members
 members_more x chain p q =
@@ -296,11 +293,3 @@ chaining_start link root tree chain aside s e f =
       fewer = omega arith;
       firm = λ d h sy w t. (t, tt, tt, w);
     }))
-
-pub pushed_twice : (a b c : List Part) (p q : Part) → b ≡ p ∷ a → c ≡ q ∷ b → c ≡ q ∷ p ∷ a
-pushed_twice a b c p q e f = cc
-
-pub added_twice : (a b c : List Part) (s t : NestValue) (k l m n : Link) → k ≡ m → l ≡ n → b ≡ a ++ part_of s k ∷ [] → c ≡ b ++ part_of t l ∷ [] →
-    c ≡ (a ++ part_of s m ∷ []) ++ part_of t n ∷ []
-added_twice a b c s t k l m n i j e f =
-    f ∙ ap (λ (ks : List Part). ks ++ part_of t l ∷ []) (e ∙ ap (λ (x : Link). a ++ part_of s x ∷ []) i) ∙ ap (λ (x : Link). (a ++ part_of s m ∷ []) ++ part_of t x ∷ []) j

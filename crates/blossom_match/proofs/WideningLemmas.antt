@@ -1,7 +1,7 @@
 -- After a change of widths the step can be done, and all holds that held before.
-use Rattle.std.proofs.Common.{◌≡◌, ◌≢◌, ℕ, ◌+◌, ◌-◌, ◌*◌, ◌^◌, ◌≤◌, ◌<◌, suc, zero, List, [], ◌∷◌, ◌++◌, length, drop, arith, refl, sym, ap, subst, ◌∙◌, append_assoc}
+use Rattle.std.proofs.Common.{◌≡◌, ◌≢◌, ℕ, ◌+◌, ◌*◌, ◌^◌, ◌≤◌, ◌<◌, suc, zero, List, [], ◌∷◌, length, drop, arith, refl, sym, ap, subst, ◌∙◌}
 use Rattle.blossom_match.specs.Lists.{Each}
-use Rattle.blossom_match.specs.Bands.{Band, NestValue, apart, bands, count, height, load, with_width}
+use Rattle.blossom_match.specs.Bands.{Band, NestValue, apart, bands, count, height, load}
 use Rattle.blossom_match.specs.Couples.{couple_members, couple_bands, IsJoined}
 use Rattle.blossom_match.specs.Sound.{IsFirm, IsFirmCouple, IsSound, IsTight}
 use Rattle.blossom_match.specs.Trees.{around, both, branch_bands, inner_bands, inner_members, outer_members, IsGrown}
@@ -11,7 +11,6 @@ use Rattle.blossom_match.specs.Bounds.{height_of, Bounds, FirstIsDue, IsDue, Rin
 use Rattle.blossom_match.specs.Widths.{all_changed, CanChange, CanWiden, Changes, StepsOn, Widens}
 use Rattle.blossom_match.specs.TableValue.{TableValue}
 use Rattle.blossom_match.specs.Tables.{entry, IsTable, KeepsTriangles}
-use Rattle.blossom_match.specs.declared.table.TheConstants.{MAX_DISTANCE}
 use Rattle.blossom_match.specs.declared.nest.Link.{Link}
 use Rattle.blossom_match.specs.declared.couples.Couple.{Couple}
 use Rattle.blossom_match.specs.declared.branches.Branch.{Branch}
@@ -20,8 +19,8 @@ use Rattle.blossom_match.specs.declared.search.Step.{Step}
 use Rattle.blossom_match.specs.declared.search.Step.TheVariants.{Meet, Grow, Shrink, Expand}
 use Rattle.blossom_match.specs.declared.least.Change.{Change}
 use Rattle.blossom_match.proofs.ListLemmas.{each-right}
-use Rattle.blossom_match.proofs.SumLemmas.{count-append, height-append, hit_is, load-append, size-append, some_member}
-use Rattle.blossom_match.proofs.TreeLemmas.{base_in, inner-append, outer-append, outer_members_base}
+use Rattle.blossom_match.proofs.SumLemmas.{count-append, some_member}
+use Rattle.blossom_match.proofs.TreeLemmas.{base_in, inner-append, outer-append}
 use Rattle.blossom_match.proofs.ExpandLemmas.{grown-right}
 use Rattle.blossom_match.proofs.ScanLemmas.{apart_from}
 use Rattle.blossom_match.proofs.SearchLemmas.{is_one}

@@ -2,7 +2,7 @@
 use Rattle.std.specs.Prelude.{◌≡◌, ℕ, ◌+◌, ◌*◌, ◌%◌, ◌<◌, ◌≤◌, List, [], ◌∷◌, ◌++◌, length, reverse}
 use Rattle.blossom_match.specs.Lists.{Each}
 use Rattle.blossom_match.specs.Bands.{Adds, Band, NestValue, Kept, bands, count}
-use Rattle.blossom_match.specs.Rings.{members_in, bands_in, ring_of, AllKept}
+use Rattle.blossom_match.specs.Rings.{back_of, members_in, bands_in, ring_of, AllKept}
 use Rattle.blossom_match.specs.Sound.{IsFirm, IsFirmPart, IsSound, IsSymmetric, IsTight}
 use Rattle.blossom_match.specs.Trees.{around, both, branch_bands, inner_bands, outer_members, inner_members, IsGrown}
 use Rattle.blossom_match.specs.declared.nest.Link.{Link}
@@ -13,6 +13,17 @@ use Rattle.blossom_match.specs.declared.branches.Branch.{Branch}
 abbrev pub Leads : Link → List Part → ℕ → Type 0
 Leads way [] to = way.to ≡ to
 Leads way (p ∷ ps) to = (count way.to p.nest.members ≡ 1) × (count p.next.from p.nest.members ≡ 1) × Leads p.next ps to
+
+-- a part and a branch by their fields
+abbrev pub part_of : NestValue → Link → Part
+part_of s link = record { nest = s; next = link }
+
+abbrev pub branch_of : Link → NestValue → Link → NestValue → Branch
+branch_of up inner pair outer = record { up = up; inner = inner; pair = pair; outer = outer }
+
+-- the chain with an outer and an inner set behind it
+abbrev pub chained_back : List Part → NestValue → Link → NestValue → Link → List Part
+chained_back chain outer pair inner up = (chain ++ part_of outer (back_of pair) ∷ []) ++ part_of inner (back_of up) ∷ []
 
 -- the set that the set at the top and the chain make
 abbrev pub ring_value : NestValue → Link → List Part → NestValue

@@ -93,7 +93,8 @@ fn lay(
     outer: Nest,
 ) -> Result<Vec<Couple>, Memory>
     requires { CanLay root.now tree.old.items ring.items up pair outer }
-    ensures { IfOk result (λ cs. Lays root.now tree.old.items ring.items up pair outer tree.new.items cs.items) }
+    ensures { IfOk result (λ cs.
+        Lays root.now tree.old.items ring.items up pair outer tree.new.items cs.items) }
 {
     let mut left = ring.into_iter();
     let mut way = up;

@@ -1,5 +1,5 @@
-ghost use Rattle.std.specs.Prelude.{◌≡◌, IfOk};
-ghost use Rattle.blossom_match.specs.Shrinks.{ring_value, Closable, Shrinking, Shrinks};
+ghost use Rattle.std.specs.Prelude.{◌≡◌, ◌∷◌, ◌++◌, [], IfOk, OnOk};
+ghost use Rattle.blossom_match.specs.Shrinks.{branch_of, chained_back, part_of, ring_value, Closable, Shrinking, Shrinks};
 
 use crate::branches::{Branch, give_back};
 use crate::nest::{Link, Nest, Part, ring_of};
@@ -32,41 +32,17 @@ pub fn shrink(alloc: Global, root: Nest, tree: &mut Vec<Branch>, link: Link) -> 
         if at_left {
             if at_right {
                 let ring = close(alloc, outer, way, chain, to)?;
-                tree.push(Branch {
-                    up,
-                    inner,
-                    pair,
-                    outer: ring,
-                })?;
+                push_branch(tree, up, inner, pair, ring)?;
                 give_back(tree, aside)?;
                 return Ok(root);
             }
-            chain.push_front(Part {
-                nest: outer,
-                next: way,
-            })?;
-            chain.push_front(Part {
-                nest: inner,
-                next: pair,
-            })?;
+            push_left(&mut chain, inner, pair, outer, way)?;
             way = up;
         } else if at_right {
-            chain.push_back(Part {
-                nest: outer,
-                next: pair.back(),
-            })?;
-            chain.push_back(Part {
-                nest: inner,
-                next: up.back(),
-            })?;
+            push_right(&mut chain, outer, pair, inner, up)?;
             to = up.from;
         } else {
-            aside.push(Branch {
-                up,
-                inner,
-                pair,
-                outer,
-            })?;
+            push_branch(&mut aside, up, inner, pair, outer)?;
         }
     }
     let ring = close(alloc, root, way, chain, to)?;
@@ -93,4 +69,64 @@ fn close(
     })?;
     let parts = listed(alloc, ring)?;
     ring_of(alloc, parts)
+}
+
+/// Puts an inner and an outer set before the chain.
+fn push_left(
+    chain: &mut VecDeque<Part>,
+    inner: Nest,
+    pair: Link,
+    outer: Nest,
+    way: Link,
+) -> Result<(), Memory>
+    ensures { OnOk result (chain.new.items ≡ part_of inner pair ∷ part_of outer way ∷ chain.old.items) }
+{
+    chain.push_front(Part {
+        nest: outer,
+        next: way,
+    })?;
+    chain.push_front(Part {
+        nest: inner,
+        next: pair,
+    })?;
+    Ok(())
+}
+
+/// Puts an outer and an inner set behind the chain, their links from the other ends.
+fn push_right(
+    chain: &mut VecDeque<Part>,
+    outer: Nest,
+    pair: Link,
+    inner: Nest,
+    up: Link,
+) -> Result<(), Memory>
+    ensures { OnOk result (chain.new.items ≡ chained_back chain.old.items outer pair inner up) }
+{
+    chain.push_back(Part {
+        nest: outer,
+        next: pair.back(),
+    })?;
+    chain.push_back(Part {
+        nest: inner,
+        next: up.back(),
+    })?;
+    Ok(())
+}
+
+fn push_branch(
+    tree: &mut Vec<Branch>,
+    up: Link,
+    inner: Nest,
+    pair: Link,
+    outer: Nest,
+) -> Result<(), Memory>
+    ensures { OnOk result (tree.new.items ≡ tree.old.items ++ branch_of up inner pair outer ∷ []) }
+{
+    tree.push(Branch {
+        up,
+        inner,
+        pair,
+        outer,
+    })?;
+    Ok(())
 }

@@ -1,5 +1,5 @@
 use Rattle.std.proofs.Common.{arith, length, ◌≡◌, refl}
-use Rattle.blossom_match.proofs.ShrinkLemmas.{pushed_twice, added_twice, chaining_start, chaining_left, chaining_right, chaining_aside, closable, closable_root, closed_inside, closed_root}
+use Rattle.blossom_match.proofs.ShrinkLemmas.{chaining_start, chaining_left, chaining_right, chaining_aside, closable, closable_root, closed_inside, closed_root}
 use Rattle.blossom_match.proofs.shrinking.shrink.Goals as goal
 
 pub loop-b-init : goal.loop-b-init
@@ -17,15 +17,14 @@ returns-then-at_right c =
     let there = c.holds-at_right.ensures.yes c.if-at_right.true in
     let closes = closable c.args.link _ _ c.loop-b.tree.items c.pop.new.self.items c.in-Some.b _ _ _ _ goes c.in-Some.ensures.items here there in
     rw c.loop-b.invariant.same (closed_inside c.args.link c.args.root c.in_ok-ring.ring c.args.tree.now.items c.loop-b.tree.items c.pop.new.self.items _ _ c.in-Some.b _ _ _ _
-    c.requires goes c.in-Some.ensures.items closes c.know-in-Some.ensures c.in_ok-ring.ensures c.in_ok-push.ensures.items c.in_ok-give_back.ensures)
+    c.requires goes c.in-Some.ensures.items closes c.know-in-Some.ensures c.in_ok-ring.ensures c.in_ok-push_branch.ensures c.in_ok-give_back.ensures)
 
 pub loop-b-preserved-then-at_left : goal.loop-b-preserved-then-at_left
 loop-b-preserved-then-at_left c = record {
   same = c.loop-b.invariant.same;
   goes =
       chaining_left c.args.link _ _ c.loop-b.tree.items c.pop.new.self.items c.in-Some.b _ _ _ _ _ c.loop-b.invariant.goes c.in-Some.ensures.items
-      (c.holds-at_left.ensures.yes c.if-at_left.true) (c.holds-at_right.ensures.no c.if-at_right.false) c.know.ensures c.know-in-Some.ensures
-      (pushed_twice _ _ _ _ _ c.in_ok-push_front.ensures.items c.in_ok-push_front-2.ensures.items);
+      (c.holds-at_left.ensures.yes c.if-at_left.true) (c.holds-at_right.ensures.no c.if-at_right.false) c.know.ensures c.know-in-Some.ensures c.in_ok-push_left.ensures;
 }
 
 pub loop-b-preserved-then-at_right-2 : goal.loop-b-preserved-then-at_right-2
@@ -33,8 +32,7 @@ loop-b-preserved-then-at_right-2 c = record {
   same = c.loop-b.invariant.same;
   goes =
       chaining_right c.args.link _ _ c.loop-b.tree.items c.pop.new.self.items c.in-Some.b _ _ _ _ _ c.loop-b.invariant.goes c.in-Some.ensures.items
-      (c.holds-at_left.ensures.no c.if-at_left.false) (c.holds-at_right.ensures.yes c.if-at_right-2.true) c.know.ensures c.know-in-Some.ensures
-      (added_twice _ _ _ _ _ _ _ _ _ c.back.ensures c.back-then-at_right-2.ensures c.in_ok-push_back.ensures.items c.in_ok-push_back-2.ensures.items);
+      (c.holds-at_left.ensures.no c.if-at_left.false) (c.holds-at_right.ensures.yes c.if-at_right-2.true) c.know.ensures c.know-in-Some.ensures c.in_ok-push_right.ensures;
 }
 
 pub loop-b-preserved : goal.loop-b-preserved
@@ -42,7 +40,7 @@ loop-b-preserved c = record {
   same = c.loop-b.invariant.same;
   goes =
       chaining_aside c.args.link _ _ c.loop-b.tree.items c.pop.new.self.items c.in-Some.b _ _ _ _ _ c.loop-b.invariant.goes c.in-Some.ensures.items
-      (c.holds-at_left.ensures.no c.if-at_left.false) (c.holds-at_right.ensures.no c.if-at_right-2.false) c.in_ok-push-2.ensures.items;
+      (c.holds-at_left.ensures.no c.if-at_left.false) (c.holds-at_right.ensures.no c.if-at_right-2.false) c.in_ok-push_branch-2.ensures;
 }
 
 pub close-requires-2 : goal.close-requires-2
