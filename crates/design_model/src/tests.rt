@@ -94,22 +94,24 @@ fn place(x: i32, y: i32) -> Point {
     Point { x, y }
 }
 
+const MIXED: [Command; 6] = [
+    Command::Jump(Point { x: -500, y: 0 }),
+    Command::Stitch(Point { x: -3, y: 4 }),
+    Command::Stitch(Point { x: 2, y: -7 }),
+    Command::Trim,
+    Command::Stop,
+    Command::Stitch(Point { x: -1, y: -1 }),
+];
+
+const BARE: [Command; 4] = [
+    Command::Trim,
+    Command::Jump(Point { x: 9, y: 9 }),
+    Command::Stop,
+    Command::Stop,
+];
+
 #[test]
 fn a_design_is_counted_measured_and_parted_into_blocks(rt: HostRuntime) -> Result<(), Fail> {
-    let mixed = [
-        Command::Jump(place(-500, 0)),
-        Command::Stitch(place(-3, 4)),
-        Command::Stitch(place(2, -7)),
-        Command::Trim,
-        Command::Stop,
-        Command::Stitch(place(-1, -1)),
-    ];
-    let bare = [
-        Command::Trim,
-        Command::Jump(place(9, 9)),
-        Command::Stop,
-        Command::Stop,
-    ];
     let corners = Extent {
         min: place(-3, -7),
         max: place(2, 4),
@@ -117,12 +119,12 @@ fn a_design_is_counted_measured_and_parted_into_blocks(rt: HostRuntime) -> Resul
     let cases = [
         ([].as_slice(), [0, 0, 0, 0], None, [0].as_slice()),
         (
-            mixed.as_slice(),
+            MIXED.as_slice(),
             [6, 3, 1, 1],
             Some(corners),
             [2, 1].as_slice(),
         ),
-        (bare.as_slice(), [4, 0, 0, 2], None, [0, 0, 0].as_slice()),
+        (BARE.as_slice(), [4, 0, 0, 2], None, [0, 0, 0].as_slice()),
     ];
     for (commands, [all, needles, trims, stops], corners, blocks) in cases {
         let design = filled(&rt, commands)?;
