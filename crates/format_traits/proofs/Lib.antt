@@ -4,4 +4,3 @@ pub mod LabelLemmas
 pub mod EndingLemmas
 pub mod PartLemmas
 mod PlacingFacts
-pub mod PlainLemmas

@@ -1,11 +1,9 @@
 -- Designs that every format can write.
-use Rattle.std.specs.Prelude.{ℕ, ◌≤◌, Bool, true, false, not, ◌&&◌, ◌||◌, List, [], ◌∷◌, IsTrue}
+use Rattle.std.specs.Prelude.{ℕ, ◌≤◌, Bool, true, not, ◌&&◌, ◌||◌, List, [], ◌∷◌, IsTrue}
 use Rattle.std.specs.Ordering.{int_eq}
 use Rattle.design_model.specs.declared.act.Act.{Act}
 use Rattle.design_model.specs.declared.act.Act.TheVariants as act
 use Rattle.design_model.specs.declared.act.NumberedAct.{NumberedAct}
-use Rattle.design_model.specs.declared.command.Command.{Command}
-use Rattle.design_model.specs.declared.command.Command.TheVariants.{Stitch, Trim}
 use Rattle.design_model.specs.declared.design.TheConstants.{MAX_COMMANDS}
 use Rattle.design_model.specs.declared.point.Point.{Point}
 use Rattle.design_model.specs.Acts.{acts_of}
@@ -34,23 +32,6 @@ pub record IsPlain (limit : ℕ) (d : DesignValue) : Type 0 where
   pub stops : stops_of (acts_of d) ≤ 254
   pub room : room_of limit (acts_of d) ≤ MAX_COMMANDS
 
--- stitches within the limit of one another, the first of them of that place, and then one trim
-abbrev pub is_line_from : ℕ → Point → List Command → Bool
-is_line_from limit place (Stitch p ∷ rest) =
-    is_within limit (move_between place p) && is_line_from limit p rest
-is_line_from limit place (Trim ∷ []) = true
-is_line_from limit place _ = false
-
 -- the same place
 abbrev pub is_same_point : Point → Point → Bool
 is_same_point p q = int_eq p.x q.x && int_eq p.y q.y
-
--- one or more stitches from the origin on, and then one trim
-abbrev pub is_line : ℕ → List Command → Bool
-is_line limit (Stitch p ∷ rest) = is_same_point p origin && is_line_from limit p rest
-is_line limit _ = false
-
--- a design that is one plain line from the origin, and not too long
-pub record IsPlainLine (limit : ℕ) (d : DesignValue) : Type 0 where
-  pub line : IsTrue (is_line limit d.commands)
-  pub room : room_of limit (acts_of d) ≤ MAX_COMMANDS

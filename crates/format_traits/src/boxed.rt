@@ -1,6 +1,5 @@
-ghost use Rattle.std.specs.Prelude.{◌≡◌, ◌<◌, ◌≤◌, length, map, IfOk, IsOk, Some, slice_get};
+ghost use Rattle.std.specs.Prelude.{◌≡◌, ◌≤◌, IfOk, IsOk};
 ghost use Rattle.format_traits.specs.declared.format_object.TheConstants.{LEAST_LIMIT, GREATEST_LIMIT};
-ghost use Rattle.format_traits.specs.Meanings.{Meaning as MeaningValue};
 ghost use Rattle.format_traits.specs.PlainDesigns.{IsPlain};
 ghost use Rattle.format_traits.specs.Laws.{IsEnding, Reads, Writes, ReadsAgain, MovesWithin};
 
@@ -47,59 +46,4 @@ pub fn encode_by(
         → IsOk ((meaning format.now).writes design.now) }
 {
     format.encode(alloc, design)
-}
-
-/// The ending of the object at that index.
-pub fn ext_at(formats: &[Box<dyn Format>], index: usize) -> &str
-    requires { index < length formats.now }
-    ensures value { (m : MeaningValue) → slice_get (map (λ f. meaning f) formats.now) index ≡ Some m
-        → result.now ≡ m.ending }
-    ensures spelled { IsEnding result.now }
-{
-    ext_of(&formats[index])
-}
-
-/// The limit of the object at that index.
-pub fn limit_at(formats: &[Box<dyn Format>], index: usize) -> u32
-    requires { index < length formats.now }
-    ensures value { (m : MeaningValue) → slice_get (map (λ f. meaning f) formats.now) index ≡ Some m
-        → result ≡ m.limit }
-    ensures least { LEAST_LIMIT ≤ result }
-    ensures most { result ≤ GREATEST_LIMIT }
-{
-    limit_of(&formats[index])
-}
-
-/// What a file's bytes read as by the object at that index.
-pub fn decode_at(
-    alloc: Global,
-    formats: &[Box<dyn Format>],
-    index: usize,
-    bytes: &[u8],
-) -> Result<Loaded, ReadFault>
-    requires { index < length formats.now }
-    ensures { (m : MeaningValue) → slice_get (map (λ f. meaning f) formats.now) index ≡ Some m
-        → Reads (m.reads bytes.now) result }
-{
-    decode_by(alloc, &formats[index], bytes)
-}
-
-/// The file of a design by the object at that index.
-pub fn encode_at(
-    alloc: Global,
-    formats: &[Box<dyn Format>],
-    index: usize,
-    design: &Design,
-) -> Result<Bytes, WriteFault>
-    requires { index < length formats.now }
-    ensures value { (m : MeaningValue) → slice_get (map (λ f. meaning f) formats.now) index ≡ Some m
-        → Writes (m.writes design.now) result }
-    ensures again { (m : MeaningValue) → slice_get (map (λ f. meaning f) formats.now) index ≡ Some m
-        → IfOk result (λ bytes. ReadsAgain m design.now bytes) }
-    ensures within { (m : MeaningValue) → slice_get (map (λ f. meaning f) formats.now) index ≡ Some m
-        → IfOk result (λ bytes. MovesWithin m bytes) }
-    ensures plain { (m : MeaningValue) → slice_get (map (λ f. meaning f) formats.now) index ≡ Some m
-        → IsPlain m.limit design.now → IsOk (m.writes design.now) }
-{
-    encode_by(alloc, &formats[index], design)
 }

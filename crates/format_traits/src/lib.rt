@@ -15,7 +15,7 @@ mod placing;
 mod standing;
 
 pub use act_walk::ActWalk;
-pub use boxed::{decode_at, decode_by, encode_at, encode_by, ext_at, ext_of, limit_at, limit_of};
+pub use boxed::{decode_by, encode_by, ext_of, limit_of};
 pub use fault::{ReadFault, WriteFault};
 pub use format_object::{Format, GREATEST_LIMIT, LEAST_LIMIT};
 pub use keeping::{keep, keep_both};
