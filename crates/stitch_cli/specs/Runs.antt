@@ -1,12 +1,11 @@
 -- What each status of the program means.
-use Rattle.std.specs.Prelude.{◌≡◌, ℕ, ◌⊎◌, List, Option, Some, None, IsSome, codes, ◌++◌}
+use Rattle.std.specs.Prelude.{◌≡◌, ℕ, ◌⊎◌, List, Option, Some, None, IsSome}
 use Rattle.stitch_cli.specs.declared.status.Status.{Status}
 use Rattle.stitch_cli.specs.declared.status.Status.TheVariants as status
 use Rattle.stitch_cli.specs.declared.stop.Refusal.{Refusal}
 use Rattle.stitch_cli.specs.declared.stop.Stop.{Stop}
 use Rattle.stitch_cli.specs.declared.stop.Stop.TheVariants as stop
 use Rattle.line_graph.specs.Drawings.{DrawingValue}
-use Rattle.stitch_cli.specs.Certificates.{line_end}
 use Rattle.stitch_cli.specs.Requests.{Order, RouteOrder, routing}
 use Rattle.stitch_cli.specs.Routes.{Accepts, ChangesTwo, LacksCertificate, LacksDesign, LacksReport, Refuses, RouteIsDone, RouteStops}
 use Rattle.stitch_cli.specs.Sights.{Broke, SinkSight, StoreSight, fed, sink_sight, store_sight}
@@ -14,7 +13,7 @@ use Rattle.outside_io.specs.Blames.{Blame, read_of}
 use Rattle.outside_io.specs.Causes.{Faults}
 use Rattle.outside_io.specs.Counts.{IsQuiet}
 use Rattle.outside_io.specs.Files.{Files, Lacks}
-use Rattle.stitch_cli.specs.Texts.{refusal_line, route_line, usage_text}
+use Rattle.stitch_cli.specs.Texts.{memory_line, refusal_line, route_line, usage_text}
 
 -- what the store, the standard output and the standard error show
 pub record Sights : Type 0 where
@@ -81,7 +80,7 @@ pub record IsUsage (order : Option Order) (before after : Sights) : Type 0 where
 -- `Memory`: nothing but the line that says so
 pub record IsMemory (before after : Sights) : Type 0 where
   pub untouched : IsUntouched before after
-  pub told : after.err ≡ fed before.err (codes "stitch: out of memory" ++ line_end)
+  pub told : after.err ≡ fed before.err memory_line
 
 -- a call on the outside failed at this step of the route, or the drawing isn't there; the writing
 -- steps before it are done, and those after it aren't

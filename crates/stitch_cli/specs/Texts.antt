@@ -74,12 +74,24 @@ refusal_line order refusal.NotPlainLoop =
 refusal_line order (refusal.StepTooLong step) =
     step_line order.drawing step order.format
 
+-- a line about an input that could not be read
+abbrev pub unread_line : List ℕ → List ℕ
+unread_line name = codes "stitch: cannot read " ++ (name ++ line_end)
+
+-- a line about an output that could not be written
+abbrev pub unwritten_line : List ℕ → List ℕ
+unwritten_line name = codes "stitch: cannot write " ++ (name ++ line_end)
+
+-- the line that memory was wanted and not found
+abbrev pub memory_line : List ℕ
+memory_line = codes "stitch: out of memory" ++ line_end
+
 -- the line on standard error for a route that did not succeed
 abbrev pub route_line : RouteOrder → Stop → List ℕ
-route_line order stop.Missing = codes "stitch: cannot read " ++ (order.drawing ++ line_end)
-route_line order stop.NotRead = codes "stitch: cannot read " ++ (order.drawing ++ line_end)
+route_line order stop.Missing = unread_line order.drawing
+route_line order stop.NotRead = unread_line order.drawing
 route_line order (stop.Refused why) = refusal_line order why
-route_line order stop.CertificateNotWritten = codes "stitch: cannot write " ++ (order.cert ++ line_end)
-route_line order stop.DesignNotWritten = codes "stitch: cannot write " ++ (order.out ++ line_end)
+route_line order stop.CertificateNotWritten = unwritten_line order.cert
+route_line order stop.DesignNotWritten = unwritten_line order.out
 route_line order stop.NotPrinted = codes "stitch: cannot print" ++ line_end
-route_line order stop.Memory = codes "stitch: out of memory" ++ line_end
+route_line order stop.Memory = memory_line

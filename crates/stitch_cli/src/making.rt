@@ -44,6 +44,7 @@ fn report(alloc: Global, drawing: &Drawing, points: &[Point]) -> Result<Bytes, M
     requires { AreNeedlesOf drawing.now 0 points.now }
     ensures { IfOk result (λ text. text ≡ report_of drawing.now) }
 {
+    // The drawing's limits are facts once it is named.
     let _drawing = drawing;
     let cost = points.len() as u32 - 1;
     let piece = PieceReport {
@@ -63,6 +64,7 @@ fn sew_loop(alloc: Global, drawing: &Drawing, points: &[Point]) -> Result<Design
     ensures value { IfOk result (λ design. design ≡ sewn_design drawing.now (along_first ∷ [])) }
     ensures plain { IfOk result (IsPlainAbove drawing.now.step) }
 {
+    // The clauses of `step` bring the drawing's limits.
     let _step = drawing.step();
     a_loop_is_sewn_by_its_line();
     let design = sew_line(alloc, drawing.block_thread(0), points)?;
@@ -80,6 +82,7 @@ fn write_design(
     requires plain { IsPlain (meaning format.now).limit design.now }
     ensures { IfOk result (SewsIn (meaning format.now) drawing.now along_first) }
 {
+    // The clauses of `step` bring the drawing's limits.
     let _step = drawing.step();
     a_loop_is_sewn_by_its_line();
     match encode_by(alloc, format, design) {

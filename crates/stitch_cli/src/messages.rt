@@ -1,9 +1,8 @@
-ghost use Rattle.std.specs.Prelude.{◌≡◌, ◌++◌, codes};
-ghost use Rattle.stitch_cli.specs.Certificates.{line_end};
+ghost use Rattle.std.specs.Prelude.{◌≡◌};
 ghost use Rattle.stitch_cli.specs.Endings.{Tells};
 ghost use Rattle.stitch_cli.specs.Requests.{route_order};
 ghost use Rattle.stitch_cli.specs.Sights.{Puts, sink_sight};
-ghost use Rattle.stitch_cli.specs.Texts.{line_about, refusal_line, route_line, step_line, step_text, usage_text};
+ghost use Rattle.stitch_cli.specs.Texts.{line_about, memory_line, refusal_line, route_line, step_line, step_text, unread_line, unwritten_line, usage_text};
 
 use crate::putting::{put_five, put_four, put_one, put_three};
 use crate::requests::RouteNames;
@@ -37,7 +36,7 @@ pub(crate) fn tell_stop<E: Sink>(
 }
 
 fn tell_unread<E: Sink>(err: &mut E, name: &str) -> Result<(), Failed>
-    ensures { Puts (codes "stitch: cannot read " ++ (name.now ++ line_end))
+    ensures { Puts (unread_line name.now)
         (sink_sight (E.taken err.old) (E.faults err.old))
         (sink_sight (E.taken err.new) (E.faults err.new)) result }
 {
@@ -45,7 +44,7 @@ fn tell_unread<E: Sink>(err: &mut E, name: &str) -> Result<(), Failed>
 }
 
 fn tell_unwritten<E: Sink>(err: &mut E, name: &str) -> Result<(), Failed>
-    ensures { Puts (codes "stitch: cannot write " ++ (name.now ++ line_end))
+    ensures { Puts (unwritten_line name.now)
         (sink_sight (E.taken err.old) (E.faults err.old))
         (sink_sight (E.taken err.new) (E.faults err.new)) result }
 {
@@ -127,7 +126,7 @@ pub(crate) fn tell_usage<E: Sink>(err: &mut E) -> Result<(), Failed>
 
 /// Says that memory was wanted and not found, where nothing else can be done.
 pub fn out_of_memory<E: Sink>(err: &mut E) -> Status
-    ensures { Tells (codes "stitch: out of memory" ++ line_end) Status.Memory
+    ensures { Tells memory_line Status.Memory
         (sink_sight (E.taken err.old) (E.faults err.old))
         (sink_sight (E.taken err.new) (E.faults err.new)) result }
 {
