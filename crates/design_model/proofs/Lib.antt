@@ -1,4 +1,5 @@
 mod ActFacts
+pub mod ActLemmas
 mod CountFacts
 mod ExtentFacts
 pub mod ExtentLemmas

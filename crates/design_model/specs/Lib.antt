@@ -6,6 +6,8 @@ pub mod Commands
 pub mod Designs
 pub mod Acts
 pub mod ActKinds
+pub mod ActPlaces
+pub mod ActWalks
 pub mod Counts
 pub mod Extents
 pub mod Blocks

@@ -1,5 +1,6 @@
 -- Places, in whole tenths of a millimetre; x grows to the right, y grows downwards.
 use Rattle.std.specs.Prelude.{ℕ, Bool, ◌&&◌, ◌-ℤ◌, max, nat_le, unsigned_abs, pos}
+use Rattle.std.specs.Ordering.{int_eq}
 use Rattle.design_model.specs.declared.point.Point.{Point}
 
 -- neither coordinate is larger in size than the limit
@@ -17,3 +18,7 @@ move_between p q = record { x = q.x -ℤ p.x; y = q.y -ℤ p.y }
 -- the size of a move: that of its larger axis
 abbrev pub size_of : Point → ℕ
 size_of m = max (unsigned_abs m.x) (unsigned_abs m.y)
+
+-- the same place
+abbrev pub is_same_point : Point → Point → Bool
+is_same_point p q = int_eq p.x q.x && int_eq p.y q.y

@@ -1,3 +1,6 @@
+ghost use Rattle.std.specs.Prelude.{◌≡◌};
+ghost use Rattle.design_model.specs.ActPlaces.{is_loose_after as is_loose, place_after as place_of};
+
 use crate::point::Point;
 
 /// What a command does to the cloth or the thread.
@@ -9,6 +12,28 @@ pub enum Act {
     Trim,
     /// A colour stop.
     Stop,
+}
+
+impl Act {
+    /// Whether the thread is loose after it: a trim and a stop leave it so.
+    pub fn is_loose_after(self) -> bool
+        ensures { result ≡ is_loose self }
+    {
+        match self {
+            Act::Needle { .. } => false,
+            Act::Trim | Act::Stop => true,
+        }
+    }
+
+    /// The place after it: that of a needle, else the same.
+    pub fn place_after(self, place: Point) -> Point
+        ensures { result ≡ place_of place self }
+    {
+        match self {
+            Act::Needle { at, .. } => at,
+            Act::Trim | Act::Stop => place,
+        }
+    }
 }
 
 /// An act with the number of the command that it came from, counted from 1.

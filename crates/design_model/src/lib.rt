@@ -4,6 +4,7 @@
 
 mod act;
 mod act_lists;
+mod act_walk;
 mod block_needles;
 mod bounds;
 mod command;
@@ -21,6 +22,7 @@ mod thread_state;
 
 pub use act::{Act, NumberedAct};
 pub use act_lists::acts;
+pub use act_walk::ActWalk;
 pub use block_needles::block_counts;
 pub use bounds::Extent;
 pub use command::Command;

@@ -11,7 +11,7 @@ use Rattle.design_model.specs.declared.point.Point.{Point}
 use Rattle.design_model.specs.declared.point.TheConstants.{NEEDLE_LIMIT}
 use Rattle.design_model.specs.Points.{is_within, origin}
 use Rattle.format_traits.specs.LabelFields.{filled_left, filled_right, label_field}
-use Rattle.format_traits.specs.Placing.{is_act_in_range, place_along, place_after}
+use Rattle.design_model.specs.ActPlaces.{is_act_in_range, place_along, place_after}
 use Rattle.format_traits.specs.Refusals.{stops_of}
 use Rattle.dst_codec.specs.declared.header.HeaderNumbers.{HeaderNumbers}
 use Rattle.dst_codec.specs.declared.header.TheConstants.{HEADER_LENGTH}

@@ -12,14 +12,13 @@ use Rattle.design_model.specs.declared.point.Point.{Point}
 use Rattle.design_model.specs.declared.point.TheConstants.{NEEDLE_LIMIT, JUMP_LIMIT}
 use Rattle.design_model.specs.Commands.{is_in_range}
 use Rattle.design_model.specs.Designs.{DesignValue, empty_design, with_label}
-use Rattle.design_model.specs.Points.{is_within, origin}
+use Rattle.design_model.specs.Points.{is_within, origin, is_same_point}
 use Rattle.format_traits.specs.declared.fault.ReadFault.{ReadFault}
 use Rattle.format_traits.specs.declared.fault.ReadFault.TheVariants as fault
 use Rattle.format_traits.specs.declared.loaded.Loaded.{Loaded}
 use Rattle.format_traits.specs.Keeping.{Fit, with_commands}
 use Rattle.format_traits.specs.Laws.{Reads}
 use Rattle.format_traits.specs.Placing.{moved}
-use Rattle.format_traits.specs.PlainDesigns.{is_same_point}
 use Rattle.format_traits.specs.Readings.{Course, over, after_commands, tried, tries, loaded_with}
 use Rattle.dst_codec.specs.declared.header.TheConstants.{HEADER_LENGTH}
 use Rattle.dst_codec.specs.declared.reading.Reader.{Reader}

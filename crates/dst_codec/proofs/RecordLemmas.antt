@@ -10,11 +10,12 @@ use Rattle.design_model.specs.declared.command.Command.{Command}
 use Rattle.design_model.specs.declared.point.Point.{Point}
 use Rattle.design_model.specs.Commands.{is_in_range}
 use Rattle.design_model.specs.Points.{is_within, move_between, size_of}
-use Rattle.format_traits.specs.declared.act_walk.ActWalk.{ActWalk}
+use Rattle.design_model.specs.declared.act_walk.ActWalk.{ActWalk}
 use Rattle.format_traits.specs.declared.standing.Standing.{Standing}
-use Rattle.format_traits.specs.Placing.{part_of, parts_from, is_loose_after, place_after}
+use Rattle.design_model.specs.ActPlaces.{is_loose_after, place_after}
+use Rattle.format_traits.specs.Placing.{part_of, parts_from}
 use Rattle.format_traits.specs.Refusals.{refusal_at, refusal_from, standing_after, or_else}
-use Rattle.format_traits.specs.Walks.{acts_after}
+use Rattle.design_model.specs.ActWalks.{acts_after}
 use Rattle.dst_codec.specs.declared.dst.TheConstants.{LIMIT}
 use Rattle.dst_codec.specs.Spelling.{jump_record, stitch_record}
 use Rattle.dst_codec.specs.Writing.{reach, float_records, records_from, records_of_act}

@@ -14,11 +14,12 @@ use Rattle.design_model.specs.Acts.{acts_from}
 use Rattle.design_model.specs.Commands.{is_in_range}
 use Rattle.design_model.specs.Points.{origin, move_between}
 use Rattle.format_traits.specs.declared.fault.WriteFault.{WriteFault}
-use Rattle.format_traits.specs.Placing.{is_act_in_range, hops, parts, parts_from, place_along, place_after, is_loose_after}
+use Rattle.design_model.specs.ActPlaces.{is_act_in_range, place_along, place_after, is_loose_after}
+use Rattle.format_traits.specs.Placing.{hops, parts, parts_from}
 use Rattle.format_traits.specs.Refusals.{stops_of, refusal_at, refusal_from, first_refusal}
 use Rattle.format_traits.specs.Rooms.{act_room, needle_room, room_from}
-use Rattle.format_traits.specs.declared.act_walk.ActWalk.{ActWalk}
-use Rattle.format_traits.specs.Walks.{acts_after}
+use Rattle.design_model.specs.declared.act_walk.ActWalk.{ActWalk}
+use Rattle.design_model.specs.ActWalks.{acts_after}
 use Rattle.dst_codec.specs.declared.dst.TheConstants.{LIMIT}
 use Rattle.dst_codec.specs.declared.header.Extents.{Extents}
 use Rattle.dst_codec.specs.declared.header.HeaderNumbers.{HeaderNumbers}

@@ -7,7 +7,7 @@ use Rattle.design_model.specs.declared.act.NumberedAct.{NumberedAct}
 use Rattle.design_model.specs.declared.point.Point.{Point}
 use Rattle.design_model.specs.Points.{origin}
 use Rattle.format_traits.specs.LabelFields.{filled_left, filled_right, label_field}
-use Rattle.format_traits.specs.Placing.{place_along}
+use Rattle.design_model.specs.ActPlaces.{place_along}
 use Rattle.format_traits.specs.Refusals.{stops_of}
 use Rattle.dst_codec.specs.declared.header.Extents.{Extents}
 use Rattle.dst_codec.specs.declared.header.HeaderNumbers.{HeaderNumbers}

@@ -6,13 +6,12 @@ use Rattle.design_model.specs.declared.command.Command.{Command}
 use Rattle.design_model.specs.declared.command.Command.TheVariants.{Stitch, Jump, Trim, Stop}
 use Rattle.design_model.specs.declared.design.TheConstants.{MAX_LABEL}
 use Rattle.design_model.specs.declared.point.Point.{Point}
-use Rattle.design_model.specs.Points.{origin}
+use Rattle.design_model.specs.Points.{origin, is_same_point}
 use Rattle.format_traits.specs.declared.fault.ReadFault.{ReadFault}
 use Rattle.format_traits.specs.declared.fault.ReadFault.TheVariants as fault
 use Rattle.format_traits.specs.declared.loaded.Loaded.{Loaded}
 use Rattle.format_traits.specs.LabelFields.{label_in}
 use Rattle.format_traits.specs.Placing.{moved}
-use Rattle.format_traits.specs.PlainDesigns.{is_same_point}
 use Rattle.format_traits.specs.Readings.{Course, over, tries, loaded_with, offset_of}
 use Rattle.dst_codec.specs.declared.header.TheConstants.{HEADER_LENGTH}
 use Rattle.dst_codec.specs.declared.record_kind.RecordKind.{RecordKind}

@@ -10,7 +10,8 @@ use Rattle.design_model.specs.Designs.{DesignValue}
 use Rattle.design_model.specs.Points.{origin, move_between}
 use Rattle.format_traits.specs.declared.fault.WriteFault.{WriteFault}
 use Rattle.format_traits.specs.declared.standing.Reach.{Reach}
-use Rattle.format_traits.specs.Placing.{hops, part_of, parts, place_after, is_loose_after}
+use Rattle.design_model.specs.ActPlaces.{place_after, is_loose_after}
+use Rattle.format_traits.specs.Placing.{hops, part_of, parts}
 use Rattle.format_traits.specs.Refusals.{first_refusal, unless_refused}
 use Rattle.dst_codec.specs.declared.dst.TheConstants.{LIMIT, MAX_FLOAT_HOPS, MAX_STOPS}
 use Rattle.dst_codec.specs.Header.{header}

@@ -6,7 +6,8 @@ ghost use Rattle.design_model.specs.Acts.{acts_along, numbered};
 ghost use Rattle.design_model.specs.Commands.{is_in_range};
 ghost use Rattle.design_model.specs.Points.{is_within, size_of as size};
 ghost use Rattle.format_traits.specs.declared.placing.TheConstants.{GREATEST_MOVE, MOST_HOPS};
-ghost use Rattle.format_traits.specs.Placing.{is_act_in_range, parts_from};
+ghost use Rattle.design_model.specs.ActPlaces.{is_act_in_range};
+ghost use Rattle.format_traits.specs.Placing.{parts_from};
 ghost use Rattle.format_traits.specs.Refusals.{first_refusal, refusal_at, standing_after};
 ghost use Rattle.dst_codec.specs.declared.dst.TheConstants.{LIMIT};
 ghost use Rattle.dst_codec.specs.Spelling.{record_of, jump_record};
@@ -14,8 +15,10 @@ ghost use Rattle.dst_codec.specs.Writing.{reach, records_of, records_of_act, nee
 
 use crate::dst::LIMIT;
 use crate::spelling::{JUMP, spell};
-use design_model::{Act, Bytes, Command, MAX_COMMANDS, Memory, NEEDLE_LIMIT, NumberedAct, Point};
-use format_traits::{ActWalk, GREATEST_MOVE, MOST_HOPS, Standing, hops, move_between, part_move};
+use design_model::{
+    Act, ActWalk, Bytes, Command, MAX_COMMANDS, Memory, NEEDLE_LIMIT, NumberedAct, Point,
+};
+use format_traits::{GREATEST_MOVE, MOST_HOPS, Standing, hops, move_between, part_move};
 
 /// Three jumps that come back to where they began.
 const TRIM: [u8; 9] = [0x82, 0x41, 0x83, 0x82, 0x82, 0x83, 0x82, 0x41, 0x83];

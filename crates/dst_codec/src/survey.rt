@@ -6,14 +6,14 @@ ghost use Rattle.design_model.specs.Acts.{acts_along};
 ghost use Rattle.design_model.specs.Commands.{is_in_range};
 ghost use Rattle.design_model.specs.Points.{is_within, size_of as size};
 ghost use Rattle.format_traits.specs.declared.placing.TheConstants.{GREATEST_MOVE};
-ghost use Rattle.format_traits.specs.Placing.{is_act_in_range};
+ghost use Rattle.design_model.specs.ActPlaces.{is_act_in_range};
 ghost use Rattle.dst_codec.specs.Header.{above as above_of, below as below_of};
 ghost use Rattle.dst_codec.specs.Surveys.{empty_survey, float_count as float_count_of, needle_count as needle_count_of, record_count as record_count_of, stretched, stretched_by, Notes, SurveysActs};
 
 use crate::dst::{LIMIT, MAX_FLOAT_HOPS, MAX_STOPS};
 use crate::header::{Extents, HeaderNumbers};
-use design_model::{Act, Command, MAX_COMMANDS, NEEDLE_LIMIT, NumberedAct, Point};
-use format_traits::{ActWalk, GREATEST_MOVE, Reach, Standing, WriteFault, hops, move_between};
+use design_model::{Act, ActWalk, Command, MAX_COMMANDS, NEEDLE_LIMIT, NumberedAct, Point};
+use format_traits::{GREATEST_MOVE, Reach, Standing, WriteFault, hops, move_between};
 
 /// What the format can write.
 const REACH: Reach = Reach {

@@ -1,4 +1,3 @@
-pub mod ActLemmas
 mod EndingFacts
 pub mod LabelLemmas
 pub mod EndingLemmas

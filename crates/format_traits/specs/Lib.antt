@@ -1,6 +1,5 @@
 pub mod Limits
 pub mod Placing
-pub mod Walks
 pub mod Rooms
 pub mod Refusals
 pub mod PlainDesigns

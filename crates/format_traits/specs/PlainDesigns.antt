@@ -9,7 +9,7 @@ use Rattle.design_model.specs.declared.point.Point.{Point}
 use Rattle.design_model.specs.Acts.{acts_of}
 use Rattle.design_model.specs.Designs.{DesignValue}
 use Rattle.design_model.specs.Points.{is_within, origin, move_between}
-use Rattle.format_traits.specs.Placing.{place_after, is_loose_after}
+use Rattle.design_model.specs.ActPlaces.{place_after, is_loose_after}
 use Rattle.format_traits.specs.Refusals.{stops_of}
 use Rattle.format_traits.specs.Rooms.{room_of}
 
@@ -31,7 +31,3 @@ pub record IsPlain (limit : ℕ) (d : DesignValue) : Type 0 where
   pub needles : IsTrue (are_plain_from limit true origin (acts_of d))
   pub stops : stops_of (acts_of d) ≤ 254
   pub room : room_of limit (acts_of d) ≤ MAX_COMMANDS
-
--- the same place
-abbrev pub is_same_point : Point → Point → Bool
-is_same_point p q = int_eq p.x q.x && int_eq p.y q.y

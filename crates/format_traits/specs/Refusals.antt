@@ -10,7 +10,8 @@ use Rattle.format_traits.specs.declared.fault.WriteFault.{WriteFault}
 use Rattle.format_traits.specs.declared.fault.WriteFault.TheVariants as fault
 use Rattle.format_traits.specs.declared.standing.Reach.{Reach}
 use Rattle.format_traits.specs.declared.standing.Standing.{Standing}
-use Rattle.format_traits.specs.Placing.{place_after, is_loose_after, hops}
+use Rattle.design_model.specs.ActPlaces.{place_after, is_loose_after}
+use Rattle.format_traits.specs.Placing.{hops}
 use Rattle.format_traits.specs.Rooms.{act_room}
 
 -- before the first act the thread is loose, and nothing is written

@@ -5,7 +5,8 @@ use Rattle.design_model.specs.declared.act.Act.TheVariants.{Needle, Trim, Stop}
 use Rattle.design_model.specs.declared.act.NumberedAct.{NumberedAct}
 use Rattle.design_model.specs.declared.point.Point.{Point}
 use Rattle.design_model.specs.Points.{origin, move_between}
-use Rattle.format_traits.specs.Placing.{place_after, is_loose_after, hops}
+use Rattle.design_model.specs.ActPlaces.{place_after, is_loose_after}
+use Rattle.format_traits.specs.Placing.{hops}
 
 -- a loose needle takes its jumps and a stitch; of three jumps in a run the last may read as a trim besides
 abbrev pub loose_room : ℕ → ℕ

@@ -2,7 +2,6 @@
 //! them keeps.
 #![tactic(auto)]
 
-mod act_walk;
 mod boxed;
 mod fault;
 mod format_object;
@@ -14,7 +13,6 @@ mod lookup;
 mod placing;
 mod standing;
 
-pub use act_walk::ActWalk;
 pub use boxed::{decode_by, encode_by, ext_of, limit_of};
 pub use fault::{ReadFault, WriteFault};
 pub use format_object::{Format, GREATEST_LIMIT, LEAST_LIMIT};

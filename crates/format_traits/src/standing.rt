@@ -5,7 +5,7 @@ ghost use Rattle.design_model.specs.Acts.{numbered};
 ghost use Rattle.design_model.specs.Points.{is_within, size_of as size};
 ghost use Rattle.format_traits.specs.declared.format_object.TheConstants.{LEAST_LIMIT, GREATEST_LIMIT};
 ghost use Rattle.format_traits.specs.declared.placing.TheConstants.{GREATEST_MOVE};
-ghost use Rattle.format_traits.specs.Placing.{is_act_in_range, is_loose_after as leaves_loose, place_after as place_of};
+ghost use Rattle.design_model.specs.ActPlaces.{is_act_in_range};
 ghost use Rattle.format_traits.specs.Refusals.{beginning, stops_in, standing_after, passes as passes_most, needle_refusal as needle_refused, own_refusal as own_refused, refusal_at};
 ghost use Rattle.format_traits.specs.Rooms.{loose_room as room_of_loose, needle_room as room_of_needle, act_room as room_of_act};
 
@@ -59,8 +59,8 @@ impl Standing {
         ensures { result ≡ standing_after limit self.now act }
     {
         Standing {
-            loose: is_loose_after(act),
-            place: place_after(self.place, act),
+            loose: act.is_loose_after(),
+            place: act.place_after(self.place),
             stops: self.stops + stop_count(act),
             room: self.room + act_room(limit, self.loose, self.place, act),
         }
@@ -153,24 +153,6 @@ fn passes(most: Option<u32>, number: u32) -> bool
     match most {
         Some(most) => most < number,
         None => false,
-    }
-}
-
-fn is_loose_after(act: Act) -> bool
-    ensures { result ≡ leaves_loose act }
-{
-    match act {
-        Act::Needle { .. } => false,
-        Act::Trim | Act::Stop => true,
-    }
-}
-
-fn place_after(place: Point, act: Act) -> Point
-    ensures { result ≡ place_of place act }
-{
-    match act {
-        Act::Needle { at, .. } => at,
-        Act::Trim | Act::Stop => place,
     }
 }
 

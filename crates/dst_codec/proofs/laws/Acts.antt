@@ -15,7 +15,8 @@ use Rattle.design_model.specs.Points.{is_within, origin, move_between, size_of}
 use Rattle.format_traits.specs.declared.fault.WriteFault.{WriteFault}
 use Rattle.format_traits.specs.declared.fault.WriteFault.TheVariants as fault
 use Rattle.format_traits.specs.declared.standing.Standing.{Standing}
-use Rattle.format_traits.specs.Placing.{moved, hops, part_of, place_after, is_loose_after, is_act_in_range}
+use Rattle.design_model.specs.ActPlaces.{place_after, is_loose_after, is_act_in_range}
+use Rattle.format_traits.specs.Placing.{moved, hops, part_of}
 use Rattle.format_traits.specs.Refusals.{standing_after, refused_where, needle_refusal, own_refusal, or_else, refusal_at, refusal_from}
 use Rattle.format_traits.specs.Rooms.{loose_room, needle_room, act_room}
 use Rattle.dst_codec.specs.declared.dst.TheConstants.{LIMIT}

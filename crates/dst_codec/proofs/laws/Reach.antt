@@ -11,14 +11,13 @@ use Rattle.design_model.specs.declared.design.TheConstants.{MAX_COMMANDS}
 use Rattle.design_model.specs.declared.point.Point.{Point}
 use Rattle.design_model.specs.Acts.{acts_from, acts_along, numbered}
 use Rattle.design_model.specs.Commands.{is_in_range}
-use Rattle.design_model.specs.Points.{origin, move_between, size_of}
+use Rattle.design_model.specs.Points.{origin, move_between, size_of, is_same_point}
 use Rattle.format_traits.specs.declared.fault.ReadFault.{ReadFault}
 use Rattle.format_traits.specs.declared.fault.ReadFault.TheVariants as read
 use Rattle.format_traits.specs.declared.fault.WriteFault.{WriteFault}
 use Rattle.format_traits.specs.declared.fault.WriteFault.TheVariants as fault
 use Rattle.format_traits.specs.declared.standing.Standing.{Standing}
 use Rattle.format_traits.specs.Placing.{moved, hops}
-use Rattle.format_traits.specs.PlainDesigns.{is_same_point}
 use Rattle.format_traits.specs.Readings.{Course, after_commands, tried, tries, loaded_with}
 use Rattle.format_traits.specs.Refusals.{beginning, standing_after, passes, refused_where, needle_refusal, own_refusal, or_else, refusal_at, refusal_from, first_refusal, unless_refused}
 use Rattle.dst_codec.specs.declared.dst.TheConstants.{LIMIT}

@@ -13,7 +13,7 @@ use Rattle.design_model.specs.Points.{is_within, move_between, size_of}
 use Rattle.format_traits.specs.declared.fault.WriteFault.{WriteFault}
 use Rattle.format_traits.specs.declared.fault.WriteFault.TheVariants as fault
 use Rattle.format_traits.specs.declared.standing.Standing.{Standing}
-use Rattle.format_traits.specs.Placing.{place_after, is_loose_after}
+use Rattle.design_model.specs.ActPlaces.{place_after, is_loose_after}
 use Rattle.format_traits.specs.PlainDesigns.{is_plain_act, are_plain_from}
 use Rattle.format_traits.specs.Refusals.{stops_in, stops_of, standing_after, refused_where, needle_refusal, own_refusal, or_else, refusal_at, refusal_from}
 use Rattle.format_traits.specs.Rooms.{room_from}

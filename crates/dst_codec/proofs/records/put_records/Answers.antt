@@ -1,7 +1,7 @@
 use Rattle.std.proofs.Common.{◌≡◌, ◌∷◌, ◌++◌, None, option_to_list, arith, ap, sym, subst, ◌∙◌}
 use Rattle.std.specs.List.{concat}
 use Rattle.format_traits.specs.Refusals.{refusal_from}
-use Rattle.format_traits.specs.Walks.{acts_after}
+use Rattle.design_model.specs.ActWalks.{acts_after}
 use Rattle.dst_codec.specs.Writing.{reach, records_from}
 use Rattle.dst_codec.proofs.RecordLemmas.{rest_of, length-rest_of, rest_in_range, acts_split, accepted_rest, written_rest}
 use Rattle.dst_codec.proofs.records.put_records.Goals as goal

@@ -6,7 +6,7 @@ use Rattle.design_model.specs.Acts.{acts_along}
 use Rattle.design_model.specs.Commands.{is_in_range}
 use Rattle.design_model.specs.Points.{is_within}
 use Rattle.format_traits.specs.Refusals.{refusal_from}
-use Rattle.format_traits.specs.Walks.{acts_after}
+use Rattle.design_model.specs.ActWalks.{acts_after}
 use Rattle.dst_codec.specs.Writing.{reach, records_from, records_of}
 use Rattle.dst_codec.proofs.records.put_records.Given as goal
 

@@ -1,7 +1,7 @@
 use Rattle.std.proofs.Common.{◌≡◌, ◌++◌, option_to_list, arith, ap, sym, ◌∙◌}
 use Rattle.design_model.specs.Acts.{acts_along}
 use Rattle.format_traits.specs.Refusals.{refusal_from}
-use Rattle.format_traits.specs.Walks.{acts_after}
+use Rattle.design_model.specs.ActWalks.{acts_after}
 use Rattle.dst_codec.specs.Writing.{reach}
 use Rattle.dst_codec.proofs.RecordLemmas.{rest_of, length-rest_of, rest_in_range, acts_split}
 use Rattle.dst_codec.proofs.SurveyLemmas.{surveyed, finished, refused}

@@ -8,7 +8,7 @@ use Rattle.design_model.specs.declared.command.Command.{Command}
 use Rattle.design_model.specs.declared.command.Command.TheVariants.{Stitch, Jump, Trim, Stop}
 use Rattle.design_model.specs.Acts.{acts_from, listed}
 use Rattle.design_model.specs.Commands.{is_in_range}
-use Rattle.format_traits.specs.Placing.{is_act_in_range}
+use Rattle.design_model.specs.ActPlaces.{is_act_in_range}
 
 -- the points of acts are in a needle's range
 abbrev pub are_in_range : List NumberedAct → Bool

@@ -3,7 +3,7 @@ use Rattle.std.specs.Prelude.{◌+◌, List}
 use Rattle.design_model.specs.declared.act.NumberedAct.{NumberedAct}
 use Rattle.design_model.specs.declared.command.Command.{Command}
 use Rattle.design_model.specs.Acts.{acts_from}
-use Rattle.format_traits.specs.declared.act_walk.ActWalk.{ActWalk}
+use Rattle.design_model.specs.declared.act_walk.ActWalk.{ActWalk}
 
 -- the acts of the commands that follow
 abbrev pub acts_after : ActWalk → List Command → List NumberedAct

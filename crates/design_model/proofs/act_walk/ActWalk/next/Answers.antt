@@ -1,6 +1,6 @@
 use Rattle.std.proofs.Common.{[], Some}
-use Rattle.format_traits.proofs.ActLemmas.{act_in_range}
-use Rattle.format_traits.proofs.act_walk.ActWalk.next.Goals as goal
+use Rattle.design_model.proofs.ActLemmas.{act_in_range}
+use Rattle.design_model.proofs.act_walk.ActWalk.next.Goals as goal
 
 pub returns-in-Some-clause-in_range : goal.returns-in-Some-clause-in_range
 returns-in-Some-clause-in_range c = act_in_range c.args.command (Some c.in-Some.act) c.args.self.now.thread.loose

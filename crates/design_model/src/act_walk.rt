@@ -2,10 +2,12 @@ ghost use Rattle.std.specs.Prelude.{◌≡◌, ◌∷◌, ◌++◌, ◌+◌, ◌
 ghost use Rattle.design_model.specs.declared.command.Command.{Command as CommandValue};
 ghost use Rattle.design_model.specs.Acts.{acts_along};
 ghost use Rattle.design_model.specs.Commands.{is_in_range};
-ghost use Rattle.format_traits.specs.Placing.{is_act_in_range};
-ghost use Rattle.format_traits.specs.Walks.{acts_after};
+ghost use Rattle.design_model.specs.ActPlaces.{is_act_in_range};
+ghost use Rattle.design_model.specs.ActWalks.{acts_after};
 
-use design_model::{Command, NumberedAct, ThreadState};
+use crate::act::NumberedAct;
+use crate::command::Command;
+use crate::thread_state::ThreadState;
 
 /// A walk through the commands of a design, which gives their acts.
 #[derive(Clone, Copy, Debug, PartialEq, Eq)]
