@@ -1,4 +1,4 @@
-ghost use Rattle.std.specs.Prelude.{◌≡◌, ◌≤◌, ◌<◌, ◌+◌, ◌∷◌, ℕ, List, length, IfOk};
+ghost use Rattle.std.specs.Prelude.{◌≡◌, ◌≤◌, ◌<◌, ◌+◌, ◌∷◌, ℕ, List, length, IfOk, OnOk};
 ghost use Rattle.design_model.specs.declared.act.NumberedAct.{NumberedAct as NumberedActValue};
 ghost use Rattle.design_model.specs.declared.design.TheConstants.{MAX_COMMANDS};
 ghost use Rattle.design_model.specs.Acts.{acts_along, numbered};
@@ -18,6 +18,7 @@ use std::alloc::Global;
 pub fn block_counts(alloc: Global, design: &Design) -> Result<Numbers, Memory>
     ensures ok { IfOk result (λ needles. needles ≡ needles_of_blocks design.now) }
     ensures blocks { IfOk result (λ needles. length needles ≡ (counts_of design.now).stops + 1) }
+    ensures most { IfOk result (λ needles. length needles ≤ MAX_COMMANDS + 1) }
 {
     block_counts_in(alloc, design.commands())
 }
@@ -25,7 +26,8 @@ pub fn block_counts(alloc: Global, design: &Design) -> Result<Numbers, Memory>
 #[tactic(auto, using(crate::proofs::BlockLemmas::carried_first))]
 fn block_counts_in(alloc: Global, commands: &[Command]) -> Result<Numbers, Memory>
     requires { length commands.now ≤ MAX_COMMANDS }
-    ensures { IfOk result (λ needles. needles ≡ needles_by_block (acts_along commands.now)) }
+    ensures value { IfOk result (λ needles. needles ≡ needles_by_block (acts_along commands.now)) }
+    ensures most { IfOk result (λ needles. length needles ≤ length commands.now + 1) }
 {
     let mut ended = Numbers::new(alloc);
     let mut needles: u32 = 0;
@@ -44,6 +46,7 @@ fn needles_after(ended: &mut Numbers, needles: u32, act: Act) -> Result<u32, Mem
     ensures blocks { IfOk result (λ more. (n : ℕ) (rest : List NumberedActValue) →
         carried ended.new more rest ≡ carried ended.old needles (numbered n act ∷ rest)) }
     ensures most { IfOk result (λ more. more ≤ needles + 1) }
+    ensures ended { OnOk result (length ended.new ≤ length ended.old + 1) }
 {
     match act {
         Act::Needle { .. } => Ok(needles + 1),
