@@ -1,4 +1,6 @@
 pub mod LineDesigns
 pub mod PutLemmas
-pub mod RouteLemmas
+pub mod DeliveryLemmas
 pub mod RunLemmas
+pub mod KeepLemmas
+pub mod DecisionLemmas

@@ -1,9 +1,12 @@
 -- Puts one after another.
-use Rattle.std.proofs.Common.{◌≡◌, ◌++◌, ℕ, List, Option, Some, None, Result, Ok, Err, sym, ap, refl, subst, ◌∙◌, append_assoc, take, drop}
+use Rattle.std.proofs.Common.{◌≡◌, ◌++◌, ℕ, List, Option, Some, None, Result, Ok, Err, sym, ap, refl, subst, ◌∙◌, append_assoc, take, drop, OnOk, OnErr, inl, inr}
 use Rattle.std.proofs.lemmas.List.{take-append-drop}
 use Rattle.outside_io.specs.declared.store.Failed.{Failed}
 use Rattle.outside_io.specs.Causes.{with_more}
 use Rattle.outside_io.specs.Counts.{Rose}
+use Rattle.stitch_cli.specs.declared.status.Status.{Status}
+use Rattle.stitch_cli.specs.declared.status.Status.TheVariants as status
+use Rattle.stitch_cli.specs.Endings.{Tells}
 use Rattle.stitch_cli.specs.Sights.{Broke, Puts, SinkSight, fed, sink_sight}
 
 -- bytes added twice are added at once
@@ -60,3 +63,10 @@ puts_then a b before mid after (Err _) first second = record {
   ok = tt;
   err = broke-after before mid after a b first second.err;
 }
+
+-- the status that is planned where a text was put, and `Fault` where it wasn't, tell that text
+pub told_by : {T : Type 0} (text : List ℕ) (before after : SinkSight) (planned : Status) (put : Result T Failed) (s : Status)
+    → Puts text before after put → OnOk put (s ≡ planned) → OnErr put (s ≡ status.Fault)
+    → Tells text planned before after s
+told_by text before after planned (Ok _) s puts ok err = inl (ok, puts.ok)
+told_by text before after planned (Err _) s puts ok err = inr (err, puts.err)

@@ -1,9 +1,12 @@
 pub mod Requests
 pub mod Sights
+pub mod Products
 pub mod Certificates
 pub mod Texts
--- read these two first: what `route` leaves behind, and what each status of the program means
+-- read these first: what each order comes to, and what each status of the program means
 pub mod Routes
-pub mod Steps
+pub mod Shows
+pub mod Orders
 pub mod Runs
 pub mod Endings
+pub mod Steps

@@ -1,19 +1,17 @@
 -- What each status of the program means.
 use Rattle.std.specs.Prelude.{◌≡◌, ℕ, ◌⊎◌, List, Option, Some, None, IsSome}
-use Rattle.stitch_cli.specs.declared.status.Status.{Status}
-use Rattle.stitch_cli.specs.declared.status.Status.TheVariants as status
-use Rattle.stitch_cli.specs.declared.stop.Refusal.{Refusal}
-use Rattle.stitch_cli.specs.declared.stop.Stop.{Stop}
-use Rattle.stitch_cli.specs.declared.stop.Stop.TheVariants as stop
-use Rattle.line_graph.specs.Drawings.{DrawingValue}
-use Rattle.stitch_cli.specs.Requests.{Order, RouteOrder, routing}
-use Rattle.stitch_cli.specs.Routes.{Accepts, ChangesTwo, LacksCertificate, LacksDesign, LacksReport, Refuses, RouteIsDone, RouteStops}
-use Rattle.stitch_cli.specs.Sights.{Broke, SinkSight, StoreSight, fed, sink_sight, store_sight}
 use Rattle.outside_io.specs.Blames.{Blame, read_of}
 use Rattle.outside_io.specs.Causes.{Faults}
 use Rattle.outside_io.specs.Counts.{IsQuiet}
 use Rattle.outside_io.specs.Files.{Files, Lacks}
-use Rattle.stitch_cli.specs.Texts.{memory_line, refusal_line, route_line, usage_text}
+use Rattle.stitch_cli.specs.declared.status.Status.{Status}
+use Rattle.stitch_cli.specs.declared.status.Status.TheVariants as status
+use Rattle.stitch_cli.specs.declared.stop.Refusal.{Refusal}
+use Rattle.stitch_cli.specs.Orders.{Makes, Refuses}
+use Rattle.stitch_cli.specs.Products.{ChangesAmong, Product, Wrote, WroteUpTo}
+use Rattle.stitch_cli.specs.Requests.{Order, input_of, outputs_of}
+use Rattle.stitch_cli.specs.Sights.{Broke, SinkSight, StoreSight, fed, sink_sight, store_sight}
+use Rattle.stitch_cli.specs.Texts.{memory_line, refusal_line, unprinted_line, unread_line, unwritten_line, usage_text}
 
 -- what the store, the standard output and the standard error show
 pub record Sights : Type 0 where
@@ -29,19 +27,9 @@ sights files faults blame printed print_faults told tell_faults = record {
   err = sink_sight told tell_faults;
 }
 
--- the status that a reason to stop gives
-abbrev pub status_of : Stop → Status
-status_of stop.Missing = status.Fault
-status_of stop.NotRead = status.Fault
-status_of (stop.Refused why) = status.Refused
-status_of stop.CertificateNotWritten = status.Fault
-status_of stop.DesignNotWritten = status.Fault
-status_of stop.NotPrinted = status.Fault
-status_of stop.Memory = status.Memory
-
--- the words ask for this route
-abbrev pub AsksFor : Option Order → RouteOrder → Type 0
-AsksFor order route = order ≡ Some (routing route)
+-- the words ask for this order
+abbrev pub AsksFor : Option Order → Order → Type 0
+AsksFor asked order = asked ≡ Some order
 
 -- the store and the standard output show what they showed
 pub record IsUntouched (before after : Sights) : Type 0 where
@@ -54,26 +42,29 @@ pub record IsQuietRun (before after : Sights) : Type 0 where
   pub out : IsQuiet before.out.faults after.out.faults
   pub err : IsQuiet before.err.faults after.err.faults
 
--- `Done`: the words ask for a route, both files and the report are as the route leaves them, and
--- nothing stands on the standard error
-pub record IsDone (order : Option Order) (before after : Sights) : Type 0 where
-  pub route : RouteOrder
-  pub asked : AsksFor order route
-  pub done : RouteIsDone route before.store after.store before.out after.out
+-- `Done`: the words ask for an order that makes this product: its outputs are written and its report
+-- is printed, and nothing stands on the standard error
+pub record IsDone (asked : Option Order) (before after : Sights) : Type 0 where
+  pub order : Order
+  pub asks : AsksFor asked order
+  pub product : Product
+  pub made : Makes order before.store.files product
+  pub wrote : Wrote product.outputs before.store after.store
+  pub report : after.out ≡ fed before.out product.report
   pub err : after.err ≡ before.err
 
--- `Refused`: a step of the route that the words ask for refuses, and its line says why
-pub record IsRefused (order : Option Order) (before after : Sights) : Type 0 where
-  pub route : RouteOrder
-  pub asked : AsksFor order route
+-- `Refused`: a step of the order that the words ask for refuses, and its line says why
+pub record IsRefused (asked : Option Order) (before after : Sights) : Type 0 where
+  pub order : Order
+  pub asks : AsksFor asked order
   pub why : Refusal
-  pub cause : Refuses before.store.files route why
+  pub cause : Refuses order before.store.files why
   pub untouched : IsUntouched before after
-  pub told : after.err ≡ fed before.err (refusal_line route why)
+  pub told : after.err ≡ fed before.err (refusal_line order why)
 
 -- `Usage`: the words ask for nothing, and the usage text says what may be asked for
-pub record IsUsage (order : Option Order) (before after : Sights) : Type 0 where
-  pub asked : order ≡ None
+pub record IsUsage (asked : Option Order) (before after : Sights) : Type 0 where
+  pub asks : asked ≡ None
   pub untouched : IsUntouched before after
   pub told : after.err ≡ fed before.err usage_text
 
@@ -82,53 +73,78 @@ pub record IsMemory (before after : Sights) : Type 0 where
   pub untouched : IsUntouched before after
   pub told : after.err ≡ fed before.err memory_line
 
--- a call on the outside failed at this step of the route, or the drawing isn't there; the writing
--- steps before it are done, and those after it aren't
-abbrev pub FailedAt : RouteOrder → Sights → Sights → Stop → Type 0
-FailedAt route before after stop.Missing = Lacks before.store.files route.drawing × IsUntouched before after
-FailedAt route before after stop.NotRead =
-    Faults before.store.faults after.store.faults after.store.blame (read_of route.drawing)
-    × (after.store.files ≡ before.store.files) × (after.out ≡ before.out)
-FailedAt route before after stop.CertificateNotWritten =
-    LacksCertificate route before.store after.store × (after.out ≡ before.out)
-FailedAt route before after stop.DesignNotWritten =
-    LacksDesign route before.store after.store × (after.out ≡ before.out)
-FailedAt route before after stop.NotPrinted =
-    LacksReport route before.store after.store before.out after.out
-FailedAt route before after (stop.Refused why) = ⊥
-FailedAt route before after stop.Memory = ⊥
+-- the file that an order reads could not be read: nothing else changed
+pub record IsUnread (order : Order) (before after : Sights) : Type 0 where
+  pub fault : Faults before.store.faults after.store.faults after.store.blame (read_of (input_of order))
+  pub files : after.store.files ≡ before.store.files
+  pub out : after.out ≡ before.out
 
--- a step of the route failed, and the standard error has its line
-pub record IsFailedRoute (order : Option Order) (before after : Sights) : Type 0 where
-  pub route : RouteOrder
-  pub asked : AsksFor order route
-  pub step : Stop
-  pub failed : FailedAt route before after step
-  pub told : after.err ≡ fed before.err (route_line route step)
+-- an output of what the order makes could not be written: those before it are written
+pub record IsUnwritten (order : Order) (before after : Sights) (name : List ℕ) : Type 0 where
+  pub product : Product
+  pub made : Makes order before.store.files product
+  pub wrote : WroteUpTo product.outputs name before.store after.store
+  pub out : after.out ≡ before.out
+
+-- all outputs of what the order makes are written, and its report could not be printed
+pub record IsUnprinted (order : Order) (before after : Sights) : Type 0 where
+  pub product : Product
+  pub made : Makes order before.store.files product
+  pub wrote : Wrote product.outputs before.store after.store
+  pub broke : Broke before.out after.out product.report
+
+-- how an order failed on the outside, and the line that says so
+pub data Fails (order : Order) (before after : Sights) (line : List ℕ) : Type 0 where
+  missing : line ≡ unread_line (input_of order) → Lacks before.store.files (input_of order)
+      → IsUntouched before after → Fails order before after line
+  unread : line ≡ unread_line (input_of order) → IsUnread order before after → Fails order before after line
+  unwritten : (name : List ℕ) → line ≡ unwritten_line name → IsUnwritten order before after name
+      → Fails order before after line
+  unprinted : line ≡ unprinted_line → IsUnprinted order before after → Fails order before after line
+
+-- a step of the order failed, and the standard error has its line
+pub record IsFailed (asked : Option Order) (before after : Sights) : Type 0 where
+  pub order : Order
+  pub asks : AsksFor asked order
+  pub line : List ℕ
+  pub fails : Fails order before after line
+  pub told : after.err ≡ fed before.err line
+
+-- what a run that is not done came to: the status that it calls for, and its text
+pub data CallsFor (asked : Option Order) (before after : Sights) (planned : Status) (text : List ℕ) : Type 0 where
+  usage : asked ≡ None → planned ≡ status.Usage → text ≡ usage_text → IsUntouched before after
+      → CallsFor asked before after planned text
+  refused : (order : Order) (why : Refusal) → AsksFor asked order → planned ≡ status.Refused
+      → text ≡ refusal_line order why → Refuses order before.store.files why → IsUntouched before after
+      → CallsFor asked before after planned text
+  failed : (order : Order) → AsksFor asked order → planned ≡ status.Fault → Fails order before after text
+      → CallsFor asked before after planned text
+  memory : planned ≡ status.Memory → text ≡ memory_line → IsUntouched before after
+      → CallsFor asked before after planned text
 
 -- the standard error failed on the way of its text: all else is as that text would have told
-abbrev pub IsUntold : Option Order → Sights → Sights → Type 0
-IsUntold None before after = IsUntouched before after × Broke before.err after.err usage_text
-IsUntold (Some (routing route)) before after = (step : Stop)
-    × RouteStops route before.store after.store before.out after.out step
-    × Broke before.err after.err (route_line route step)
+pub record IsUntold (asked : Option Order) (before after : Sights) : Type 0 where
+  pub planned : Status
+  pub text : List ℕ
+  pub calls : CallsFor asked before after planned text
+  pub broke : Broke before.err after.err text
 
--- `Fault`: a step of the route failed; or the text on the standard error could not be put
+-- `Fault`: a step of the order failed; or the text on the standard error could not be put
 abbrev pub IsFault : Option Order → Sights → Sights → Type 0
-IsFault order before after = IsFailedRoute order before after ⊎ IsUntold order before after
+IsFault asked before after = IsFailed asked before after ⊎ IsUntold asked before after
 
--- files that a route doesn't write stay, and all files stay where the words ask for nothing
+-- files that the order doesn't write stay, and all files stay where the words ask for nothing
 abbrev pub KeepsOthers : Option Order → Option Files → Option Files → Type 0
 KeepsOthers None old new = new ≡ old
-KeepsOthers (Some (routing route)) old new = ChangesTwo old new route.cert route.out
+KeepsOthers (Some order) old new = ChangesAmong (outputs_of order) old new
 
--- where no count rises the words and the files decide: nothing asked for is `Usage`; else the
--- drawing is accepted, refused or not there, and the answer is that, or want of memory
-pub record IsDecided (order : Option Order) (before : Sights) (s : Status) : Type 0 where
-  pub usage : order ≡ None → s ≡ status.Usage
-  pub done : (route : RouteOrder) (d : DrawingValue) → AsksFor order route → IsSome before.store.files
-      → Accepts before.store.files route d → (s ≡ status.Done) ⊎ (s ≡ status.Memory)
-  pub refused : (route : RouteOrder) (why : Refusal) → AsksFor order route → IsSome before.store.files
-      → Refuses before.store.files route why → (s ≡ status.Refused) ⊎ (s ≡ status.Memory)
-  pub missing : (route : RouteOrder) → AsksFor order route → Lacks before.store.files route.drawing
+-- where no count rises the words and the files decide: nothing asked for is `Usage`; else the order is
+-- accepted, refused or its file is not there, and the answer is that, or want of memory
+pub record IsDecided (asked : Option Order) (before : Sights) (s : Status) : Type 0 where
+  pub usage : asked ≡ None → s ≡ status.Usage
+  pub done : (order : Order) (product : Product) → AsksFor asked order → IsSome before.store.files
+      → Makes order before.store.files product → (s ≡ status.Done) ⊎ (s ≡ status.Memory)
+  pub refused : (order : Order) (why : Refusal) → AsksFor asked order → IsSome before.store.files
+      → Refuses order before.store.files why → (s ≡ status.Refused) ⊎ (s ≡ status.Memory)
+  pub missing : (order : Order) → AsksFor asked order → Lacks before.store.files (input_of order)
       → (s ≡ status.Fault) ⊎ (s ≡ status.Memory)

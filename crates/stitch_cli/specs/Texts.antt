@@ -1,5 +1,7 @@
 -- The program's own texts: reports on standard output, one line or the usage on standard error.
 use Rattle.std.specs.Prelude.{ℕ, ◌+◌, List, [], ◌∷◌, ◌++◌, codes, decimal, sum_by, length}
+use Rattle.format_traits.specs.declared.fault.ReadFault.{ReadFault}
+use Rattle.format_traits.specs.declared.fault.ReadFault.TheVariants as read
 use Rattle.format_traits.specs.Meanings.{Meaning}
 use Rattle.stitch_cli.specs.declared.reports.PieceReport.{PieceReport}
 use Rattle.stitch_cli.specs.declared.stop.Stop.{Stop}
@@ -7,7 +9,7 @@ use Rattle.stitch_cli.specs.declared.stop.Stop.TheVariants as stop
 use Rattle.stitch_cli.specs.declared.stop.Refusal.{Refusal}
 use Rattle.stitch_cli.specs.declared.stop.Refusal.TheVariants as refusal
 use Rattle.stitch_cli.specs.Certificates.{line_end}
-use Rattle.stitch_cli.specs.Requests.{RouteOrder}
+use Rattle.stitch_cli.specs.Requests.{Order, Subject, subject_of}
 
 -- what the words may be
 abbrev pub usage_text : List ℕ
@@ -65,14 +67,40 @@ step_text name step limit ending =
 abbrev pub step_line : List ℕ → ℕ → Meaning → List ℕ
 step_line name step format = step_text name (decimal step) (decimal format.limit) format.ending
 
--- why a route was refused
-abbrev pub refusal_line : RouteOrder → Refusal → List ℕ
-refusal_line order refusal.DrawingTooLong =
-    line_about order.drawing (codes "longer than 67108864 bytes")
-refusal_line order refusal.NotPlainLoop =
-    line_about order.drawing (codes "not a plain drawing of one closed line from 0 0")
-refusal_line order (refusal.StepTooLong step) =
-    step_line order.drawing step order.format
+-- the line that memory was wanted and not found
+abbrev pub memory_line : List ℕ
+memory_line = codes "stitch: out of memory" ++ line_end
+
+-- a line about a file, at a place that has a number
+abbrev pub line_at : (name word digits text : List ℕ) → List ℕ
+line_at name word digits text = (codes "stitch: " ++ (name ++ (word ++ digits)))
+    ++ (codes ": " ++ (text ++ line_end))
+
+-- a line about a byte of a file, counted from 0
+abbrev pub byte_line : List ℕ → ℕ → List ℕ → List ℕ
+byte_line name offset text = line_at name (codes ": byte ") (decimal offset) text
+
+-- why a file was not read; want of memory has a line of its own
+abbrev pub read_line : List ℕ → ReadFault → List ℕ
+read_line name (read.Short at) = byte_line name at (codes "file too short")
+read_line name (read.Signature at) = byte_line name at (codes "signature not known")
+read_line name (read.Sequin at) = byte_line name at (codes "sequin")
+read_line name (read.Control at) = byte_line name at (codes "control code not known")
+read_line name (read.Range at) = byte_line name at (codes "point out of range")
+read_line name (read.TooMany at) = byte_line name at (codes "more than 1000000 commands")
+read_line name read.Memory = memory_line
+
+-- why an order about that subject was refused
+abbrev pub reason_line : Subject → Refusal → List ℕ
+reason_line about refusal.TooLong = line_about about.input (codes "longer than 67108864 bytes")
+reason_line about refusal.NotPlainLoop =
+    line_about about.input (codes "not a plain drawing of one closed line from 0 0")
+reason_line about (refusal.StepTooLong step) = step_line about.input step about.format
+reason_line about (refusal.Unread f) = read_line about.input f
+
+-- why an order was refused
+abbrev pub refusal_line : Order → Refusal → List ℕ
+refusal_line order why = reason_line (subject_of order) why
 
 -- a line about an input that could not be read
 abbrev pub unread_line : List ℕ → List ℕ
@@ -82,16 +110,13 @@ unread_line name = codes "stitch: cannot read " ++ (name ++ line_end)
 abbrev pub unwritten_line : List ℕ → List ℕ
 unwritten_line name = codes "stitch: cannot write " ++ (name ++ line_end)
 
--- the line that memory was wanted and not found
-abbrev pub memory_line : List ℕ
-memory_line = codes "stitch: out of memory" ++ line_end
+-- the line that the report could not be printed
+abbrev pub unprinted_line : List ℕ
+unprinted_line = codes "stitch: cannot print" ++ line_end
 
--- the line on standard error for a route that did not succeed
-abbrev pub route_line : RouteOrder → Stop → List ℕ
-route_line order stop.Missing = unread_line order.drawing
-route_line order stop.NotRead = unread_line order.drawing
-route_line order (stop.Refused why) = refusal_line order why
-route_line order stop.CertificateNotWritten = unwritten_line order.cert
-route_line order stop.DesignNotWritten = unwritten_line order.out
-route_line order stop.NotPrinted = codes "stitch: cannot print" ++ line_end
-route_line order stop.Memory = memory_line
+-- the line for an order about that subject that stopped before anything was written
+abbrev pub stop_line : Subject → Stop → List ℕ
+stop_line about stop.Missing = unread_line about.input
+stop_line about stop.NotRead = unread_line about.input
+stop_line about (stop.Refused why) = reason_line about why
+stop_line about stop.Memory = memory_line

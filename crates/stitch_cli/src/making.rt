@@ -5,7 +5,7 @@ ghost use Rattle.line_graph.specs.Loops.{IsLoop};
 ghost use Rattle.line_graph.specs.Sewing.{sewn_design};
 ghost use Rattle.line_graph.specs.Walks.{cost_of_line, needles_of};
 ghost use Rattle.stitch_cli.specs.Routes.{SewsIn, report_of};
-ghost use Rattle.stitch_cli.specs.Steps.{Makes, IsPlainAbove};
+ghost use Rattle.stitch_cli.specs.Steps.{IsMade, IsPlainAbove};
 
 use crate::reports::{PieceReport, print_report};
 use crate::sewing::sew_line;
@@ -26,7 +26,7 @@ pub(crate) struct Made {
 /// format.
 pub(crate) fn make(alloc: Global, drawing: &Drawing, format: &Box<dyn Format>) -> Result<Made, Stop>
     requires { IsLoop drawing.now }
-    ensures { Makes (meaning format.now) drawing.now result }
+    ensures { IsMade (meaning format.now) drawing.now result }
 {
     let step = drawing.step();
     if step > limit_of(format) {

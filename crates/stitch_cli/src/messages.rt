@@ -1,78 +1,182 @@
-ghost use Rattle.std.specs.Prelude.{◌≡◌};
-ghost use Rattle.stitch_cli.specs.Endings.{Tells};
-ghost use Rattle.stitch_cli.specs.Requests.{route_order};
+ghost use Rattle.std.specs.Prelude.{◌≡◌, OnErr, OnOk};
+ghost use Rattle.stitch_cli.specs.declared.status.Status.TheVariants as status;
+ghost use Rattle.stitch_cli.specs.Endings.{Tells, status_of};
+ghost use Rattle.stitch_cli.specs.Requests.{subject_by};
 ghost use Rattle.stitch_cli.specs.Sights.{Puts, sink_sight};
-ghost use Rattle.stitch_cli.specs.Texts.{line_about, memory_line, refusal_line, route_line, step_line, step_text, unread_line, unwritten_line, usage_text};
+ghost use Rattle.stitch_cli.specs.Texts.{byte_line, line_about, line_at, memory_line, read_line, reason_line, step_line, step_text, stop_line, unprinted_line, unread_line, unwritten_line, usage_text};
 
 use crate::putting::{put_five, put_four, put_one, put_three};
-use crate::requests::RouteNames;
+use crate::requests::Names;
 use crate::status::Status;
 use crate::stop::{Refusal, Stop};
 use crate::usage::usage;
-use format_traits::{Format, ext_of, limit_of};
+use format_traits::{Format, ReadFault, ext_of, limit_of};
 use itoa::Buffer;
 use outside_io::{Failed, Sink};
 
-/// Puts the line on a route that did not succeed. It takes no memory.
+const OUT_OF_MEMORY: &[u8] = b"stitch: out of memory\n";
+
+/// Tells that an input could not be read.
+fn tell_unread<E: Sink>(err: &mut E, name: &str) -> Status
+    ensures { Tells (unread_line name.now) status.Fault
+        (sink_sight (E.taken err.old) (E.faults err.old))
+        (sink_sight (E.taken err.new) (E.faults err.new)) result }
+{
+    let put = put_three(err, b"stitch: cannot read ", name.as_bytes(), b"\n");
+    told(put, Status::Fault)
+}
+
+/// Tells that an output could not be written.
+pub(crate) fn tell_unwritten<E: Sink>(err: &mut E, name: &str) -> Status
+    ensures { Tells (unwritten_line name.now) status.Fault
+        (sink_sight (E.taken err.old) (E.faults err.old))
+        (sink_sight (E.taken err.new) (E.faults err.new)) result }
+{
+    let put = put_three(err, b"stitch: cannot write ", name.as_bytes(), b"\n");
+    told(put, Status::Fault)
+}
+
+/// Tells that the report could not be printed.
+pub(crate) fn tell_unprinted<E: Sink>(err: &mut E) -> Status
+    ensures { Tells unprinted_line status.Fault
+        (sink_sight (E.taken err.old) (E.faults err.old))
+        (sink_sight (E.taken err.new) (E.faults err.new)) result }
+{
+    let put = put_one(err, b"stitch: cannot print\n");
+    told(put, Status::Fault)
+}
+
+/// Puts the usage text.
+pub(crate) fn tell_usage<E: Sink>(err: &mut E) -> Status
+    ensures { Tells usage_text status.Usage
+        (sink_sight (E.taken err.old) (E.faults err.old))
+        (sink_sight (E.taken err.new) (E.faults err.new)) result }
+{
+    let put = put_one(err, usage());
+    told(put, Status::Usage)
+}
+
+/// Says that memory was wanted and not found, where nothing else can be done.
+pub fn out_of_memory<E: Sink>(err: &mut E) -> Status
+    ensures { Tells memory_line status.Memory
+        (sink_sight (E.taken err.old) (E.faults err.old))
+        (sink_sight (E.taken err.new) (E.faults err.new)) result }
+{
+    let put = put_one(err, OUT_OF_MEMORY);
+    told(put, Status::Memory)
+}
+
+/// Tells why an order stopped before anything was written. It takes no memory.
 pub(crate) fn tell_stop<E: Sink>(
     err: &mut E,
-    names: &RouteNames<'_>,
+    about: &Names<'_>,
     format: &Box<dyn Format>,
     why: Stop,
-) -> Result<(), Failed>
-    ensures { Puts (route_line (route_order names.now (meaning format.now)) why)
+) -> Status
+    ensures { Tells (stop_line (subject_by about.now (meaning format.now)) why) (status_of why)
         (sink_sight (E.taken err.old) (E.faults err.old))
         (sink_sight (E.taken err.new) (E.faults err.new)) result }
 {
     match why {
-        Stop::Missing => tell_unread(err, names.drawing),
-        Stop::NotRead => tell_unread(err, names.drawing),
-        Stop::Refused(why) => tell_refusal(err, names, format, why),
-        Stop::CertificateNotWritten => tell_unwritten(err, names.cert),
-        Stop::DesignNotWritten => tell_unwritten(err, names.out),
-        Stop::NotPrinted => put_one(err, b"stitch: cannot print\n"),
-        Stop::Memory => put_one(err, b"stitch: out of memory\n"),
+        Stop::Missing => tell_unread(err, about.input),
+        Stop::NotRead => tell_unread(err, about.input),
+        Stop::Refused(why) => tell_refusal(err, about, format, why),
+        Stop::Memory => out_of_memory(err),
     }
-}
-
-fn tell_unread<E: Sink>(err: &mut E, name: &str) -> Result<(), Failed>
-    ensures { Puts (unread_line name.now)
-        (sink_sight (E.taken err.old) (E.faults err.old))
-        (sink_sight (E.taken err.new) (E.faults err.new)) result }
-{
-    put_three(err, b"stitch: cannot read ", name.as_bytes(), b"\n")
-}
-
-fn tell_unwritten<E: Sink>(err: &mut E, name: &str) -> Result<(), Failed>
-    ensures { Puts (unwritten_line name.now)
-        (sink_sight (E.taken err.old) (E.faults err.old))
-        (sink_sight (E.taken err.new) (E.faults err.new)) result }
-{
-    put_three(err, b"stitch: cannot write ", name.as_bytes(), b"\n")
 }
 
 fn tell_refusal<E: Sink>(
     err: &mut E,
-    names: &RouteNames<'_>,
+    about: &Names<'_>,
+    format: &Box<dyn Format>,
+    why: Refusal,
+) -> Status
+    ensures { Tells (reason_line (subject_by about.now (meaning format.now)) why) status.Refused
+        (sink_sight (E.taken err.old) (E.faults err.old))
+        (sink_sight (E.taken err.new) (E.faults err.new)) result }
+{
+    let put = put_reason(err, about, format, why);
+    told(put, Status::Refused)
+}
+
+/// The status that is planned, where its text was put.
+fn told(put: Result<(), Failed>, planned: Status) -> Status
+    ensures ok { OnOk put (result ≡ planned) }
+    ensures err { OnErr put (result ≡ status.Fault) }
+{
+    match put {
+        Ok(()) => planned,
+        Err(Failed) => Status::Fault,
+    }
+}
+
+fn put_reason<E: Sink>(
+    err: &mut E,
+    about: &Names<'_>,
     format: &Box<dyn Format>,
     why: Refusal,
 ) -> Result<(), Failed>
-    ensures { Puts (refusal_line (route_order names.now (meaning format.now)) why)
+    ensures { Puts (reason_line (subject_by about.now (meaning format.now)) why)
         (sink_sight (E.taken err.old) (E.faults err.old))
         (sink_sight (E.taken err.new) (E.faults err.new)) result }
 {
     match why {
-        Refusal::DrawingTooLong => { tell_about(err, names.drawing, b"longer than 67108864 bytes") }
-        Refusal::NotPlainLoop => tell_about(
+        Refusal::TooLong => put_about(err, about.input, b"longer than 67108864 bytes"),
+        Refusal::NotPlainLoop => put_about(
             err,
-            names.drawing,
+            about.input,
             b"not a plain drawing of one closed line from 0 0",
         ),
-        Refusal::StepTooLong { step } => tell_step(err, names.drawing, step, format),
+        Refusal::StepTooLong { step } => put_step_above(err, about.input, step, format),
+        Refusal::Unread(fault) => put_read_fault(err, about.input, fault),
     }
 }
 
-fn tell_about<E: Sink>(err: &mut E, name: &str, text: &[u8]) -> Result<(), Failed>
+fn put_read_fault<E: Sink>(err: &mut E, name: &str, fault: ReadFault) -> Result<(), Failed>
+    ensures { Puts (read_line name.now fault)
+        (sink_sight (E.taken err.old) (E.faults err.old))
+        (sink_sight (E.taken err.new) (E.faults err.new)) result }
+{
+    match fault {
+        ReadFault::Short { at } => put_byte(err, name, at, b"file too short"),
+        ReadFault::Signature { at } => put_byte(err, name, at, b"signature not known"),
+        ReadFault::Sequin { at } => put_byte(err, name, at, b"sequin"),
+        ReadFault::Control { at } => put_byte(err, name, at, b"control code not known"),
+        ReadFault::Range { at } => put_byte(err, name, at, b"point out of range"),
+        ReadFault::TooMany { at } => put_byte(err, name, at, b"more than 1000000 commands"),
+        ReadFault::Memory => put_one(err, OUT_OF_MEMORY),
+    }
+}
+
+/// Puts a line about a byte of a file, counted from 0.
+fn put_byte<E: Sink>(err: &mut E, name: &str, offset: u64, text: &[u8]) -> Result<(), Failed>
+    ensures { Puts (byte_line name.now offset text.now)
+        (sink_sight (E.taken err.old) (E.faults err.old))
+        (sink_sight (E.taken err.new) (E.faults err.new)) result }
+{
+    let mut buffer = Buffer::new();
+    let digits = buffer.format(offset).as_bytes();
+    put_at(err, name.as_bytes(), b": byte ", digits, text)
+}
+
+fn put_at<E: Sink>(
+    err: &mut E,
+    name: &[u8],
+    word: &[u8],
+    digits: &[u8],
+    text: &[u8],
+) -> Result<(), Failed>
+    ensures { Puts (line_at name.now word.now digits.now text.now)
+        (sink_sight (E.taken err.old) (E.faults err.old))
+        (sink_sight (E.taken err.new) (E.faults err.new)) result }
+{
+    match put_four(err, b"stitch: ", name, word, digits) {
+        Ok(()) => put_three(err, b": ", text, b"\n"),
+        Err(Failed) => Err(Failed),
+    }
+}
+
+fn put_about<E: Sink>(err: &mut E, name: &str, text: &[u8]) -> Result<(), Failed>
     ensures { Puts (line_about name.now text.now)
         (sink_sight (E.taken err.old) (E.faults err.old))
         (sink_sight (E.taken err.new) (E.faults err.new)) result }
@@ -80,7 +184,7 @@ fn tell_about<E: Sink>(err: &mut E, name: &str, text: &[u8]) -> Result<(), Faile
     put_five(err, b"stitch: ", name.as_bytes(), b": ", text, b"\n")
 }
 
-fn tell_step<E: Sink>(
+fn put_step_above<E: Sink>(
     err: &mut E,
     name: &str,
     step: u32,
@@ -112,26 +216,5 @@ fn put_step<E: Sink>(
     match put_four(err, b"stitch: ", name, b": step ", step) {
         Ok(()) => put_five(err, b" is above ", limit, b", the limit of ", ending, b"\n"),
         Err(Failed) => Err(Failed),
-    }
-}
-
-/// Puts the usage text.
-pub(crate) fn tell_usage<E: Sink>(err: &mut E) -> Result<(), Failed>
-    ensures { Puts usage_text
-        (sink_sight (E.taken err.old) (E.faults err.old))
-        (sink_sight (E.taken err.new) (E.faults err.new)) result }
-{
-    put_one(err, usage())
-}
-
-/// Says that memory was wanted and not found, where nothing else can be done.
-pub fn out_of_memory<E: Sink>(err: &mut E) -> Status
-    ensures { Tells memory_line Status.Memory
-        (sink_sight (E.taken err.old) (E.faults err.old))
-        (sink_sight (E.taken err.new) (E.faults err.new)) result }
-{
-    match put_one(err, b"stitch: out of memory\n") {
-        Ok(()) => Status::Memory,
-        Err(Failed) => Status::Fault,
     }
 }

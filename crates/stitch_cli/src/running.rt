@@ -1,19 +1,19 @@
 ghost use Rattle.std.specs.Prelude.{◌≡◌, ◌≢◌, map, option_map, string_bytes};
 ghost use Rattle.std.specs.Bool.{OnTrue};
-ghost use Rattle.stitch_cli.specs.Requests.{AreNames, are_apart as names_are_apart, format_of, order_of, route_order, routing_to};
-ghost use Rattle.stitch_cli.specs.Endings.{Ends, RouteEnds, Tells};
+ghost use Rattle.outside_io.specs.Files.{IsName};
+ghost use Rattle.stitch_cli.specs.Requests.{AreNames, are_apart as names_are_apart, format_of, order_of, routing_to, showing_by};
+ghost use Rattle.stitch_cli.specs.Endings.{Ends};
 ghost use Rattle.stitch_cli.specs.Runs.{IsDecided, IsDone, IsFault, IsMemory, IsQuietRun, IsRefused, IsUsage, KeepsOthers, sights};
-ghost use Rattle.stitch_cli.specs.Sights.{sink_sight};
-ghost use Rattle.stitch_cli.specs.Texts.{usage_text};
 
 use crate::command_words::request;
-use crate::messages::{tell_stop, tell_usage};
+use crate::messages::tell_usage;
 use crate::requests::{Request, RouteNames};
 use crate::routing::route;
+use crate::showing::show;
 use crate::status::Status;
 use format_traits::{Format, find};
 use line_graph::plain_texts_share_steps;
-use outside_io::{Failed, Sink, Store};
+use outside_io::{Sink, Store};
 use std::alloc::Global;
 
 /// Does what the words ask for: reads the input from the store, writes the outputs there, prints the
@@ -21,7 +21,7 @@ use std::alloc::Global;
 ///
 /// `route DRAWING OUT CERT` reads DRAWING whole, refuses what is too long, what is no plain drawing of
 /// one closed line, and a step above the limit of OUT's format, in this order, and only then writes
-/// CERT, OUT and the report.
+/// CERT, OUT and the report. `show FILE` reads FILE whole and prints its counts, extent and blocks.
 pub fn run<S: Store, O: Sink, E: Sink>(
     alloc: Global,
     words: &[String],
@@ -98,12 +98,13 @@ fn run_once<S: Store, O: Sink, E: Sink>(
         (O.taken out.new) (O.faults out.new) (E.taken err.new) (E.faults err.new)) result }
 {
     match request(words) {
-        Some(Request::Route(names)) => complete_route(alloc, &names, formats, store, out, err),
-        None => ask_again(err),
+        Some(Request::Route(names)) => run_route(alloc, &names, formats, store, out, err),
+        Some(Request::Show(file)) => run_show(alloc, file, formats, store, out, err),
+        None => tell_usage(err),
     }
 }
 
-fn complete_route<S: Store, O: Sink, E: Sink>(
+fn run_route<S: Store, O: Sink, E: Sink>(
     alloc: Global,
     names: &RouteNames<'_>,
     formats: &[Box<dyn Format>],
@@ -120,11 +121,32 @@ fn complete_route<S: Store, O: Sink, E: Sink>(
         (O.taken out.new) (O.faults out.new) (E.taken err.new) (E.faults err.new)) result }
 {
     if !are_apart(names) {
-        return ask_again(err);
+        return tell_usage(err);
     }
     match format_for(formats, names.out) {
-        Some(format) => finish_route(alloc, names, format, store, out, err),
-        None => ask_again(err),
+        Some(format) => route(alloc, names, format, store, out, err),
+        None => tell_usage(err),
+    }
+}
+
+fn run_show<S: Store, O: Sink, E: Sink>(
+    alloc: Global,
+    file: &str,
+    formats: &[Box<dyn Format>],
+    store: &mut S,
+    out: &mut O,
+    err: &mut E,
+) -> Status
+    requires { IsName file.now }
+    ensures { Ends (showing_by file.now (format_of (map (λ format. meaning format) formats.now) file.now))
+        (sights (S.files store.old) (S.faults store.old) (S.blame store.old)
+        (O.taken out.old) (O.faults out.old) (E.taken err.old) (E.faults err.old))
+        (sights (S.files store.new) (S.faults store.new) (S.blame store.new)
+        (O.taken out.new) (O.faults out.new) (E.taken err.new) (E.faults err.new)) result }
+{
+    match format_for(formats, file) {
+        Some(format) => show(alloc, file, format, store, out, err),
+        None => tell_usage(err),
     }
 }
 
@@ -139,46 +161,10 @@ fn format_for<'a>(formats: &'a [Box<dyn Format>], name: &str) -> Option<&'a Box<
     }
 }
 
-fn finish_route<S: Store, O: Sink, E: Sink>(
-    alloc: Global,
-    names: &RouteNames<'_>,
-    format: &Box<dyn Format>,
-    store: &mut S,
-    out: &mut O,
-    err: &mut E,
-) -> Status
-    requires names { AreNames names.now }
-    requires apart { names.now.cert.now ≢ names.now.out.now }
-    ensures { RouteEnds (route_order names.now (meaning format.now))
-        (sights (S.files store.old) (S.faults store.old) (S.blame store.old)
-        (O.taken out.old) (O.faults out.old) (E.taken err.old) (E.faults err.old))
-        (sights (S.files store.new) (S.faults store.new) (S.blame store.new)
-        (O.taken out.new) (O.faults out.new) (E.taken err.new) (E.faults err.new)) result }
-{
-    match route(alloc, names, format, store, out) {
-        Ok(()) => Status::Done,
-        Err(why) => match tell_stop(err, names, format, why) {
-            Ok(()) => why.status(),
-            Err(Failed) => Status::Fault,
-        },
-    }
-}
-
 fn are_apart(names: &RouteNames<'_>) -> bool
     ensures value { result ≡
         names_are_apart names.now.drawing.now names.now.out.now names.now.cert.now }
     ensures written { OnTrue result (names.now.cert.now ≢ names.now.out.now) }
 {
     names.drawing != names.out && names.drawing != names.cert && names.out != names.cert
-}
-
-fn ask_again<E: Sink>(err: &mut E) -> Status
-    ensures { Tells usage_text Status.Usage
-        (sink_sight (E.taken err.old) (E.faults err.old))
-        (sink_sight (E.taken err.new) (E.faults err.new)) result }
-{
-    match tell_usage(err) {
-        Ok(()) => Status::Usage,
-        Err(Failed) => Status::Fault,
-    }
 }

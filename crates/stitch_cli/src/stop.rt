@@ -2,19 +2,22 @@ ghost use Rattle.std.specs.Prelude.{◌≡◌};
 
 use crate::status::Status;
 use design_model::Memory;
+use format_traits::ReadFault;
 
-/// Why a drawing was refused.
+/// Why an order was refused.
 #[derive(Clone, Copy, Debug, PartialEq, Eq)]
 pub enum Refusal {
-    /// The file has more than 64 MiB.
-    DrawingTooLong,
+    /// The input file has more than 64 MiB.
+    TooLong,
     /// The text is not the plain spelling of one closed line that begins at 0 0.
     NotPlainLoop,
     /// The drawing's step, in tenths of a millimetre, is above the limit of the output's format.
     StepTooLong { step: u32 },
+    /// The input file is none of its format; never for want of memory.
+    Unread(ReadFault),
 }
 
-/// Why a command did not succeed.
+/// Why a command stopped before anything was written.
 #[derive(Clone, Copy, Debug, PartialEq, Eq)]
 pub enum Stop {
     /// The input file isn't there.
@@ -23,12 +26,6 @@ pub enum Stop {
     NotRead,
     /// What the input asks for was refused.
     Refused(Refusal),
-    /// The certificate's file could not be written.
-    CertificateNotWritten,
-    /// The design's file could not be written.
-    DesignNotWritten,
-    /// The report could not be printed.
-    NotPrinted,
     /// Memory was wanted and not found.
     Memory,
 }
@@ -44,7 +41,7 @@ impl From<Memory> for Stop {
 }
 
 impl Stop {
-    ghost use Rattle.stitch_cli.specs.Runs.{status_of};
+    ghost use Rattle.stitch_cli.specs.Endings.{status_of};
 
     /// The status that the program ends with.
     pub fn status(self) -> Status
@@ -54,9 +51,6 @@ impl Stop {
             Stop::Missing => Status::Fault,
             Stop::NotRead => Status::Fault,
             Stop::Refused(_) => Status::Refused,
-            Stop::CertificateNotWritten => Status::Fault,
-            Stop::DesignNotWritten => Status::Fault,
-            Stop::NotPrinted => Status::Fault,
             Stop::Memory => Status::Memory,
         }
     }

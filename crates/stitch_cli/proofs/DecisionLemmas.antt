@@ -1,0 +1,195 @@
+-- Where no count of faults rises, the words and the files decide.
+use Rattle.std.proofs.Common.{◌≡◌, ℕ, ◌<◌, ◌≤◌, ◌⊎◌, inl, inr, List, Option, Some, None, Ok, Err, Result, IsSome, length, ap, refl, sym, subst, ◌∙◌, arith}
+use Rattle.line_graph.specs.Drawings.{DrawingValue}
+use Rattle.line_graph.specs.Laws.{PlainTextsShareSteps}
+use Rattle.line_graph.specs.Spelling.{plain_spelling}
+use Rattle.outside_io.specs.Causes.{IsLonger}
+use Rattle.outside_io.specs.Counts.{IsQuiet, Rose}
+use Rattle.outside_io.specs.Files.{Files, HoldsNow, Lacks, WhereTold}
+use Rattle.outside_io.specs.declared.limits.TheConstants.{MAX_FILE}
+use Rattle.stitch_cli.specs.declared.status.Status.{Status}
+use Rattle.stitch_cli.specs.declared.status.Status.TheVariants as status
+use Rattle.stitch_cli.specs.declared.stop.Refusal.{Refusal}
+use Rattle.stitch_cli.specs.declared.stop.Refusal.TheVariants as refusal
+use Rattle.stitch_cli.specs.declared.stop.Stop.{Stop}
+use Rattle.stitch_cli.specs.declared.stop.Stop.TheVariants as stop
+use Rattle.stitch_cli.specs.Endings.{Delivers, Ends, OrderEnds, Stops, Tells, all, but_report, made, status_of, stopped, up_to}
+use Rattle.stitch_cli.specs.Orders.{Comes, Makes, Refuses, StepRefuses}
+use Rattle.stitch_cli.specs.Products.{Product}
+use Rattle.stitch_cli.specs.Requests.{Order, RouteOrder, input_of, routing, showing}
+use Rattle.stitch_cli.specs.Routes.{Accepts, RouteRefuses}
+use Rattle.stitch_cli.specs.Runs.{AsksFor, IsDecided, IsQuietRun, Sights}
+
+-- where the count is quiet it did not rise
+no_rise : (before after : ℕ) → IsQuiet before after → Rose before after → ⊥
+no_rise before after quiet (inl more) = let same : after ≡ before = quiet.same in omega (arith, same, more)
+no_rise before after quiet (inr greatest) = quiet.below greatest
+
+-- in files that are told, a name holds one content
+one_content : (files : Option Files) (name a b : List ℕ) → IsSome files → HoldsNow files name a → HoldsNow files name b → a ≡ b
+one_content None name a b told first second = cc
+one_content (Some files) name a b told first second = same_content (files name) a b (first files refl) (second files refl)
+  where
+    same_content : (content : Option (List ℕ)) (a b : List ℕ) → content ≡ Some a → content ≡ Some b → a ≡ b
+    same_content content a b first second = cc
+
+-- a file that is there isn't missing
+not_missing : (files : Option Files) (name bytes : List ℕ) → Lacks files name → HoldsNow files name bytes → ⊥
+not_missing None name bytes lacks holds = cc (lacks.told)
+not_missing (Some files) name bytes lacks holds = gone (files name) (lacks.missing files refl) (holds files refl)
+  where
+    gone : (content : Option (List ℕ)) → content ≡ None → content ≡ Some bytes → ⊥
+    gone content none some = cc
+
+-- a file is not both longer than the limit and within it
+not_longer : (files : Option Files) (name bytes : List ℕ) → IsSome files → HoldsNow files name bytes → length bytes ≤ MAX_FILE
+    → WhereTold files (λ told. IsLonger (told name) MAX_FILE) → ⊥
+not_longer None name bytes told holds short longer = cc
+not_longer (Some files) name bytes told holds short longer = less (files name) (holds files refl) (longer files refl)
+  where
+    less : (content : Option (List ℕ)) → content ≡ Some bytes → IsLonger content MAX_FILE → ⊥
+    less None is more = more
+    less (Some held) is more = let same : held ≡ bytes = cc in let count : length held ≡ length bytes = ap length same in omega (arith, count, more, short)
+
+-- a file that is too long is there
+longer_is_there : (files : Option Files) (name : List ℕ) → WhereTold files (λ told. IsLonger (told name) MAX_FILE)
+    → Lacks files name → ⊥
+longer_is_there None name longer lacks = cc (lacks.told)
+longer_is_there (Some files) name longer lacks = none (files name) (lacks.missing files refl) (longer files refl)
+  where
+    none : (content : Option (List ℕ)) → content ≡ None → IsLonger content MAX_FILE → ⊥
+    none None is more = more
+    none (Some held) is more = cc
+
+-- one content comes to one outcome
+comes_once : (files : Option Files) (name : List ℕ) (outcome : List ℕ → Result Product Refusal) (a b : Result Product Refusal)
+    → IsSome files → Comes files name outcome a → Comes files name outcome b → a ≡ b
+comes_once files name outcome a b told first second =
+    sym first.is ∙ (ap outcome (one_content files name first.bytes second.bytes told first.held second.held) ∙ second.is)
+
+not_both : (product : Product) (why : Refusal) → Ok product ≡ Err why → ⊥
+not_both product why same = cc
+
+-- what a route accepts no later step refuses
+route_not_both : PlainTextsShareSteps → (files : Option Files) (order : RouteOrder) (d : DrawingValue) (why : Refusal)
+    → IsSome files → Accepts files order d → RouteRefuses files order why → ⊥
+route_not_both share files order d refusal.TooLong told accepts never = never
+route_not_both share files order d refusal.NotPlainLoop told accepts refuses = refuses.none d (record {
+  limits = accepts.spelled.limits;
+  loop = accepts.spelled.loop;
+  spelled = one_content files order.drawing refuses.bytes (plain_spelling d) told refuses.text accepts.spelled.text;
+})
+route_not_both share files order d (refusal.StepTooLong step) told accepts refuses =
+    let same : d.step ≡ refuses.drawing.step = share d refuses.drawing accepts.spelled.limits refuses.spelled.limits accepts.spelled.loop refuses.spelled.loop
+    (one_content files order.drawing (plain_spelling d) (plain_spelling refuses.drawing) told accepts.spelled.text refuses.spelled.text) in
+    omega (arith, same, refuses.same, refuses.above, accepts.step)
+route_not_both share files order d (refusal.Unread f) told accepts never = never
+
+-- what is accepted isn't refused
+not_refused : PlainTextsShareSteps → (order : Order) (files : Option Files) (product : Product) (why : Refusal)
+    → IsSome files → Makes order files product → Refuses order files why → ⊥
+not_refused share (routing order) files product why told makes (inl long) =
+    not_longer files order.drawing (plain_spelling makes.drawing) told makes.accepted.spelled.text makes.accepted.spelled.short long.longer
+not_refused share (routing order) files product why told makes (inr refuses) =
+    route_not_both share files order makes.drawing why told makes.accepted refuses
+not_refused share (showing order) files product why told makes (inl long) =
+    not_longer files order.file makes.bytes told makes.held makes.short long.longer
+not_refused share (showing order) files product why told makes (inr refuses) =
+    not_both product why (comes_once files order.file _ (Ok product) (Err why) told makes refuses)
+
+-- what a later step of a route refuses is there
+route_is_there : (files : Option Files) (order : RouteOrder) (why : Refusal) → RouteRefuses files order why
+    → Lacks files order.drawing → ⊥
+route_is_there files order refusal.TooLong never lacks = never
+route_is_there files order refusal.NotPlainLoop refuses lacks = not_missing files order.drawing refuses.bytes lacks refuses.text
+route_is_there files order (refusal.StepTooLong step) refuses lacks =
+    not_missing files order.drawing (plain_spelling refuses.drawing) lacks refuses.spelled.text
+route_is_there files order (refusal.Unread f) never lacks = never
+
+-- what is refused is there
+refused_is_there : (order : Order) (files : Option Files) (why : Refusal) → Refuses order files why
+    → Lacks files (input_of order) → ⊥
+refused_is_there (routing order) files why (inl long) lacks = longer_is_there files order.drawing long.longer lacks
+refused_is_there (routing order) files why (inr refuses) lacks = route_is_there files order why refuses lacks
+refused_is_there (showing order) files why (inl long) lacks = longer_is_there files order.file long.longer lacks
+refused_is_there (showing order) files why (inr refuses) lacks = not_missing files order.file refuses.bytes lacks refuses.held
+
+-- what is accepted is there
+made_is_there : (order : Order) (files : Option Files) (product : Product) → Makes order files product
+    → Lacks files (input_of order) → ⊥
+made_is_there (routing order) files product makes lacks =
+    not_missing files order.drawing (plain_spelling makes.drawing) lacks makes.accepted.spelled.text
+made_is_there (showing order) files product makes lacks = not_missing files order.file makes.bytes lacks makes.held
+
+-- what an order came to, where no count rose
+data Came (order : Order) (files : Option Files) (s : Status) : Type 0 where
+  came_done : (product : Product) → Makes order files product → s ≡ status.Done → Came order files s
+  came_refused : (why : Refusal) → Refuses order files why → s ≡ status.Refused → Came order files s
+  came_missing : Lacks files (input_of order) → s ≡ status.Fault → Came order files s
+  came_memory : s ≡ status.Memory → Came order files s
+
+-- a step that stopped an order, where no count rose
+stop_came : (order : Order) (before after : Sights) (s : Status) (why : Stop) → IsQuietRun before after
+    → Stops order before.store after.store why → s ≡ status_of why → Came order before.store.files s
+stop_came order before after s stop.Missing quiet (lacks, store) is = came_missing lacks is
+stop_came order before after s stop.NotRead quiet (fault, files) is = absurd (no_rise _ _ quiet.store fault.rose)
+stop_came order before after s (stop.Refused why) quiet (refuses, store) is = came_refused why refuses is
+stop_came order before after s stop.Memory quiet same is = came_memory is
+
+came : (order : Order) (before after : Sights) (s : Status) → IsQuietRun before after → OrderEnds order before after s
+    → Came order before.store.files s
+came order before after s quiet (made product makes (all is wrote report err)) = came_done product makes is
+came order before after s quiet (made product makes (up_to name wrote out tells)) = absurd (no_rise _ _ quiet.store wrote.fault.rose)
+came order before after s quiet (made product makes (but_report wrote broke tells)) = absurd (no_rise _ _ quiet.out broke.rose)
+came order before after s quiet (stopped why stops out (inl (is, told))) = stop_came order before after s why quiet stops is
+came order before after s quiet (stopped why stops out (inr (is, broke))) = absurd (no_rise _ _ quiet.err broke.rose)
+
+-- how an order is decided
+done_or_memory : PlainTextsShareSteps → (order : Order) (files : Option Files) (s : Status) (product : Product)
+    → Came order files s → IsSome files → Makes order files product → (s ≡ status.Done) ⊎ (s ≡ status.Memory)
+done_or_memory share order files s product (came_done other makes is) told accepted = inl is
+done_or_memory share order files s product (came_refused why refuses is) told accepted =
+    absurd (not_refused share order files product why told accepted refuses)
+done_or_memory share order files s product (came_missing lacks is) told accepted =
+    absurd (made_is_there order files product accepted lacks)
+done_or_memory share order files s product (came_memory is) told accepted = inr is
+
+refused_or_memory : PlainTextsShareSteps → (order : Order) (files : Option Files) (s : Status) (why : Refusal)
+    → Came order files s → IsSome files → Refuses order files why → (s ≡ status.Refused) ⊎ (s ≡ status.Memory)
+refused_or_memory share order files s why (came_done product makes is) told refuses =
+    absurd (not_refused share order files product why told makes refuses)
+refused_or_memory share order files s why (came_refused other others is) told refuses = inl is
+refused_or_memory share order files s why (came_missing lacks is) told refuses =
+    absurd (refused_is_there order files why refuses lacks)
+refused_or_memory share order files s why (came_memory is) told refuses = inr is
+
+fault_or_memory : (order : Order) (files : Option Files) (s : Status) → Came order files s → Lacks files (input_of order)
+    → (s ≡ status.Fault) ⊎ (s ≡ status.Memory)
+fault_or_memory order files s (came_done product makes is) lacks = absurd (made_is_there order files product makes lacks)
+fault_or_memory order files s (came_refused why refuses is) lacks = absurd (refused_is_there order files why refuses lacks)
+fault_or_memory order files s (came_missing lacking is) lacks = inl is
+fault_or_memory order files s (came_memory is) lacks = inr is
+
+-- nothing that is asked for is told so
+usage_told : (before after : Sights) (s : Status) → IsQuietRun before after → Ends None before after s → s ≡ status.Usage
+usage_told before after s quiet (store, out, inl (is, told)) = is
+usage_told before after s quiet (store, out, inr (is, broke)) = absurd (no_rise _ _ quiet.err broke.rose)
+
+-- the order that is asked for came to its end
+order_came : (asked : Option Order) (order : Order) (before after : Sights) (s : Status) → AsksFor asked order
+    → IsQuietRun before after → Ends asked before after s → Came order before.store.files s
+order_came asked order before after s asks quiet ends =
+    came order before after s quiet (subst (λ (o : Option Order). Ends o before after s) asks ends)
+
+-- where no count rises the words and the files decide
+pub decided : PlainTextsShareSteps → (asked : Option Order) (before after : Sights) (s : Status) → Ends asked before after s
+    → IsQuietRun before after → IsDecided asked before s
+decided share asked before after s ends quiet = record {
+  usage = λ (none : asked ≡ None). usage_told before after s quiet (subst (λ (o : Option Order). Ends o before after s) none ends);
+  done = λ (order : Order) (product : Product) (asks : AsksFor asked order) (told : IsSome before.store.files) (makes : Makes order before.store.files product).
+      done_or_memory share order before.store.files s product (order_came asked order before after s asks quiet ends) told makes;
+  refused = λ (order : Order) (why : Refusal) (asks : AsksFor asked order) (told : IsSome before.store.files) (refuses : Refuses order before.store.files why).
+      refused_or_memory share order before.store.files s why (order_came asked order before after s asks quiet ends) told refuses;
+  missing = λ (order : Order) (asks : AsksFor asked order) (lacks : Lacks before.store.files (input_of order)).
+      fault_or_memory order before.store.files s (order_came asked order before after s asks quiet ends) lacks;
+}

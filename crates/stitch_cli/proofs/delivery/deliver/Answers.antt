@@ -1,0 +1,6 @@
+use Rattle.std.proofs.Common.{refl}
+use Rattle.stitch_cli.specs.Endings.{up_to}
+use Rattle.stitch_cli.proofs.delivery.deliver.Goals as goal
+
+pub returns-in-Err : goal.returns-in-Err
+returns-in-Err g c = up_to c.in-Err.name.now c.in-Err.ensures.stops refl c.tell_unwritten.ensures

@@ -1,0 +1,38 @@
+-- What each order comes to, by the file that it reads.
+use Rattle.std.specs.Prelude.{◌≡◌, ◌⊎◌, ℕ, ◌≤◌, List, length, Option, Result, Ok, Err}
+use Rattle.outside_io.specs.Causes.{IsLonger}
+use Rattle.outside_io.specs.Files.{Files, HoldsNow, WhereTold}
+use Rattle.outside_io.specs.declared.limits.TheConstants.{MAX_FILE}
+use Rattle.stitch_cli.specs.declared.stop.Refusal.{Refusal}
+use Rattle.stitch_cli.specs.declared.stop.Refusal.TheVariants as refusal
+use Rattle.stitch_cli.specs.Products.{Product}
+use Rattle.stitch_cli.specs.Requests.{Order, input_of, routing, showing}
+use Rattle.stitch_cli.specs.Routes.{RouteMakes, RouteRefuses}
+use Rattle.stitch_cli.specs.Shows.{show_outcome}
+
+-- the named file, where it is told, has bytes of which this comes
+pub record Comes (files : Option Files) (name : List ℕ) (outcome : List ℕ → Result Product Refusal)
+    (result : Result Product Refusal) : Type 0 where
+  pub bytes : List ℕ
+  pub held : HoldsNow files name bytes
+  pub short : length bytes ≤ MAX_FILE
+  pub is : outcome bytes ≡ result
+
+-- the order is accepted, and makes this
+abbrev pub Makes : Order → Option Files → Product → Type 0
+Makes (routing order) files product = RouteMakes files order product
+Makes (showing order) files product = Comes files order.file (show_outcome order) (Ok product)
+
+-- a step of the order that comes after the reading of its file refuses
+abbrev pub StepRefuses : Order → Option Files → Refusal → Type 0
+StepRefuses (routing order) files why = RouteRefuses files order why
+StepRefuses (showing order) files why = Comes files order.file (show_outcome order) (Err why)
+
+-- the file that an order reads is longer than 64 MiB
+pub record IsTooLong (order : Order) (files : Option Files) (why : Refusal) : Type 0 where
+  pub is : why ≡ refusal.TooLong
+  pub longer : WhereTold files (λ told. IsLonger (told (input_of order)) MAX_FILE)
+
+-- the order is refused: its file is too long, or a later step refuses
+abbrev pub Refuses : Order → Option Files → Refusal → Type 0
+Refuses order files why = IsTooLong order files why ⊎ StepRefuses order files why

@@ -1,0 +1,72 @@
+-- What a command leaves behind where all goes well: the contents of its outputs, and its report.
+use Rattle.std.specs.Prelude.{◌≡◌, ◌≢◌, ℕ, List, [], ◌∷◌, ◌++◌, map, Option, Some, None, All}
+use Rattle.outside_io.specs.Blames.{write_of}
+use Rattle.outside_io.specs.Causes.{Faults}
+use Rattle.outside_io.specs.Files.{Files, HoldsNow}
+use Rattle.stitch_cli.specs.Sights.{StoreSight}
+
+-- an output: the name of its file, and what the file is to hold
+pub record Written : Type 0 where
+  pub name : List ℕ
+  pub content : List ℕ
+
+-- the outputs in the order in which they are written, and the report on the standard output
+pub record Product : Type 0 where
+  pub outputs : List Written
+  pub report : List ℕ
+
+-- nothing is written
+abbrev pub only_report : List ℕ → Product
+only_report report = record { outputs = []; report = report }
+
+-- one file is written
+abbrev pub one_output : List ℕ → List ℕ → List ℕ → Product
+one_output name content report = record {
+  outputs = (record { name = name; content = content }) ∷ [];
+  report = report;
+}
+
+-- the names of outputs
+abbrev pub names_of : List Written → List (List ℕ)
+names_of outputs = map (λ o. o.name) outputs
+
+-- the file of each output holds its content, where files are told
+abbrev pub AllHold : Option Files → List Written → Type 0
+AllHold files [] = Unit {0}
+AllHold files (o ∷ rest) = HoldsNow files o.name o.content × AllHold files rest
+
+-- the name is none of those
+abbrev pub IsNoneOf : List (List ℕ) → List ℕ → Type 0
+IsNoneOf [] name = Unit {0}
+IsNoneOf (other ∷ rest) name = (name ≢ other) × IsNoneOf rest name
+
+-- no two of the outputs have the same name
+abbrev pub AreApart : List Written → Type 0
+AreApart [] = Unit {0}
+AreApart (o ∷ rest) = IsNoneOf (names_of rest) o.name × AreApart rest
+
+-- every file but the named ones stays; what is told stays told, and what is untold stays untold
+abbrev pub ChangesAmong : List (List ℕ) → Option Files → Option Files → Type 0
+ChangesAmong names None None = Unit {0}
+ChangesAmong names (Some old) (Some new) = (name : List ℕ) → IsNoneOf names name → new name ≡ old name
+ChangesAmong names None (Some new) = ⊥
+ChangesAmong names (Some old) None = ⊥
+
+-- the outputs are written, the other files stay, and nothing failed
+pub record Wrote (outputs : List Written) (before after : StoreSight) : Type 0 where
+  pub held : AllHold after.files outputs
+  pub others : ChangesAmong (names_of outputs) before.files after.files
+  pub faults : after.faults ≡ before.faults
+  pub blame : after.blame ≡ before.blame
+
+-- the file of that name, one of the outputs, could not be written: those before it are written, and
+-- those after it aren't
+pub record WroteUpTo (outputs : List Written) (name : List ℕ) (before after : StoreSight) : Type 0 where
+  pub done : List Written
+  pub lost : Written
+  pub left : List Written
+  pub split : done ++ lost ∷ left ≡ outputs
+  pub same : lost.name ≡ name
+  pub fault : Faults before.faults after.faults after.blame (write_of name)
+  pub held : AllHold after.files done
+  pub others : ChangesAmong (names_of (done ++ lost ∷ [])) before.files after.files

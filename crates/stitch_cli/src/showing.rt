@@ -1,0 +1,81 @@
+ghost use Rattle.std.specs.Prelude.{◌≡◌, IfErr, IfOk, OnOk};
+ghost use Rattle.outside_io.specs.Files.{IsName};
+ghost use Rattle.stitch_cli.specs.Endings.{OrderEnds, Stops};
+ghost use Rattle.stitch_cli.specs.Orders.{Makes};
+ghost use Rattle.stitch_cli.specs.Products.{only_report};
+ghost use Rattle.stitch_cli.specs.Requests.{show_order, showing};
+ghost use Rattle.stitch_cli.specs.Runs.{sights};
+ghost use Rattle.stitch_cli.specs.Sights.{store_sight};
+
+use crate::delivery::deliver;
+use crate::messages::tell_stop;
+use crate::reading::{load, read_input};
+use crate::requests::Names;
+use crate::show_report::print_loaded;
+use crate::status::Status;
+use crate::stop::Stop;
+use design_model::Bytes;
+use format_traits::{Format, ext_of};
+use outside_io::{Sink, Store};
+use std::alloc::Global;
+
+/// Prints what a file holds.
+pub(crate) fn show<S: Store, O: Sink, E: Sink>(
+    alloc: Global,
+    file: &str,
+    format: &Box<dyn Format>,
+    store: &mut S,
+    out: &mut O,
+    err: &mut E,
+) -> Status
+    requires { IsName file.now }
+    ensures { OrderEnds (showing (show_order file.now (meaning format.now)))
+        (sights (S.files store.old) (S.faults store.old) (S.blame store.old)
+        (O.taken out.old) (O.faults out.old) (E.taken err.old) (E.faults err.old))
+        (sights (S.files store.new) (S.faults store.new) (S.blame store.new)
+        (O.taken out.new) (O.faults out.new) (E.taken err.new) (E.faults err.new)) result }
+{
+    match prepare(alloc, file, format, store) {
+        Ok(report) => deliver(&[], report.as_slice(), store, out, err),
+        Err(why) => tell_stop(
+            err,
+            &Names {
+                input: file,
+                output: "",
+            },
+            format,
+            why,
+        ),
+    }
+}
+
+/// The report on a file.
+fn prepare<S: Store>(
+    alloc: Global,
+    file: &str,
+    format: &Box<dyn Format>,
+    store: &mut S,
+) -> Result<Bytes, Stop>
+    requires { IsName file.now }
+    ensures done { IfOk result (λ report.
+        Makes (showing (show_order file.now (meaning format.now))) (S.files store.old) (only_report report)) }
+    ensures same { OnOk result (
+        store_sight (S.files store.new) (S.faults store.new) (S.blame store.new)
+        ≡ store_sight (S.files store.old) (S.faults store.old) (S.blame store.old)) }
+    ensures stops { IfErr result (Stops (showing (show_order file.now (meaning format.now)))
+        (store_sight (S.files store.old) (S.faults store.old) (S.blame store.old))
+        (store_sight (S.files store.new) (S.faults store.new) (S.blame store.new))) }
+{
+    let bytes = match read_input(alloc, store, file) {
+        Ok(bytes) => bytes,
+        Err(why) => return Err(why),
+    };
+    let loaded = match load(alloc, format, bytes.as_slice()) {
+        Ok(loaded) => loaded,
+        Err(why) => return Err(why),
+    };
+    match print_loaded(alloc, ext_of(format), &loaded) {
+        Ok(report) => Ok(report),
+        Err(why) => Err(Stop::from(why)),
+    }
+}
