@@ -3,3 +3,6 @@ mod QuotientLemmas
 mod AxisLemmas
 mod PointLemmas
 mod ChainLemmas
+mod RefitFacts
+pub mod RefitLemmas
+pub mod ToldLemmas

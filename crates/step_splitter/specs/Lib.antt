@@ -2,3 +2,5 @@
 pub mod Steps
 pub mod Chains
 pub mod Limits
+pub mod Refits
+pub mod RefitSteps

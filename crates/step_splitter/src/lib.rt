@@ -1,11 +1,15 @@
-//! Straight segments of stitching, taken apart into steps that are short enough.
+//! Straight segments of stitching, taken apart into steps that are short enough, and designs whose
+//! acts are made to fit a limit.
 #![tactic(auto)]
 
 mod laws;
+mod refit_progress;
+mod refitting;
 mod segment;
 #[cfg(test)]
 mod tests;
 mod way;
 
 pub use laws::the_limit_of_steps;
+pub use refitting::{RefitFault, RefitMode, refit};
 pub use segment::{MAX_STEP, split, steps};

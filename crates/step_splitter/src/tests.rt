@@ -1,5 +1,5 @@
-use crate::{MAX_STEP, split, steps};
-use design_model::{NEEDLE_LIMIT, Point, Points};
+use crate::{MAX_STEP, RefitFault, RefitMode, refit, split, steps};
+use design_model::{Command, Design, MAX_COMMANDS, ModelFault, NEEDLE_LIMIT, Point, Points};
 use std::alloc::Global;
 use std::test::Fail;
 
@@ -69,5 +69,100 @@ fn the_ends_of_the_steps_are_rounded_towards_the_lesser_number(
             assert!(rt; *point == at(*place), "at the longest step {step}");
         }
     }
+    Ok(())
+}
+
+fn stitch(x: i32, y: i32) -> Command {
+    Command::Stitch(Point { x, y })
+}
+
+fn jump(x: i32, y: i32) -> Command {
+    Command::Jump(Point { x, y })
+}
+
+fn filled(alloc: Global, commands: &[Command]) -> Result<Design, ModelFault> {
+    let mut design = Design::new(alloc);
+    design.push_thread(9);
+    for command in commands {
+        design.push(*command)?;
+    }
+    Ok(design)
+}
+
+fn fitted(
+    alloc: Global,
+    mode: RefitMode,
+    limit: u32,
+    commands: &[Command],
+) -> Result<Design, Fail> {
+    if limit < 1 || limit > MAX_STEP {
+        return Err("no limit".into());
+    }
+    let design = filled(alloc, commands)?;
+    Ok(refit(alloc, &design, limit, mode).ok().ok_or("no memory")?)
+}
+
+#[test]
+fn far_needles_are_split(rt: HostRuntime) -> Result<(), Fail> {
+    let (start, far) = (stitch(0, 0), stitch(122, 0));
+    let halves = fitted(rt.alloc(), RefitMode::Split, 121, &[start, far])?;
+    assert_eq!(rt; halves.commands(), [start, stitch(61, 0), far].as_slice());
+    assert_eq!(rt; halves.threads(), [9].as_slice());
+
+    let down = stitch(-5, 128);
+    let floored = fitted(rt.alloc(), RefitMode::Split, 127, &[start, down])?;
+    assert_eq!(rt;
+        floored.commands(),
+        [start, stitch(-3, 64), down].as_slice()
+    );
+
+    let (a, b, c, d) = (
+        stitch(100, 0),
+        stitch(200, 0),
+        stitch(300, 0),
+        stitch(400, 0),
+    );
+    let end = stitch(500, 0);
+    let fifths = fitted(rt.alloc(), RefitMode::Split, 121, &[start, end])?;
+    assert_eq!(rt; fifths.commands(), [start, a, b, c, d, end].as_slice());
+
+    let far_apart = [start, jump(400, 0), d, Command::Stop, start];
+    let kept = fitted(rt.alloc(), RefitMode::Split, 121, &far_apart)?;
+    assert_eq!(rt; kept.commands(), far_apart.as_slice());
+    Ok(())
+}
+
+#[test]
+fn floats_are_cut(rt: HostRuntime) -> Result<(), Fail> {
+    let (start, end) = (stitch(0, 0), stitch(400, 0));
+    let float = [
+        start,
+        jump(100, 0),
+        jump(200, 0),
+        jump(300, 0),
+        jump(400, 0),
+        end,
+    ];
+    let cut = fitted(rt.alloc(), RefitMode::Cut, 121, &float)?;
+    assert_eq!(rt; cut.commands(), [start, Command::Trim, end].as_slice());
+
+    let kept = fitted(rt.alloc(), RefitMode::Cut, 121, &[start, end])?;
+    assert_eq!(rt; kept.commands(), [start, end].as_slice());
+    Ok(())
+}
+
+#[test]
+fn a_refit_stops_at_the_act_with_a_command_too_many(rt: HostRuntime) -> Result<(), Fail> {
+    let mut design = Design::new(rt.alloc());
+    for _ in 0..MAX_COMMANDS - 3 {
+        design.push(stitch(0, 0))?;
+    }
+    design.push(Command::Jump(Point { x: 0, y: 0 }))?;
+    design.push(stitch(10, 0))?;
+    assert!(rt; refit(rt.alloc(), &design, 10, RefitMode::Split).is_ok());
+
+    design.push(stitch(31, 0))?;
+    let fault = refit(rt.alloc(), &design, 10, RefitMode::Split).err();
+    assert_eq!(rt; fault, Some(RefitFault::TooMany { number: 1_000_000 }));
     Ok(())
 }

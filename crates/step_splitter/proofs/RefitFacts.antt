@@ -1,0 +1,55 @@
+-- Worked values of refits.
+use Rattle.std.proofs.Common.{◌≡◌, ℤ, pos, negsuc, true, false, [], ◌∷◌, refl}
+use Rattle.design_model.specs.declared.act.Act.{Act}
+use Rattle.design_model.specs.declared.act.Act.TheVariants as act
+use Rattle.design_model.specs.declared.command.Command.TheVariants as command
+use Rattle.design_model.specs.Acts.{acts_along}
+use Rattle.step_splitter.specs.declared.refitting.RefitMode.TheVariants as mode
+use Rattle.step_splitter.specs.Refits.{refitted_acts, refitted_commands}
+use Rattle.step_splitter.proofs.SplitFacts.{at}
+
+-- a needle that is no float, and one that is
+abbrev pub needle : ℤ → ℤ → Act
+needle x y = act.Needle (at x y) false
+
+abbrev pub float : ℤ → ℤ → Act
+float x y = act.Needle (at x y) true
+
+-- a stitch of 122 is one too far for a limit of 121
+pub known_split : refitted_acts mode.Split 121 (needle (pos 0) (pos 0) ∷ needle (pos 122) (pos 0) ∷ [])
+    ≡ needle (pos 0) (pos 0) ∷ needle (pos 61) (pos 0) ∷ needle (pos 122) (pos 0) ∷ []
+known_split = refl
+
+-- one of 121 is not
+pub known_near : refitted_acts mode.Split 121 (needle (pos 0) (pos 0) ∷ needle (pos 0) (negsuc 120) ∷ [])
+    ≡ needle (pos 0) (pos 0) ∷ needle (pos 0) (negsuc 120) ∷ []
+known_near = refl
+
+-- the move (-5, 128) at a limit of 127 is split at (-3, 64)
+pub known_floor : refitted_acts mode.Split 127 (needle (pos 0) (pos 0) ∷ needle (negsuc 4) (pos 128) ∷ [])
+    ≡ needle (pos 0) (pos 0) ∷ needle (negsuc 2) (pos 64) ∷ needle (negsuc 4) (pos 128) ∷ []
+known_floor = refl
+
+-- neither a loose needle nor a float is split, however far it lies
+pub known_loose :
+    refitted_acts mode.Split 10 (needle (pos 99) (pos 0) ∷ act.Stop ∷ needle (pos 0) (pos 0)
+    ∷ float (pos 99) (pos 0) ∷ [])
+    ≡ needle (pos 99) (pos 0) ∷ act.Stop ∷ needle (pos 0) (pos 0) ∷ float (pos 99) (pos 0) ∷ []
+known_loose = refl
+
+-- a float of 400 is cut, and a far needle that is no float stays
+pub known_cut :
+    refitted_acts mode.Cut 121 (needle (pos 0) (pos 0) ∷ float (pos 400) (pos 0)
+    ∷ needle (pos 900) (pos 0) ∷ [])
+    ≡ needle (pos 0) (pos 0) ∷ act.Trim ∷ needle (pos 400) (pos 0) ∷ needle (pos 900) (pos 0) ∷ []
+known_cut = refl
+
+-- the jumps on the way to a float become one, and those to a loose needle none; a trim of a loose thread goes
+pub known_commands :
+    refitted_commands mode.Split 121 (acts_along (command.Trim ∷ command.Jump (at (pos 5) (pos 0))
+    ∷ command.Stitch (at (pos 0) (pos 0)) ∷ command.Jump (at (pos 5) (pos 0))
+    ∷ command.Jump (at (pos 9) (pos 0)) ∷ command.Stitch (at (pos 8) (pos 0)) ∷ command.Trim
+    ∷ command.Stop ∷ []))
+    ≡ command.Stitch (at (pos 0) (pos 0)) ∷ command.Jump (at (pos 8) (pos 0))
+    ∷ command.Stitch (at (pos 8) (pos 0)) ∷ command.Trim ∷ command.Stop ∷ []
+known_commands = refl

@@ -1,0 +1,46 @@
+-- How far a refit has come. Only clauses inside this crate cite it.
+use Rattle.std.specs.Prelude.{◌≡◌, ℕ, ◌+◌, ◌<◌, ◌≤◌, Bool, List, ◌++◌, length, Result, Ok, Err}
+use Rattle.design_model.specs.declared.act.NumberedAct.{NumberedAct}
+use Rattle.design_model.specs.declared.command.Command.{Command}
+use Rattle.design_model.specs.declared.design.TheConstants.{MAX_COMMANDS}
+use Rattle.design_model.specs.declared.point.Point.{Point}
+use Rattle.design_model.specs.Acts.{bare}
+use Rattle.design_model.specs.Designs.{DesignValue}
+use Rattle.step_splitter.specs.declared.refitting.RefitFault.{RefitFault}
+use Rattle.step_splitter.specs.declared.refitting.RefitFault.TheVariants as fault
+use Rattle.step_splitter.specs.declared.refitting.RefitMode.{RefitMode}
+use Rattle.step_splitter.specs.Refits.{refitted_acts, refitted_commands, refitted_from, IsFirstPast}
+
+-- the design with further commands
+abbrev pub with_commands : DesignValue → List Command → DesignValue
+with_commands d more = record d { commands = d.commands ++ more }
+
+-- what each answer means where commands of the act with that number are added
+abbrev pub Adds : {T : Type 0} → ℕ → List Command → DesignValue → Result T RefitFault → DesignValue → Type 0
+Adds number commands old (Ok _) new =
+    (length old.commands + length commands ≤ MAX_COMMANDS) × (new ≡ with_commands old commands)
+Adds number commands old (Err (fault.TooMany n)) new =
+    (n ≡ number) × (MAX_COMMANDS < length old.commands + length commands)
+Adds number commands old (Err fault.Memory) new = Unit {0}
+
+-- the commands of the acts so far are there, and what is refitted goes on from there
+pub record GoesOn (m : RefitMode) (limit : ℕ) (acts : List NumberedAct) (out : List Command) (loose : Bool)
+    (place : Point) (left : List NumberedAct) : Type 0 where
+  pub before : List NumberedAct
+  pub parts : acts ≡ before ++ left
+  pub commands : out ≡ refitted_commands m limit before
+  pub more : (rest : List NumberedAct) → refitted_acts m limit (bare (before ++ rest))
+      ≡ refitted_acts m limit (bare before) ++ refitted_from m limit loose place (bare rest)
+
+-- what a refusal of those acts means
+abbrev pub RefuseActs : RefitMode → ℕ → List NumberedAct → RefitFault → Type 0
+RefuseActs m limit acts (fault.TooMany number) =
+    (MAX_COMMANDS < length (refitted_commands m limit acts)) × IsFirstPast m limit acts number
+RefuseActs m limit acts fault.Memory = Unit {0}
+
+-- what each answer means where the commands of all refitted acts are added to a design without commands
+abbrev pub RefitsAll : {T : Type 0} → RefitMode → ℕ → List NumberedAct → DesignValue → Result T RefitFault
+    → DesignValue → Type 0
+RefitsAll m limit acts old (Ok _) new = (length (refitted_commands m limit acts) ≤ MAX_COMMANDS)
+    × (new ≡ record old { commands = refitted_commands m limit acts })
+RefitsAll m limit acts old (Err fault) new = RefuseActs m limit acts fault
