@@ -3,6 +3,7 @@
 #![tactic(auto)]
 
 mod boxed;
+mod event;
 mod fault;
 mod format_object;
 mod keeping;
@@ -11,15 +12,20 @@ mod laws;
 mod loaded;
 mod lookup;
 mod placing;
+mod record_reader;
+mod record_writer;
 mod standing;
 
 pub use boxed::{decode_by, encode_by, ext_of, limit_of};
+pub use event::Event;
 pub use fault::{ReadFault, WriteFault};
 pub use format_object::{Format, GREATEST_LIMIT, LEAST_LIMIT};
 pub use keeping::{keep, keep_both};
 pub use label_fields::{put_label, put_spaces, read_label};
-pub use laws::the_limits_of_formats;
+pub use laws::{a_plain_design_is_not_refused, spelled_acts_read_again, the_limits_of_formats};
 pub use loaded::Loaded;
 pub use lookup::find;
 pub use placing::{GREATEST_MOVE, MOST_HOPS, hops, move_between, moved, part_move, size_of};
+pub use record_reader::{Cut, GREATEST_STEP, RecordReader, read_records};
+pub use record_writer::{RecordWriter, put_acts};
 pub use standing::{Reach, Standing};
