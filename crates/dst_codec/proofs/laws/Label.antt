@@ -7,7 +7,9 @@ use Rattle.design_model.specs.declared.design.TheConstants.{MAX_LABEL}
 use Rattle.design_model.specs.Acts.{acts_of}
 use Rattle.design_model.specs.Labels.{IsLabel, IsPrintable}
 use Rattle.format_traits.specs.LabelFields.{label_field, shown, before_trimmed, trimmed, label_in}
+use Rattle.format_traits.specs.Accepted.{AcceptedIsSmall}
 use Rattle.format_traits.specs.Refusals.{first_refusal}
+use Rattle.format_traits.specs.Rereading.{SpelledActsReadAgain}
 use Rattle.dst_codec.specs.declared.header.HeaderNumbers.{HeaderNumbers}
 use Rattle.dst_codec.specs.declared.header.TheConstants.{HEADER_LENGTH}
 use Rattle.dst_codec.specs.Header.{field, number_field, signed_field, fields_of, header_of, numbers_of}
@@ -15,7 +17,7 @@ use Rattle.dst_codec.specs.Laws.{LabelReadsAgain}
 use Rattle.dst_codec.specs.Reading.{reads, label_of}
 use Rattle.dst_codec.specs.Writing.{reach, records_of}
 use Rattle.dst_codec.proofs.HeaderLemmas.{length-filled_right}
-use Rattle.dst_codec.proofs.laws.Again.{body_of, file_parts, written, of_written}
+use Rattle.dst_codec.proofs.laws.Again.{body_of, written, of_written}
 
 shown-printable : (byte : ℕ) → IsPrintable byte → shown byte ≡ byte
 shown-printable byte printable = rw (le-leb 32 byte printable.from_space, le-leb byte 126 printable.to_tilde) refl
@@ -76,11 +78,11 @@ label_of-file label numbers body short = ap label_in (front (label_field label) 
     (length-filled_right MAX_LABEL label short))
 
 -- the label is read back
-pub label_reads_again : LabelReadsAgain
-label_reads_again d limits =
+pub label_reads_again : AcceptedIsSmall → SpelledActsReadAgain → LabelReadsAgain
+label_reads_again small law d limits =
     of_written d (λ bytes. IsOkAnd (reads bytes) (λ loaded. loaded.design.label ≡ d.label)) (first_refusal reach (acts_of d))
-    refl (λ passed. let w = written d limits passed in
-    let same : w.loaded.design.label ≡ d.label = w.label ∙ ap label_of (file_parts d)
+    refl (λ passed. let w = written small law d limits passed in
+    let same : w.loaded.design.label ≡ d.label = w.label
     ∙ label_of-file d.label (numbers_of (acts_of d) (length (records_of (acts_of d)) + 1)) (body_of d) limits.label.short
     ∙ label_in-label_field d.label limits.label in
     subst (λ result. IsOkAnd result (λ loaded. loaded.design.label ≡ d.label)) (sym w.read) same)
