@@ -3,7 +3,10 @@ ghost use Rattle.dst_codec.specs.Format.{dst};
 ghost use Rattle.dst_codec.specs.Laws.{LabelReadsAgain, ReadIsWithinReach};
 ghost use Rattle.dst_codec.specs.Limits.{DstLimits};
 
-use format_traits::{an_accepted_design_is_small, codecs_keep_the_laws, spelled_acts_read_again};
+use format_traits::{
+    an_accepted_design_is_small, codecs_keep_the_laws, label_fields_read_back,
+    spelled_acts_read_again,
+};
 
 /// What any design is written as reads as the same acts, to its end, and moves within the limit, and
 /// any plain design is written.
@@ -21,6 +24,7 @@ pub fn label_reads_again()
 {
     an_accepted_design_is_small();
     spelled_acts_read_again();
+    label_fields_read_back();
 }
 
 /// No stitch and no float of a design that was read is too long to be written.
