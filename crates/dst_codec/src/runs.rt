@@ -1,4 +1,4 @@
-ghost use Rattle.std.specs.Prelude.{◌≡◌, ◌≤◌, IsTrue};
+ghost use Rattle.std.specs.Prelude.{◌≡◌, IsTrue};
 ghost use Rattle.design_model.specs.Points.{is_within};
 ghost use Rattle.dst_codec.specs.declared.dst.TheConstants.{LIMIT};
 ghost use Rattle.dst_codec.specs.Cuts.{CutsAs};

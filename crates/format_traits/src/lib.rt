@@ -1,5 +1,5 @@
 //! The trait of stitch formats: what a format object reads and writes, and the laws that each of
-//! them keeps.
+//! them keeps; and what all of them do alike with records and acts.
 #![tactic(auto)]
 
 mod boxed;
