@@ -1,5 +1,8 @@
 mod EndingFacts
 pub mod LabelLemmas
 pub mod EndingLemmas
-pub mod PartLemmas
+pub mod PointLemmas
 mod PlacingFacts
+mod RecordFacts
+pub mod WriterLemmas
+pub mod rereading

@@ -1,8 +1,9 @@
 //! The trait of stitch formats: what a format object reads and writes, and the laws that each of
-//! them keeps.
+//! them keeps; and what all of them do alike with records and acts.
 #![tactic(auto)]
 
 mod boxed;
+mod event;
 mod fault;
 mod format_object;
 mod keeping;
@@ -11,15 +12,23 @@ mod laws;
 mod loaded;
 mod lookup;
 mod placing;
+mod record_reader;
+mod record_writer;
 mod standing;
 
 pub use boxed::{decode_by, encode_by, ext_of, limit_of};
+pub use event::Event;
 pub use fault::{ReadFault, WriteFault};
 pub use format_object::{Format, GREATEST_LIMIT, LEAST_LIMIT};
 pub use keeping::{keep, keep_both};
 pub use label_fields::{put_label, put_spaces, read_label};
-pub use laws::the_limits_of_formats;
+pub use laws::{
+    an_accepted_design_is_small, codecs_keep_the_laws, label_fields_read_back,
+    spelled_acts_read_again, the_limits_of_formats,
+};
 pub use loaded::Loaded;
 pub use lookup::find;
 pub use placing::{GREATEST_MOVE, MOST_HOPS, hops, move_between, moved, part_move, size_of};
+pub use record_reader::{Cut, GREATEST_STEP, RecordReader, read_records};
+pub use record_writer::{RecordWriter, put_acts};
 pub use standing::{Reach, Standing};

@@ -1,0 +1,85 @@
+-- The records of a file, in any format, and the commands that they come to. Each record stands at an
+-- offset of the file and asks for one event.
+use Rattle.std.specs.Prelude.{ℕ, ◌+◌, Bool, ◌&&◌, List, [], ◌∷◌, ◌++◌, length, nat_le, Result, Ok, Err, if◌then◌else◌}
+use Rattle.std.specs.List.{list_all}
+use Rattle.design_model.specs.declared.command.Command.{Command}
+use Rattle.design_model.specs.declared.command.Command.TheVariants as command
+use Rattle.design_model.specs.declared.design.TheConstants.{MAX_COMMANDS}
+use Rattle.design_model.specs.declared.point.Point.{Point}
+use Rattle.design_model.specs.Commands.{is_in_range}
+use Rattle.design_model.specs.Points.{origin, is_same_point}
+use Rattle.format_traits.specs.declared.event.Event.{Event}
+use Rattle.format_traits.specs.declared.event.Event.TheVariants as event
+use Rattle.format_traits.specs.declared.fault.ReadFault.{ReadFault}
+use Rattle.format_traits.specs.Placing.{moved}
+use Rattle.format_traits.specs.Readings.{Course, tries}
+
+-- records up to where the file is over, with an end or without one, or is refused
+pub data Records : Type 0 where
+  over : (ended : Bool) → Records
+  refused : (f : ReadFault) → Records
+  next : (at : ℕ) (event : Event) (rest : Records) → Records
+
+-- a stop, and a jump where the move is not (0, 0)
+abbrev pub stops_by : Point → Point → List Command
+stops_by m there = if is_same_point m origin then command.Stop ∷ [] else command.Stop ∷ command.Jump there ∷ []
+
+-- the place after an event
+abbrev pub place_by : Event → Point → Point
+place_by (event.Stitch m) place = moved place m
+place_by (event.Jump m) place = moved place m
+place_by (event.TrimmedJump m) place = moved place m
+place_by event.Trim place = place
+place_by event.Stop place = place
+place_by (event.StopBy m) place = moved place m
+
+-- the commands of an event that leaves the hoop there
+abbrev pub commands_at : Event → Point → List Command
+commands_at (event.Stitch m) there = command.Stitch there ∷ []
+commands_at (event.Jump m) there = command.Jump there ∷ []
+commands_at (event.TrimmedJump m) there = command.Trim ∷ command.Jump there ∷ []
+commands_at event.Trim there = command.Trim ∷ []
+commands_at event.Stop there = command.Stop ∷ []
+commands_at (event.StopBy m) there = stops_by m there
+
+-- the commands of an event, by the place before it
+abbrev pub commands_of : Event → Point → List Command
+commands_of event place = commands_at event (place_by event place)
+
+-- the move of an event, where it has one
+abbrev pub moves_in : Event → List Point
+moves_in (event.Stitch m) = m ∷ []
+moves_in (event.Jump m) = m ∷ []
+moves_in (event.TrimmedJump m) = m ∷ []
+moves_in event.Trim = []
+moves_in event.Stop = []
+moves_in (event.StopBy m) = m ∷ []
+
+-- what records come to after so many commands and at that place
+abbrev pub reads_from : ℕ → Point → Records → Result Course ReadFault
+reads_from count place (over ended) = Ok (record { commands = []; ended = ended })
+reads_from count place (refused f) = Err f
+reads_from count place (next at event rest) =
+    let commands = commands_of event place in
+    tries at count commands (reads_from (count + length commands) (place_by event place) rest)
+
+-- what all records of a file come to
+abbrev pub course_of : Records → Result Course ReadFault
+course_of records = reads_from 0 origin records
+
+-- commands of a record that are kept, after so many
+abbrev pub are_kept : ℕ → List Command → Bool
+are_kept count commands = list_all is_in_range commands && nat_le (count + length commands) MAX_COMMANDS
+
+-- the moves of the records that come before the end and before the first refusal
+abbrev pub moves_from : ℕ → Point → Records → List Point
+moves_from count place (over ended) = []
+moves_from count place (refused f) = []
+moves_from count place (next at event rest) =
+    let commands = commands_of event place in
+    if are_kept count commands
+    then moves_in event ++ moves_from (count + length commands) (place_by event place) rest else []
+
+-- those of all records of a file
+abbrev pub moves_of : Records → List Point
+moves_of records = moves_from 0 origin records

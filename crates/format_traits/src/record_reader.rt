@@ -1,0 +1,117 @@
+ghost use Rattle.std.specs.Prelude.{◌≡◌, ◌+◌, ◌<◌, ◌^◌, [], length, IsTrue, IfOk};
+ghost use Rattle.std.specs.List.{list_all};
+ghost use Rattle.design_model.specs.declared.point.TheConstants.{JUMP_LIMIT};
+ghost use Rattle.design_model.specs.Points.{is_within};
+ghost use Rattle.format_traits.specs.declared.record_reader.TheConstants.{GREATEST_STEP};
+ghost use Rattle.format_traits.specs.Cutting.{ReadsRecords};
+ghost use Rattle.format_traits.specs.Keeping.{Keeps};
+ghost use Rattle.format_traits.specs.Records.{commands_at, commands_of, moves_in, place_by};
+
+use crate::event::Event;
+use crate::fault::ReadFault;
+use crate::keeping::{keep, keep_both};
+use crate::placing::moved;
+use design_model::{Command, Design, Point};
+
+/// The greatest move of a record on each axis that a format can read, in tenths of a millimetre.
+pub const GREATEST_STEP: u32 = 2048;
+
+/// What stands first in the bytes that are left of a file.
+#[derive(Clone, Copy, Debug, PartialEq, Eq)]
+pub enum Cut {
+    /// No further record: the file has its end here, or stops without one.
+    Over { ended: bool },
+    /// What the file is refused for.
+    Refused(ReadFault),
+    /// A record of so many bytes.
+    Record { size: usize, event: Event },
+}
+
+/// The records of a format, cut from the bytes of a file in order.
+pub trait RecordReader {
+    ghost use Rattle.std.specs.Prelude.{ℕ, List};
+    ghost use Rattle.format_traits.specs.Records.{Records};
+    ghost use Rattle.format_traits.specs.Cutting.{Cuts};
+
+    /// The records of the bytes from an offset on.
+    ghost records: { Self → ℕ → List ℕ → Records };
+
+    /// Cuts off the record at that offset, where the bytes begin.
+    fn next(&mut self, at: u64, bytes: &[u8]) -> Cut
+        ensures { Cuts (records self.old) (records self.new) at bytes.now result };
+}
+
+/// Adds the commands of all records, which begin at an offset, to a design that has none, and says
+/// whether the file has an end.
+pub fn read_records<R: RecordReader + Drop>(
+    design: &mut Design,
+    reader: R,
+    start: u64,
+    bytes: &[u8],
+) -> Result<bool, ReadFault>
+    requires none { design.old.commands ≡ [] }
+    requires start { start + length bytes.now < 2 ^ 64 }
+    ensures { ReadsRecords (R.records reader start bytes.now) design.old result design.new }
+{
+    let mut reader = reader;
+    let mut at = start;
+    let mut place = Point { x: 0, y: 0 };
+    let mut rest = bytes;
+    loop {
+        match reader.next(at, rest) {
+            Cut::Over { ended } => return Ok(ended),
+            Cut::Refused(fault) => return Err(fault),
+            Cut::Record { size, event } => match keep_event(design, at, place, event) {
+                Ok(there) => {
+                    place = there;
+                    at += size as u64;
+                    rest = &rest[size..];
+                }
+                Err(fault) => return Err(fault),
+            },
+        }
+    }
+}
+
+/// Adds the commands of the record at that offset, and gives the place after it.
+fn keep_event(design: &mut Design, at: u64, place: Point, event: Event) -> Result<Point, ReadFault>
+    requires place { IsTrue (is_within JUMP_LIMIT place) }
+    requires small { IsTrue (list_all (λ move. is_within GREATEST_STEP move) (moves_in event)) }
+    ensures value { Keeps at (commands_of event place) design.old result design.new }
+    ensures place { IfOk result (λ there. there ≡ place_by event place) }
+    ensures range { IfOk result (λ there. IsTrue (is_within JUMP_LIMIT there)) }
+{
+    let there = place_after(place, event);
+    match keep_commands(design, at, event, there) {
+        Ok(()) => Ok(there),
+        Err(fault) => Err(fault),
+    }
+}
+
+/// The place after an event.
+fn place_after(place: Point, event: Event) -> Point
+    requires place { IsTrue (is_within JUMP_LIMIT place) }
+    requires small { IsTrue (list_all (λ move. is_within GREATEST_STEP move) (moves_in event)) }
+    ensures { result ≡ place_by event place }
+{
+    match event {
+        Event::Trim | Event::Stop => place,
+        Event::Stitch(step) | Event::Jump(step) | Event::TrimmedJump(step) | Event::StopBy(step) =>
+            moved(place, step),
+    }
+}
+
+/// Adds the commands of an event after which the hoop is there.
+fn keep_commands(design: &mut Design, at: u64, event: Event, there: Point) -> Result<(), ReadFault>
+    ensures { Keeps at (commands_at event there) design.old result design.new }
+{
+    match event {
+        Event::Stitch(_) => keep(design, at, Command::Stitch(there)),
+        Event::Jump(_) => keep(design, at, Command::Jump(there)),
+        Event::TrimmedJump(_) => keep_both(design, at, Command::Trim, Command::Jump(there)),
+        Event::Trim => keep(design, at, Command::Trim),
+        Event::Stop => keep(design, at, Command::Stop),
+        Event::StopBy(step) if step.x == 0 && step.y == 0 => keep(design, at, Command::Stop),
+        Event::StopBy(_) => keep_both(design, at, Command::Stop, Command::Jump(there)),
+    }
+}
