@@ -1,0 +1,28 @@
+-- Worked values of places and threads.
+use Rattle.std.proofs.Common.{◌≡◌, ℕ, List, [], ◌∷◌, ◌++◌, replicate, refl}
+use Rattle.design_model.specs.declared.command.Command.TheVariants.{Stop}
+use Rattle.design_model.specs.Designs.{DesignValue}
+use Rattle.design_edits.specs.Colours.{place_count, recoloured}
+
+-- a design with those threads and so many stops
+abbrev pub stopping : List ℕ → ℕ → DesignValue
+stopping threads stops = record { label = []; threads = threads; commands = replicate stops Stop }
+
+-- one place more than stops, and no more than 255
+pub known_places : place_count (stopping [] 3) ≡ 4
+known_places = refl
+
+pub known_most_places : place_count (stopping [] 260) ≡ 255
+known_most_places = refl
+
+-- the threads before the place are kept as they are: those of the second and third block are 2 and 3
+pub known_filled : recoloured 3 7 (stopping (9 ∷ []) 3) ≡ stopping (9 ∷ 2 ∷ 3 ∷ 7 ∷ []) 3
+known_filled = refl
+
+-- a kept number is changed, and those behind it stay
+pub known_changed : recoloured 1 7 (stopping (9 ∷ 8 ∷ 6 ∷ []) 3) ≡ stopping (9 ∷ 7 ∷ 6 ∷ []) 3
+known_changed = refl
+
+-- the thread of the 65th block is 1 again
+pub known_round : recoloured 65 7 (stopping (replicate 64 5) 65) ≡ stopping (replicate 64 5 ++ 1 ∷ 7 ∷ []) 65
+known_round = refl

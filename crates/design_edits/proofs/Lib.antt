@@ -1,0 +1,5 @@
+mod MoveFacts
+pub mod MoveLemmas
+pub mod LawLemmas
+mod ColourFacts
+pub mod ColourLemmas

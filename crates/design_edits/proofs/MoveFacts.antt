@@ -1,0 +1,45 @@
+-- Worked values of moves.
+use Rattle.std.proofs.Common.{◌≡◌, ℤ, pos, negsuc, [], ◌∷◌, Some, None, refl}
+use Rattle.design_model.specs.declared.command.Command.TheVariants.{Stitch, Jump, Trim, Stop}
+use Rattle.design_model.specs.declared.point.Point.{Point}
+use Rattle.design_model.specs.Designs.{DesignValue}
+use Rattle.design_edits.specs.declared.axis.Axis.TheVariants as axis
+use Rattle.design_edits.specs.Moves.{first_outside, mirror_point, mirrored, shifted, turn_point}
+
+-- the point with those numbers
+abbrev pub at : ℤ → ℤ → Point
+at x y = record { x = x; y = y }
+
+-- a quarter turn takes a point on the right downwards
+pub known_quarter : turn_point 1 (at (pos 30) (pos 0)) ≡ at (pos 0) (pos 30)
+known_quarter = refl
+
+pub known_quarters : turn_point 3 (at (pos 3) (negsuc 4)) ≡ at (negsuc 4) (negsuc 2)
+known_quarters = refl
+
+-- a mirroring changes one sign
+pub known_mirror : mirror_point axis.Y (at (pos 3) (pos 5)) ≡ at (pos 3) (negsuc 4)
+known_mirror = refl
+
+-- a design of a needle, a jump, a trim and a stop
+abbrev pub sample : DesignValue
+sample = record {
+  label = 65 ∷ [];
+  threads = 9 ∷ [];
+  commands = Stitch (at (pos 1) (pos 2)) ∷ Jump (at (pos 32767) (pos 0)) ∷ Trim ∷ Stop ∷ [];
+}
+
+pub known_mirrored : mirrored axis.X sample ≡ record sample {
+  commands = Stitch (at (negsuc 0) (pos 2)) ∷ Jump (at (negsuc 32766) (pos 0)) ∷ Trim ∷ Stop ∷ [];
+}
+known_mirrored = refl
+
+-- at 1 a needle may be shifted by 29999 and not by 30000; a jump has its own range
+pub known_needle_outside : first_outside (shifted (pos 30000) (pos 0) sample).commands ≡ Some 1
+known_needle_outside = refl
+
+pub known_jump_outside : first_outside (shifted (pos 29999) (pos 0) sample).commands ≡ Some 2
+known_jump_outside = refl
+
+pub known_inside : first_outside (shifted (negsuc 30000) (pos 29998) sample).commands ≡ None
+known_inside = refl

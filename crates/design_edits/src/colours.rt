@@ -1,0 +1,51 @@
+ghost use Rattle.std.specs.Prelude.{◌≡◌, ◌<◌, length, OnOk};
+ghost use Rattle.design_model.specs.declared.design.TheConstants.{MAX_THREADS};
+ghost use Rattle.design_model.specs.Designs.{thread_of, with_thread};
+ghost use Rattle.design_edits.specs.Colours.{RecolourGives, Recolours, place_count as number_of_places, threads_up_to};
+
+use crate::edit_fault::EditFault;
+use design_model::{Design, MAX_THREADS, counts};
+
+/// Gives the block of a place, counted from 0, that thread. The numbers of the blocks before it that
+/// are not kept are kept from then on.
+#[tactic(auto, using(crate::proofs::ColourLemmas::place_kept, crate::proofs::ColourLemmas::recolours_by))]
+pub fn recolour(design: &mut Design, place: u32, thread: u8) -> Result<(), EditFault>
+    ensures value { RecolourGives place thread design.old result design.new }
+    ensures threads { OnOk result (Recolours place thread design.old design.new) }
+{
+    let count = place_count(design);
+    if place >= count {
+        return Err(EditFault::NoPlace { count });
+    }
+    keep_threads(design, place);
+    design.put_thread(place as usize, thread);
+    Ok(())
+}
+
+/// The number of places that a thread may be given to.
+fn place_count(design: &Design) -> u32
+    ensures { result ≡ number_of_places design.now }
+{
+    counts(design).stops.min(MAX_THREADS as u32 - 1) + 1
+}
+
+/// Keeps the threads of the blocks up to a place.
+#[tactic(auto, using(crate::proofs::ColourLemmas::keeps_on))]
+fn keep_threads(design: &mut Design, place: u32)
+    requires { place < MAX_THREADS }
+    ensures { design.new ≡ record design.old { threads = threads_up_to design.old place } }
+{
+    while design.threads().len() <= place as usize {
+        keep_next(design);
+    }
+}
+
+/// Keeps the thread of the next block.
+fn keep_next(design: &mut Design)
+    requires { length design.old.threads < MAX_THREADS }
+    ensures { design.new ≡ with_thread design.old (thread_of design.old (length design.old.threads)) }
+{
+    let block = design.threads().len() as u32;
+    let thread = design.thread(block);
+    design.push_thread(thread);
+}

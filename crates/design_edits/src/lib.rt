@@ -1,0 +1,18 @@
+//! Edits of a design in place: shifts, turns, mirrorings and other threads. None takes memory.
+#![tactic(auto)]
+
+mod axis;
+mod colours;
+mod edit_fault;
+mod laws;
+mod motion;
+mod moving;
+#[cfg(test)]
+mod tests;
+
+pub use axis::Axis;
+pub use colours::recolour;
+pub use edit_fault::EditFault;
+pub use laws::{an_opposite_shift_restores, four_quarter_turns_restore, two_mirrorings_restore};
+pub use motion::MAX_SHIFT;
+pub use moving::{mirror, shift, turn};
