@@ -15,8 +15,12 @@ use Rattle.stitch_cli.specs.declared.stop.Stop.{Stop}
 use Rattle.stitch_cli.specs.declared.stop.Stop.TheVariants as stop
 use Rattle.stitch_cli.specs.Endings.{Delivers, Ends, OrderEnds, Stops, Tells, all, but_report, made, status_of, stopped, up_to}
 use Rattle.stitch_cli.specs.Orders.{Comes, Makes, Refuses, StepRefuses}
+use Rattle.stitch_cli.specs.Hoops.{HoopOf}
 use Rattle.stitch_cli.specs.Products.{Product}
-use Rattle.stitch_cli.specs.Requests.{Order, RouteOrder, input_of, routing, showing}
+use Rattle.stitch_cli.specs.Rewrites.{RewriteOf}
+use Rattle.stitch_cli.specs.Shows.{ShowOf}
+use Rattle.stitch_cli.proofs.ChangeLemmas.{rewritten_not_both}
+use Rattle.stitch_cli.specs.Requests.{Order, RouteOrder, hooping, input_of, rewriting, routing, showing}
 use Rattle.stitch_cli.specs.Routes.{Accepts, RouteRefuses}
 use Rattle.stitch_cli.specs.Runs.{AsksFor, IsDecided, IsQuietRun, Sights}
 
@@ -62,13 +66,15 @@ longer_is_there (Some files) name longer lacks = none (files name) (lacks.missin
     none (Some held) is more = cc
 
 -- one content comes to one outcome
-comes_once : (files : Option Files) (name : List ℕ) (outcome : List ℕ → Result Product Refusal) (a b : Result Product Refusal)
-    → IsSome files → Comes files name outcome a → Comes files name outcome b → a ≡ b
-comes_once files name outcome a b told first second =
-    sym first.is ∙ (ap outcome (one_content files name first.bytes second.bytes told first.held second.held) ∙ second.is)
+comes_not_both : (files : Option Files) (name : List ℕ) (Of : List ℕ → Result Product Refusal → Type 0)
+    (product : Product) (why : Refusal) → ((bytes : List ℕ) → Of bytes (Ok product) → Of bytes (Err why) → ⊥)
+    → IsSome files → Comes files name Of (Ok product) → Comes files name Of (Err why) → ⊥
+comes_not_both files name Of product why excludes told makes refuses = excludes makes.bytes makes.is
+    (subst (λ (bytes : List ℕ). Of bytes (Err why))
+    (one_content files name refuses.bytes makes.bytes told refuses.held makes.held) refuses.is)
 
-not_both : (product : Product) (why : Refusal) → Ok product ≡ Err why → ⊥
-not_both product why same = cc
+not_both : (r : Result Product Refusal) (product : Product) (why : Refusal) → r ≡ Ok product → r ≡ Err why → ⊥
+not_both r product why one other = cc
 
 -- what a route accepts no later step refuses
 route_not_both : PlainTextsShareSteps → (files : Option Files) (order : RouteOrder) (d : DrawingValue) (why : Refusal)
@@ -84,6 +90,11 @@ route_not_both share files order d (refusal.StepTooLong step) told accepts refus
     (one_content files order.drawing (plain_spelling d) (plain_spelling refuses.drawing) told accepts.spelled.text refuses.spelled.text) in
     omega (arith, same, refuses.same, refuses.above, accepts.step)
 route_not_both share files order d (refusal.Unread f) told accepts never = never
+route_not_both share files order d (refusal.Unwritten f) told accepts never = never
+route_not_both share files order d (refusal.RefitTooMany number) told accepts never = never
+route_not_both share files order d (refusal.MovedOut number) told accepts never = never
+route_not_both share files order d (refusal.NoPlace place count) told accepts never = never
+route_not_both share files order d (refusal.TooLarge x y) told accepts never = never
 
 -- what is accepted isn't refused
 not_refused : PlainTextsShareSteps → (order : Order) (files : Option Files) (product : Product) (why : Refusal)
@@ -92,10 +103,21 @@ not_refused share (routing order) files product why told makes (inl long) =
     not_longer files order.drawing (plain_spelling makes.drawing) told makes.accepted.spelled.text makes.accepted.spelled.short long.longer
 not_refused share (routing order) files product why told makes (inr refuses) =
     route_not_both share files order makes.drawing why told makes.accepted refuses
+not_refused share (rewriting order) files product why told makes (inl long) =
+    not_longer files order.input makes.bytes told makes.held makes.short long.longer
+not_refused share (rewriting order) files product why told makes (inr refuses) =
+    comes_not_both files order.input (RewriteOf order) product why
+    (λ bytes one other. rewritten_not_both order bytes product why one other) told makes refuses
 not_refused share (showing order) files product why told makes (inl long) =
     not_longer files order.file makes.bytes told makes.held makes.short long.longer
 not_refused share (showing order) files product why told makes (inr refuses) =
-    not_both product why (comes_once files order.file _ (Ok product) (Err why) told makes refuses)
+    comes_not_both files order.file (ShowOf order) product why
+    (λ bytes one other. not_both _ product why one other) told makes refuses
+not_refused share (hooping order) files product why told makes (inl long) =
+    not_longer files order.file makes.bytes told makes.held makes.short long.longer
+not_refused share (hooping order) files product why told makes (inr refuses) =
+    comes_not_both files order.file (HoopOf order) product why
+    (λ bytes one other. not_both _ product why one other) told makes refuses
 
 -- what a later step of a route refuses is there
 route_is_there : (files : Option Files) (order : RouteOrder) (why : Refusal) → RouteRefuses files order why
@@ -105,20 +127,31 @@ route_is_there files order refusal.NotPlainLoop refuses lacks = not_missing file
 route_is_there files order (refusal.StepTooLong step) refuses lacks =
     not_missing files order.drawing (plain_spelling refuses.drawing) lacks refuses.spelled.text
 route_is_there files order (refusal.Unread f) never lacks = never
+route_is_there files order (refusal.Unwritten f) never lacks = never
+route_is_there files order (refusal.RefitTooMany number) never lacks = never
+route_is_there files order (refusal.MovedOut number) never lacks = never
+route_is_there files order (refusal.NoPlace place count) never lacks = never
+route_is_there files order (refusal.TooLarge x y) never lacks = never
 
 -- what is refused is there
 refused_is_there : (order : Order) (files : Option Files) (why : Refusal) → Refuses order files why
     → Lacks files (input_of order) → ⊥
 refused_is_there (routing order) files why (inl long) lacks = longer_is_there files order.drawing long.longer lacks
 refused_is_there (routing order) files why (inr refuses) lacks = route_is_there files order why refuses lacks
+refused_is_there (rewriting order) files why (inl long) lacks = longer_is_there files order.input long.longer lacks
+refused_is_there (rewriting order) files why (inr refuses) lacks = not_missing files order.input refuses.bytes lacks refuses.held
 refused_is_there (showing order) files why (inl long) lacks = longer_is_there files order.file long.longer lacks
 refused_is_there (showing order) files why (inr refuses) lacks = not_missing files order.file refuses.bytes lacks refuses.held
+refused_is_there (hooping order) files why (inl long) lacks = longer_is_there files order.file long.longer lacks
+refused_is_there (hooping order) files why (inr refuses) lacks = not_missing files order.file refuses.bytes lacks refuses.held
 
 -- what is accepted is there
 made_is_there : (order : Order) (files : Option Files) (product : Product) → Makes order files product
     → Lacks files (input_of order) → ⊥
 made_is_there (routing order) files product makes lacks =
     not_missing files order.drawing (plain_spelling makes.drawing) lacks makes.accepted.spelled.text
+made_is_there (rewriting order) files product makes lacks = not_missing files order.input makes.bytes lacks makes.held
+made_is_there (hooping order) files product makes lacks = not_missing files order.file makes.bytes lacks makes.held
 made_is_there (showing order) files product makes lacks = not_missing files order.file makes.bytes lacks makes.held
 
 -- what an order came to, where no count rose

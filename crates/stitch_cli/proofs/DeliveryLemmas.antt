@@ -84,8 +84,11 @@ wrote_up_to o rest name s mid new none holds changes stays wrote = record {
   split = ap (λ (xs : List Written). o ∷ xs) wrote.split;
   same = wrote.same;
   fault = subst (λ (n : ℕ). Faults n new.faults new.blame (write_of name)) stays.count wrote.fault;
-  held = (holds_still mid.files new.files (names_of (wrote.done ++ wrote.lost ∷ [])) o.name o.content wrote.others
-      (none_before wrote.done wrote.lost wrote.left rest o.name wrote.split none) holds, wrote.held);
+  held = (
+    holds_still mid.files new.files (names_of (wrote.done ++ wrote.lost ∷ [])) o.name o.content wrote.others
+        (none_before wrote.done wrote.lost wrote.left rest o.name wrote.split none) holds,
+    wrote.held,
+  );
   others = changes_both s.files mid.files new.files o.name (names_of (wrote.done ++ wrote.lost ∷ [])) changes wrote.others;
 }
 

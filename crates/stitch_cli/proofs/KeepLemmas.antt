@@ -2,15 +2,19 @@
 use Rattle.std.proofs.Common.{◌≡◌, ◌++◌, ◌∷◌, [], ℕ, List, Option, Some, None, Ok, Err, Result, refl, sym, ap, subst}
 use Rattle.format_traits.specs.declared.fault.ReadFault.{ReadFault}
 use Rattle.format_traits.specs.declared.loaded.Loaded.{Loaded}
+use Rattle.hoop_check.specs.declared.fitting.Fit.{Fit}
+use Rattle.hoop_check.specs.declared.fitting.Fit.TheVariants as fit
+use Rattle.hoop_check.specs.Fits.{fit_of}
 use Rattle.outside_io.specs.Files.{Files}
 use Rattle.stitch_cli.specs.declared.status.Status.{Status}
 use Rattle.stitch_cli.specs.declared.stop.Refusal.{Refusal}
 use Rattle.stitch_cli.specs.declared.stop.Stop.{Stop}
 use Rattle.stitch_cli.specs.declared.stop.Stop.TheVariants as stop
 use Rattle.stitch_cli.specs.Endings.{Delivers, Ends, OrderEnds, Stops, all, but_report, made, stopped, up_to}
+use Rattle.stitch_cli.specs.Hoops.{fitted_as, hooped_as}
 use Rattle.stitch_cli.specs.Orders.{Makes}
 use Rattle.stitch_cli.specs.Products.{ChangesAmong, IsNoneOf, Product, names_of, only_report}
-use Rattle.stitch_cli.specs.Requests.{Order, outputs_of, routing, showing}
+use Rattle.stitch_cli.specs.Requests.{Order, hooping, outputs_of, rewriting, routing, showing}
 use Rattle.stitch_cli.specs.Runs.{KeepsOthers, Sights}
 use Rattle.stitch_cli.specs.Shows.{show_report, shown_as}
 use Rattle.stitch_cli.proofs.DeliveryLemmas.{none_before}
@@ -23,12 +27,23 @@ same_outputs r p q one other = cc
 makes_outputs : (order : Order) (files : Option Files) (product : Product) → Makes order files product
     → names_of product.outputs ≡ outputs_of order
 makes_outputs (routing order) files product makes = ap (λ (p : Product). names_of p.outputs) makes.made
+makes_outputs (rewriting order) files product makes = ap (λ (p : Product). names_of p.outputs) makes.is.made
 makes_outputs (showing order) files product makes = shown (order.format.reads makes.bytes) makes.is
   where
     shown : (r : Result Loaded ReadFault) → shown_as order.format.ending r ≡ Ok product → names_of product.outputs ≡ []
     shown (Ok loaded) is = same_outputs (shown_as order.format.ending (Ok loaded)) product
         (only_report (show_report order.format.ending loaded)) is refl
     shown (Err f) is = cc
+makes_outputs (hooping order) files product makes = hooped (order.format.reads makes.bytes) makes.is
+  where
+    fitted : (f : Fit) → fitted_as f ≡ Ok product → names_of product.outputs ≡ []
+    fitted fit.Upright is = same_outputs (fitted_as fit.Upright) product (only_report _) is refl
+    fitted fit.Turned is = same_outputs (fitted_as fit.Turned) product (only_report _) is refl
+    fitted (fit.No x y) is = cc
+
+    hooped : (r : Result Loaded ReadFault) → hooped_as order r ≡ Ok product → names_of product.outputs ≡ []
+    hooped (Ok loaded) is = fitted (fit_of loaded.design order.width order.height) is
+    hooped (Err f) is = cc
 
 -- fewer files change among fewer names
 changes_fewer : (old new : Option Files) (few many : List (List ℕ)) → ((name : List ℕ) → IsNoneOf many name → IsNoneOf few name)

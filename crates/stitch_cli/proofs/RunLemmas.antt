@@ -1,5 +1,5 @@
 -- What the end of a run means.
-use Rattle.std.proofs.Common.{◌≡◌, ℕ, ◌≤◌, ◌⊎◌, inl, inr, Bool, true, List, Option, Some, None, Ok, Err, Result, IsSome, length, ap, refl, sym, subst, ◌∙◌, arith, if◌then◌else◌}
+use Rattle.std.proofs.Common.{◌≡◌, ℕ, ◌≤◌, ◌⊎◌, inl, inr, Bool, true, false, List, Option, Some, None, Ok, Err, Result, IsSome, length, ap, refl, sym, subst, ◌∙◌, arith, if◌then◌else◌, bytes_eq}
 use Rattle.format_traits.specs.Meanings.{Meaning}
 use Rattle.line_graph.specs.Drawings.{DrawingValue}
 use Rattle.line_graph.specs.Laws.{PlainTextsShareSteps}
@@ -14,10 +14,11 @@ use Rattle.stitch_cli.specs.declared.stop.Refusal.{Refusal}
 use Rattle.stitch_cli.specs.declared.stop.Refusal.TheVariants as refusal
 use Rattle.stitch_cli.specs.declared.stop.Stop.{Stop}
 use Rattle.stitch_cli.specs.declared.stop.Stop.TheVariants as stop
+use Rattle.stitch_cli.specs.Changes.{Change}
 use Rattle.stitch_cli.specs.Endings.{Delivers, Ends, OrderEnds, Stops, Tells, all, but_report, made, status_of, stopped, up_to}
 use Rattle.stitch_cli.specs.Orders.{Comes, Makes, Refuses, StepRefuses}
 use Rattle.stitch_cli.specs.Products.{ChangesAmong, Product, names_of}
-use Rattle.stitch_cli.specs.Requests.{Order, RouteOrder, are_apart, input_of, outputs_of, routing, routing_to, show_order, showing, showing_by, subject_of}
+use Rattle.stitch_cli.specs.Requests.{Order, RouteOrder, are_apart, input_of, outputs_of, hoop_order, hooping, hooping_by, rewriting, rewriting_by, routing, routing_to, show_order, showing, showing_by, subject_of}
 use Rattle.stitch_cli.specs.Routes.{Accepts, RouteMakes, RouteRefuses}
 use Rattle.stitch_cli.specs.Runs.{AsksFor, CallsFor, Fails, IsDecided, IsDone, IsFault, IsMemory, IsQuietRun, IsRefused, IsUsage, KeepsOthers, Sights, failed, memory, missing, refused, unprinted, unread, unwritten, usage}
 use Rattle.stitch_cli.specs.Sights.{SinkSight, StoreSight}
@@ -39,6 +40,34 @@ pub show_ends : (file : List ℕ) (found : Option Meaning) (format : Meaning) (b
     → Ends (showing_by file found) before after s
 show_ends file found format before after s is ends =
     subst (λ (m : Option Meaning). Ends (showing_by file m) before after s) is ends
+
+-- a check of a hoop that is complete ends as the words ask
+pub hoop_ends : (file : List ℕ) (width height : ℕ) (found : Option Meaning) (format : Meaning) (before after : Sights)
+    (s : Status) → Some format ≡ found → OrderEnds (hooping (hoop_order file format width height)) before after s
+    → Ends (hooping_by file width height found) before after s
+hoop_ends file width height found format before after s is ends =
+    subst (λ (m : Option Meaning). Ends (hooping_by file width height m) before after s) is ends
+
+-- a rewriting that is complete ends as the words ask
+pub rewrite_ends : (input output : List ℕ) (changes : List Change) (found there : Option Meaning) (source target : Meaning)
+    (before after : Sights) (s : Status) → Some source ≡ found → Some target ≡ there → bytes_eq input output ≡ false
+    → Ends (Some (rewriting (record {
+      input = input;
+      output = output;
+      source = source;
+      target = target;
+      changes = changes;
+    }))) before after s → Ends (rewriting_by input output changes found there) before after s
+rewrite_ends input output changes found there source target before after s one other apart ends =
+    subst (λ (m : Option Meaning). Ends (rewriting_by input output changes m there) before after s) one
+    (subst (λ (m : Option Meaning). Ends (rewriting_by input output changes (Some source) m) before after s) other
+    (subst (λ (b : Bool). Ends (if b then None else Some (rewriting (record {
+      input = input;
+      output = output;
+      source = source;
+      target = target;
+      changes = changes;
+    }))) before after s) (sym apart) ends))
 
 -- what was prepared is delivered from where the store stood before
 pub ends_made : (order : Order) (product : Product) (store mid : StoreSight) (out err : SinkSight) (after : Sights) (s : Status)

@@ -1,28 +1,32 @@
 -- What the words after the program's name ask for. A name is the bytes of a word.
-use Rattle.std.specs.Prelude.{ℕ, Bool, ◌&&◌, not, nat_le, List, [], ◌∷◌, length, Option, Some, None, bytes_eq, codes, slice_get, if◌then◌else◌}
+use Rattle.std.specs.Prelude.{ℕ, Bool, ◌&&◌, not, List, [], ◌∷◌, map, Option, Some, None, IsSome, bytes_eq, codes, slice_get, string_bytes, unwrap_or, if◌then◌else◌}
 use Rattle.std.specs.Option.{option_and_then}
 use Rattle.format_traits.specs.Meanings.{Meaning}
 use Rattle.format_traits.specs.Endings.{found_in}
 use Rattle.outside_io.specs.Files.{IsName}
-use Rattle.outside_io.specs.declared.limits.TheConstants.{MAX_NAME}
 use Rattle.stitch_cli.specs.declared.requests.Names.{Names}
 use Rattle.stitch_cli.specs.declared.requests.Request.{Request}
 use Rattle.stitch_cli.specs.declared.requests.RouteNames.{RouteNames}
 use Rattle.stitch_cli.specs.declared.requests.Request.TheVariants as request
+use Rattle.stitch_cli.specs.Changes.{Change}
+use Rattle.stitch_cli.specs.Words.{edits_spelled, is_name, refits, refits_spelled, side_of}
 
 -- a request
 pub data Asked : Type 0 where
   route : (drawing out cert : List ℕ) → Asked
+  convert : (input output : List ℕ) → (splits cuts : Bool) → Asked
   show : (file : List ℕ) → Asked
+  edit : (input output : List ℕ) → (edits : List Change) → Asked
+  hoop : (file : List ℕ) → (width height : ℕ) → Asked
 
--- what a request of the program asks
+-- what a request of the program asks; the words of an edit that spell none ask for none
 abbrev pub asked_by : Request → Asked
 asked_by (request.Route names) = route names.drawing.now names.out.now names.cert.now
+asked_by (request.Convert names splits cuts) = convert names.input.now names.output.now splits cuts
 asked_by (request.Show file) = show file.now
-
--- the word may name a file
-abbrev pub is_name : List ℕ → Bool
-is_name word = nat_le 1 (length word) && nat_le (length word) MAX_NAME
+asked_by (request.Edit names edits) = edit names.input.now names.output.now
+    (unwrap_or (edits_spelled (map (λ word. string_bytes word) edits.now)) [])
+asked_by (request.Hoop file width height) = hoop file.now width height
 
 -- the route of three words that are names
 abbrev pub asked_route : List (List ℕ) → Option Asked
@@ -30,17 +34,50 @@ asked_route (drawing ∷ out ∷ cert ∷ []) = if is_name drawing && is_name ou
     then Some (route drawing out cert) else None
 asked_route _ = None
 
+-- the conversion from a file to another, with refits
+abbrev pub convert_with : List ℕ → List ℕ → Option (Bool × Bool) → Option Asked
+convert_with input output None = None
+convert_with input output (Some (splits, cuts)) = if is_name input && is_name output
+    then Some (convert input output splits cuts) else None
+
+abbrev pub asked_convert : List (List ℕ) → Option Asked
+asked_convert (input ∷ output ∷ flags) = convert_with input output (refits_spelled flags)
+asked_convert _ = None
+
 -- the showing of one word that is a name
 abbrev pub asked_show : List (List ℕ) → Option Asked
 asked_show (file ∷ []) = if is_name file then Some (show file) else None
 asked_show _ = None
 
+-- the edit from a file to another, by one edit or more
+abbrev pub edit_with : List ℕ → List ℕ → Option (List Change) → Option Asked
+edit_with input output None = None
+edit_with input output (Some edits) = if is_name input && is_name output
+    then Some (edit input output edits) else None
+
+abbrev pub asked_edit : List (List ℕ) → Option Asked
+asked_edit (input ∷ output ∷ first ∷ later) = edit_with input output (edits_spelled (first ∷ later))
+asked_edit _ = None
+
+-- the check of a file against a hoop, whose sides are from 1 to 60,000
+abbrev pub hoop_with : List ℕ → Option ℕ → Option ℕ → Option Asked
+hoop_with file None height = None
+hoop_with file (Some width) None = None
+hoop_with file (Some width) (Some height) = if is_name file then Some (hoop file width height) else None
+
+abbrev pub asked_hoop : List (List ℕ) → Option Asked
+asked_hoop (file ∷ width ∷ height ∷ []) = hoop_with file (side_of width) (side_of height)
+asked_hoop _ = None
+
 -- the request that a command's word and the words after it spell
 abbrev pub asked_as : List ℕ → List (List ℕ) → Option Asked
 asked_as command words =
     if bytes_eq command (codes "route") then asked_route words
+    else (if bytes_eq command (codes "convert") then asked_convert words
     else (if bytes_eq command (codes "show") then asked_show words
-    else None)
+    else (if bytes_eq command (codes "edit") then asked_edit words
+    else (if bytes_eq command (codes "hoop") then asked_hoop words
+    else None))))
 
 -- the request that the words spell, where they spell one
 abbrev pub asked_of : List (List ℕ) → Option Asked
@@ -59,6 +96,21 @@ pub record ShowOrder : Type 0 where
   pub file : List ℕ
   pub format : Meaning
 
+-- the file that is read and the one that is written, what their formats mean, and the changes between
+pub record RewriteOrder : Type 0 where
+  pub input : List ℕ
+  pub output : List ℕ
+  pub source : Meaning
+  pub target : Meaning
+  pub changes : List Change
+
+-- the file whose design is to fit into a hoop, what its format means, and the hoop's sides
+pub record HoopOrder : Type 0 where
+  pub file : List ℕ
+  pub format : Meaning
+  pub width : ℕ
+  pub height : ℕ
+
 -- the order of a route by its names and by what its format means
 abbrev pub route_order : RouteNames → Meaning → RouteOrder
 route_order names format = record {
@@ -72,16 +124,44 @@ route_order names format = record {
 abbrev pub show_order : List ℕ → Meaning → ShowOrder
 show_order file format = record { file = file; format = format }
 
+-- the order of a rewriting by its names, by what their formats mean, and by its changes
+abbrev pub rewrite_order : Names → Meaning → Meaning → List Change → RewriteOrder
+rewrite_order names source target changes = record {
+  input = names.input.now;
+  output = names.output.now;
+  source = source;
+  target = target;
+  changes = changes;
+}
+
+-- the order of checking a hoop
+abbrev pub hoop_order : List ℕ → Meaning → ℕ → ℕ → HoopOrder
+hoop_order file format width height =
+    record { file = file; format = format; width = width; height = height }
+
+-- the words of two files are names
+pub record BothAreNames (names : Names) : Type 0 where
+  pub input : IsName names.input.now
+  pub output : IsName names.output.now
+
+-- the words spell edits
+abbrev pub SpellEdits : List (List ℕ) → Type 0
+SpellEdits words = IsSome (edits_spelled words)
+
 -- the three words of a route are names
 pub record AreNames (names : RouteNames) : Type 0 where
   pub drawing : IsName names.drawing.now
   pub out : IsName names.out.now
   pub cert : IsName names.cert.now
 
--- the words of a request that name files are names
-abbrev pub NamesFiles : Request → Type 0
-NamesFiles (request.Route names) = AreNames names
-NamesFiles (request.Show file) = IsName file.now
+-- the words of a request that name files are names, and those that spell edits do
+abbrev pub IsSound : Request → Type 0
+IsSound (request.Route names) = AreNames names
+IsSound (request.Convert names splits cuts) = BothAreNames names
+IsSound (request.Show file) = IsName file.now
+IsSound (request.Edit names edits) =
+    BothAreNames names × SpellEdits (map (λ word. string_bytes word) edits.now)
+IsSound (request.Hoop file width height) = IsName file.now
 
 -- no two of the three names are equal
 abbrev pub are_apart : List ℕ → List ℕ → List ℕ → Bool
@@ -94,7 +174,9 @@ format_of formats name = option_and_then (λ place. slice_get formats place) (fo
 -- a complete request: the formats that it needs are there, and its names differ
 pub data Order : Type 0 where
   routing : RouteOrder → Order
+  rewriting : RewriteOrder → Order
   showing : ShowOrder → Order
+  hooping : HoopOrder → Order
 
 -- the route of these names to that format, where there is one
 abbrev pub routing_to : (drawing out cert : List ℕ) → Option Meaning → Option Order
@@ -108,12 +190,37 @@ abbrev pub showing_by : List ℕ → Option Meaning → Option Order
 showing_by file None = None
 showing_by file (Some format) = Some (showing (record { file = file; format = format }))
 
+-- the rewriting between those files by these formats, where there are both and the names differ
+abbrev pub rewriting_by : (input output : List ℕ) → List Change → Option Meaning → Option Meaning → Option Order
+rewriting_by input output changes None target = None
+rewriting_by input output changes (Some source) None = None
+rewriting_by input output changes (Some source) (Some target) =
+    if bytes_eq input output then None
+    else Some (rewriting (record {
+      input = input;
+      output = output;
+      source = source;
+      target = target;
+      changes = changes;
+    }))
+
+-- the check of that file by that format, where there is one
+abbrev pub hooping_by : List ℕ → ℕ → ℕ → Option Meaning → Option Order
+hooping_by file width height None = None
+hooping_by file width height (Some format) =
+    Some (hooping (record { file = file; format = format; width = width; height = height }))
+
 -- the request made complete, where it can be
 abbrev pub completed : List Meaning → Option Asked → Option Order
 completed formats None = None
 completed formats (Some (route drawing out cert)) =
     routing_to drawing out cert (format_of formats out)
+completed formats (Some (convert input output splits cuts)) =
+    rewriting_by input output (refits splits cuts) (format_of formats input) (format_of formats output)
 completed formats (Some (show file)) = showing_by file (format_of formats file)
+completed formats (Some (edit input output edits)) =
+    rewriting_by input output edits (format_of formats input) (format_of formats output)
+completed formats (Some (hoop file width height)) = hooping_by file width height (format_of formats file)
 
 -- the complete request that the words spell, where they spell one
 abbrev pub order_of : List Meaning → List (List ℕ) → Option Order
@@ -129,7 +236,9 @@ pub record Subject : Type 0 where
 -- an order's subject
 abbrev pub subject_of : Order → Subject
 subject_of (routing order) = record { input = order.drawing; output = order.out; format = order.format }
+subject_of (rewriting order) = record { input = order.input; output = order.output; format = order.target }
 subject_of (showing order) = record { input = order.file; output = []; format = order.format }
+subject_of (hooping order) = record { input = order.file; output = []; format = order.format }
 
 -- the file that an order reads
 abbrev pub input_of : Order → List ℕ
@@ -138,7 +247,9 @@ input_of order = (subject_of order).input
 -- the files that an order writes, in this order
 abbrev pub outputs_of : Order → List (List ℕ)
 outputs_of (routing order) = order.cert ∷ order.out ∷ []
+outputs_of (rewriting order) = order.output ∷ []
 outputs_of (showing order) = []
+outputs_of (hooping order) = []
 
 -- a subject, by its names and by what its format means
 abbrev pub subject_by : Names → Meaning → Subject

@@ -1,5 +1,5 @@
 -- What the command `show` prints of a file that was read.
-use Rattle.std.specs.Prelude.{ℕ, ◌+◌, Bool, List, [], ◌∷◌, ◌++◌, Option, Some, None, Result, Ok, Err, codes, decimal, if◌then◌else◌}
+use Rattle.std.specs.Prelude.{◌≡◌, ℕ, ◌+◌, Bool, List, [], ◌∷◌, ◌++◌, Option, Some, None, Result, Ok, Err, codes, decimal, if◌then◌else◌}
 use Rattle.std.specs.Fmt.{signed_decimal}
 use Rattle.design_model.specs.declared.bounds.Extent.{Extent}
 use Rattle.design_model.specs.declared.point.Point.{Point}
@@ -75,5 +75,5 @@ shown_as ending (Ok loaded) = Ok (only_report (show_report ending loaded))
 shown_as ending (Err f) = Err (refusal.Unread f)
 
 -- what comes of a file's bytes
-abbrev pub show_outcome : ShowOrder → List ℕ → Result Product Refusal
-show_outcome order bytes = shown_as order.format.ending (order.format.reads bytes)
+abbrev pub ShowOf : ShowOrder → List ℕ → Result Product Refusal → Type 0
+ShowOf order bytes r = shown_as order.format.ending (order.format.reads bytes) ≡ r

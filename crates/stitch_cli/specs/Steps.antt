@@ -1,11 +1,15 @@
 -- What the inner steps of the commands answer. No public clause cites this file.
-use Rattle.std.specs.Prelude.{◌≡◌, ℕ, ◌<◌, ◌≤◌, List, [], ◌∷◌, ◌++◌, length, map, Result, Ok, Err}
+use Rattle.std.specs.Prelude.{◌≡◌, ℕ, ◌<◌, ◌≤◌, List, [], ◌∷◌, ◌++◌, length, map, Result, Ok, Err, string_bytes}
 use Rattle.design_model.specs.declared.command.Command.TheVariants.{Stitch, Trim}
 use Rattle.design_model.specs.declared.point.Point.{Point}
+use Rattle.design_model.specs.Counts.{counts_of}
 use Rattle.design_model.specs.Designs.{DesignValue}
+use Rattle.format_traits.specs.declared.fault.ReadFault.{ReadFault}
 use Rattle.format_traits.specs.declared.loaded.Loaded.{Loaded}
+use Rattle.format_traits.specs.Laws.{MovesWithin, ReadsAgain}
 use Rattle.format_traits.specs.Meanings.{Meaning}
 use Rattle.format_traits.specs.PlainDesigns.{IsPlain}
+use Rattle.hoop_check.specs.declared.fitting.Fit.{Fit}
 use Rattle.line_graph.specs.Drawings.{DrawingValue}
 use Rattle.line_graph.specs.Laws.{along_first}
 use Rattle.line_graph.specs.Loops.{SpellsLoop}
@@ -13,13 +17,22 @@ use Rattle.outside_io.specs.Blames.{read_of}
 use Rattle.outside_io.specs.Causes.{Faults, IsLonger}
 use Rattle.outside_io.specs.Files.{HoldsNow, IsName, Lacks, WhereTold}
 use Rattle.outside_io.specs.declared.limits.TheConstants.{MAX_FILE}
+use Rattle.step_splitter.specs.declared.refitting.RefitMode.{RefitMode}
+use Rattle.step_splitter.specs.declared.refitting.RefitMode.TheVariants as mode
 use Rattle.stitch_cli.specs.declared.delivery.Output.{Output}
 use Rattle.stitch_cli.specs.declared.making.Made.{Made}
 use Rattle.stitch_cli.specs.declared.requests.RouteNames.{RouteNames}
+use Rattle.stitch_cli.specs.declared.rewriting.Changes.{Changes}
+use Rattle.stitch_cli.specs.declared.rewriting.Changes.TheVariants as changes
+use Rattle.stitch_cli.specs.declared.stop.Refusal.{Refusal}
 use Rattle.stitch_cli.specs.declared.stop.Refusal.TheVariants as refusal
 use Rattle.stitch_cli.specs.declared.stop.Stop.{Stop}
 use Rattle.stitch_cli.specs.declared.stop.Stop.TheVariants as stop
+use Rattle.stitch_cli.specs.Changes.{Becomes, BecomesAll, Change, cut, split}
+use Rattle.stitch_cli.specs.Hoops.{fitted_as}
 use Rattle.stitch_cli.specs.Products.{Product, Written}
+use Rattle.stitch_cli.specs.Requests.{SpellEdits}
+use Rattle.stitch_cli.specs.Rewrites.{written_report}
 use Rattle.stitch_cli.specs.Routes.{IsBestWalk, SewsIn, certificate_of, report_of}
 use Rattle.stitch_cli.specs.Sights.{StoreSight}
 
@@ -39,7 +52,7 @@ product_of outputs report = record { outputs = all_written outputs; report = rep
 abbrev pub route_product : RouteNames → Made → Product
 route_product names made = record {
   outputs = (record { name = names.cert.now; content = certificate_of along_first })
-      ∷ (record { name = names.out.now; content = made.sewn }) ∷ [];
+      ∷ (record { name = names.out.now; content = made.bytes }) ∷ [];
   report = made.report;
 }
 
@@ -69,6 +82,79 @@ Loads format bytes (Err stop.Missing) = ⊥
 Loads format bytes (Err stop.NotRead) = ⊥
 Loads format bytes (Err stop.Memory) = Unit {0}
 
+-- the named file, where it is told, has bytes that are read as this
+pub record IsRead (format : Meaning) (name : List ℕ) (store : StoreSight) (loaded : Loaded) : Type 0 where
+  pub bytes : List ℕ
+  pub held : HoldsNow store.files name bytes
+  pub short : length bytes ≤ MAX_FILE
+  pub read : format.reads bytes ≡ Ok loaded
+
+-- the named file, where it is told, has bytes that the format refuses
+pub record IsUnreadable (format : Meaning) (name : List ℕ) (store : StoreSight) (f : ReadFault) : Type 0 where
+  pub bytes : List ℕ
+  pub held : HoldsNow store.files name bytes
+  pub short : length bytes ≤ MAX_FILE
+  pub read : format.reads bytes ≡ Err f
+
+-- the reading of an input's file as a design
+abbrev pub ReadsDesign : Meaning → List ℕ → StoreSight → StoreSight → Result Loaded Stop → Type 0
+ReadsDesign format name store store' (Ok loaded) = IsRead format name store loaded × (store' ≡ store)
+ReadsDesign format name store store' (Err stop.Missing) = Lacks store.files name × (store' ≡ store)
+ReadsDesign format name store store' (Err stop.NotRead) =
+    Faults store.faults store'.faults store'.blame (read_of name) × (store'.files ≡ store.files)
+ReadsDesign format name store store' (Err (stop.Refused refusal.TooLong)) =
+    WhereTold store.files (λ told. IsLonger (told name) MAX_FILE) × (store' ≡ store)
+ReadsDesign format name store store' (Err (stop.Refused (refusal.Unread f))) =
+    IsUnreadable format name store f × (store' ≡ store)
+ReadsDesign format name store store' (Err (stop.Refused _)) = ⊥
+ReadsDesign format name store store' (Err stop.Memory) = store' ≡ store
+
+-- what stops the fitting into a hoop
+abbrev pub FitStops : Fit → Stop → Type 0
+FitStops fit (stop.Refused why) = fitted_as fit ≡ Err why
+FitStops fit stop.Missing = ⊥
+FitStops fit stop.NotRead = ⊥
+FitStops fit stop.Memory = ⊥
+
+-- the words of a rewriting's changes spell edits
+abbrev pub AreSound : Changes → Type 0
+AreSound (changes.Refits splits cuts) = Unit {0}
+AreSound (changes.Edits words) = SpellEdits (map (λ word. string_bytes word) words.now)
+
+-- the change that a refit is
+abbrev pub refit_change : RefitMode → Change
+refit_change mode.Split = split
+refit_change mode.Cut = cut
+
+-- what changes make of a design
+abbrev pub ChangesTo : ℕ → List Change → DesignValue → Result DesignValue Stop → Type 0
+ChangesTo limit changes d (Ok changed) = BecomesAll limit changes d (Ok changed)
+ChangesTo limit changes d (Err (stop.Refused why)) = BecomesAll limit changes d (Err why)
+ChangesTo limit changes d (Err stop.Missing) = ⊥
+ChangesTo limit changes d (Err stop.NotRead) = ⊥
+ChangesTo limit changes d (Err stop.Memory) = Unit {0}
+
+-- what one edit makes of a design in place
+abbrev pub EditsTo : {T : Type 0} → ℕ → Change → DesignValue → Result T Refusal → DesignValue → Type 0
+EditsTo limit change old (Ok _) new = Becomes limit change old (Ok new)
+EditsTo limit change old (Err why) new = Becomes limit change old (Err why)
+
+-- what is written for a design
+pub record IsRemadeOf (target : Meaning) (d : DesignValue) (made : Made) : Type 0 where
+  pub written : target.writes d ≡ Ok made.bytes
+  pub again : ReadsAgain target d made.bytes
+  pub within : MovesWithin target made.bytes
+  pub report : made.report ≡ written_report (counts_of d)
+
+-- the writing of a design
+abbrev pub IsRemade : Meaning → DesignValue → Result Made Stop → Type 0
+IsRemade target d (Ok made) = IsRemadeOf target d made
+IsRemade target d (Err (stop.Refused (refusal.Unwritten f))) = target.writes d ≡ Err f
+IsRemade target d (Err (stop.Refused _)) = ⊥
+IsRemade target d (Err stop.Missing) = ⊥
+IsRemade target d (Err stop.NotRead) = ⊥
+IsRemade target d (Err stop.Memory) = Unit {0}
+
 -- the design of one line: its thread, a stitch at each point, and a trim
 abbrev pub line_design : ℕ → List Point → DesignValue
 line_design thread points = record {
@@ -85,7 +171,7 @@ IsPlainAbove step design = (limit : ℕ) → step ≤ limit → IsPlain limit de
 pub record IsMadeOf (format : Meaning) (d : DrawingValue) (made : Made) : Type 0 where
   pub step : d.step ≤ format.limit
   pub best : IsBestWalk d along_first
-  pub sewn : SewsIn format d along_first made.sewn
+  pub sewn : SewsIn format d along_first made.bytes
   pub report : made.report ≡ report_of d
 
 -- the making of what is written

@@ -2,6 +2,8 @@
 use Rattle.std.specs.Prelude.{ℕ, ◌+◌, List, [], ◌∷◌, ◌++◌, codes, decimal, sum_by, length}
 use Rattle.format_traits.specs.declared.fault.ReadFault.{ReadFault}
 use Rattle.format_traits.specs.declared.fault.ReadFault.TheVariants as read
+use Rattle.format_traits.specs.declared.fault.WriteFault.{WriteFault}
+use Rattle.format_traits.specs.declared.fault.WriteFault.TheVariants as write
 use Rattle.format_traits.specs.Meanings.{Meaning}
 use Rattle.stitch_cli.specs.declared.reports.PieceReport.{PieceReport}
 use Rattle.stitch_cli.specs.declared.stop.Stop.{Stop}
@@ -26,8 +28,8 @@ abbrev pub penetrations_of : PieceReport → ℕ
 penetrations_of piece = piece.cost + piece.retraced + 1
 
 -- where a piece stands, and how many lines it has
-abbrev pub place_text : PieceReport → List ℕ
-place_text piece = codes "block " ++ (decimal piece.block ++ (codes " piece "
+abbrev pub piece_place : PieceReport → List ℕ
+piece_place piece = codes "block " ++ (decimal piece.block ++ (codes " piece "
     ++ (decimal piece.piece ++ (codes " lines " ++ decimal piece.lines))))
 
 -- what a piece costs, and how often the needle goes down
@@ -37,7 +39,7 @@ cost_text piece = codes " cost " ++ (decimal piece.cost ++ (codes " retraced "
 
 -- the line of a piece
 abbrev pub piece_line : PieceReport → List ℕ
-piece_line piece = place_text piece ++ cost_text piece
+piece_line piece = piece_place piece ++ cost_text piece
 
 -- the lines of the pieces
 abbrev pub piece_lines : List PieceReport → List ℕ
@@ -90,6 +92,33 @@ read_line name (read.Range at) = byte_line name at (codes "point out of range")
 read_line name (read.TooMany at) = byte_line name at (codes "more than 1000000 commands")
 read_line name read.Memory = memory_line
 
+-- a line about a command of a design, counted from 1
+abbrev pub command_line : List ℕ → ℕ → List ℕ → List ℕ
+command_line name number text = line_at name (codes ": command ") (decimal number) text
+
+-- a line about a command that is too long a stitch for a format with that limit, the numbers as digits
+abbrev pub long_text : (name number limit : List ℕ) → List ℕ
+long_text name number limit = (codes "stitch: " ++ (name ++ (codes ": command " ++ number)))
+    ++ (codes ": stitch longer than " ++ (limit ++ line_end))
+
+-- why a design was not written, the limit of its format being that; want of memory has a line of its own
+abbrev pub write_line : List ℕ → ℕ → WriteFault → List ℕ
+write_line name limit (write.StitchTooLong number) = long_text name (decimal number) (decimal limit)
+write_line name limit (write.FloatTooLong number) = command_line name number (codes "float too long")
+write_line name limit (write.TooManyStops number) = command_line name number (codes "too many stops")
+write_line name limit (write.TooLong number) =
+    command_line name number (codes "more than 1000000 commands written")
+write_line name limit write.Memory = memory_line
+
+-- a line about a place for a thread, counted from 1, that the design does not have, the numbers as digits
+abbrev pub place_text : (name place count : List ℕ) → List ℕ
+place_text name place count = (codes "stitch: " ++ (name ++ (codes ": no colour place " ++ place)))
+    ++ (codes ", there are " ++ (count ++ line_end))
+
+-- a line about a design that is too large for a hoop by those digits
+abbrev pub large_text : (x y : List ℕ) → List ℕ
+large_text x y = codes "stitch: too large by " ++ (x ++ (codes " " ++ (y ++ line_end)))
+
 -- why an order about that subject was refused
 abbrev pub reason_line : Subject → Refusal → List ℕ
 reason_line about refusal.TooLong = line_about about.input (codes "longer than 67108864 bytes")
@@ -97,6 +126,11 @@ reason_line about refusal.NotPlainLoop =
     line_about about.input (codes "not a plain drawing of one closed line from 0 0")
 reason_line about (refusal.StepTooLong step) = step_line about.input step about.format
 reason_line about (refusal.Unread f) = read_line about.input f
+reason_line about (refusal.Unwritten f) = write_line about.output about.format.limit f
+reason_line about (refusal.RefitTooMany number) = command_line about.output number (codes "too many commands")
+reason_line about (refusal.MovedOut number) = command_line about.input number (codes "moved out of range")
+reason_line about (refusal.NoPlace place count) = place_text about.input (decimal place) (decimal count)
+reason_line about (refusal.TooLarge x y) = large_text (decimal x) (decimal y)
 
 -- why an order was refused
 abbrev pub refusal_line : Order → Refusal → List ℕ

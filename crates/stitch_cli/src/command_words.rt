@@ -1,13 +1,20 @@
-ghost use Rattle.std.specs.Prelude.{◌≡◌, IfSome, map, option_map, string_bytes};
-ghost use Rattle.stitch_cli.specs.Requests.{NamesFiles, asked_as, asked_by, asked_of, asked_route, asked_show, is_name as word_is_name};
+ghost use Rattle.std.specs.Prelude.{◌≡◌, IfSome, codes, is_some, map, option_map, string_bytes};
+ghost use Rattle.stitch_cli.specs.Requests.{IsSound, asked_as, asked_by, asked_convert, asked_edit, asked_hoop, asked_of, asked_route, asked_show, hoop_with};
+ghost use Rattle.stitch_cli.specs.Words.{are_both as are_both_words, edits_spelled, is_name as word_is_name, refits_spelled, side_of};
 
-use crate::requests::{Request, RouteNames};
+use crate::edit_words::edit_spelled;
+use crate::number_words::bounded;
+use crate::requests::{Names, Request, RouteNames};
 use outside_io::MAX_NAME;
 
-/// The request that the words spell: `route DRAWING OUT CERT` or `show FILE`.
+/// The greatest side of a hoop, in tenths of a millimetre.
+const MAX_SIDE: u32 = 60_000;
+
+/// The request that the words spell: `route DRAWING OUT CERT`, `convert IN OUT [--split] [--cut]`,
+/// `show FILE`, `edit IN OUT EDIT...` or `hoop FILE WIDTH HEIGHT`. It takes no memory.
 pub fn request(words: &[String]) -> Option<Request<'_>>
     ensures value { option_map asked_by result ≡ asked_of (map (λ word. string_bytes word) words.now) }
-    ensures names { IfSome result NamesFiles }
+    ensures sound { IfSome result IsSound }
 {
     match words {
         [command, rest @ ..] => request_as(command.as_str(), rest),
@@ -18,20 +25,29 @@ pub fn request(words: &[String]) -> Option<Request<'_>>
 fn request_as<'a>(command: &str, words: &'a [String]) -> Option<Request<'a>>
     ensures value { option_map asked_by result
         ≡ asked_as command.now (map (λ word. string_bytes word) words.now) }
-    ensures names { IfSome result NamesFiles }
+    ensures sound { IfSome result IsSound }
 {
     if command == "route" {
         return route_request(words);
     }
+    if command == "convert" {
+        return convert_request(words);
+    }
     if command == "show" {
         return show_request(words);
+    }
+    if command == "edit" {
+        return edit_request(words);
+    }
+    if command == "hoop" {
+        return hoop_request(words);
     }
     None
 }
 
 fn route_request(words: &[String]) -> Option<Request<'_>>
     ensures value { option_map asked_by result ≡ asked_route (map (λ word. string_bytes word) words.now) }
-    ensures names { IfSome result NamesFiles }
+    ensures sound { IfSome result IsSound }
 {
     let [drawing, out, cert] = words else {
         return None;
@@ -47,15 +63,127 @@ fn route_request(words: &[String]) -> Option<Request<'_>>
     }
 }
 
+fn convert_request(words: &[String]) -> Option<Request<'_>>
+    ensures value { option_map asked_by result ≡ asked_convert (map (λ word. string_bytes word) words.now) }
+    ensures sound { IfSome result IsSound }
+{
+    let [input, output, flags @ ..] = words else {
+        return None;
+    };
+    let Some((splits, cuts)) = refits(flags) else {
+        return None;
+    };
+    if is_name(input.as_str()) && is_name(output.as_str()) {
+        Some(Request::Convert {
+            names: Names {
+                input: input.as_str(),
+                output: output.as_str(),
+            },
+            splits,
+            cuts,
+        })
+    } else {
+        None
+    }
+}
+
+/// Whether stitches are to be split and floats to be cut.
+fn refits(flags: &[String]) -> Option<(bool, bool)>
+    ensures { result ≡ refits_spelled (map (λ word. string_bytes word) flags.now) }
+{
+    match flags {
+        [] => Some((false, false)),
+        [flag] if flag.as_str() == "--split" => Some((true, false)),
+        [flag] if flag.as_str() == "--cut" => Some((false, true)),
+        [first, second] if are_both(first.as_str(), second.as_str()) => Some((true, true)),
+        _ => None,
+    }
+}
+
+fn are_both(first: &str, second: &str) -> bool
+    ensures { result ≡ are_both_words first.now second.now (codes "--split") (codes "--cut") }
+{
+    first == "--split" && second == "--cut" || first == "--cut" && second == "--split"
+}
+
 fn show_request(words: &[String]) -> Option<Request<'_>>
     ensures value { option_map asked_by result ≡ asked_show (map (λ word. string_bytes word) words.now) }
-    ensures names { IfSome result NamesFiles }
+    ensures sound { IfSome result IsSound }
 {
     let [file] = words else {
         return None;
     };
     if is_name(file.as_str()) {
         Some(Request::Show(file.as_str()))
+    } else {
+        None
+    }
+}
+
+#[tactic(auto, using(crate::proofs::WordLemmas::few_no_edit))]
+fn edit_request(words: &[String]) -> Option<Request<'_>>
+    ensures value { option_map asked_by result ≡ asked_edit (map (λ word. string_bytes word) words.now) }
+    ensures sound { IfSome result IsSound }
+{
+    let [input, output, edits @ ..] = words else {
+        return None;
+    };
+    if edits.is_empty() || !are_edits(edits) {
+        return None;
+    }
+    if is_name(input.as_str()) && is_name(output.as_str()) {
+        Some(Request::Edit {
+            names: Names {
+                input: input.as_str(),
+                output: output.as_str(),
+            },
+            edits,
+        })
+    } else {
+        None
+    }
+}
+
+/// Says whether each word spells an edit.
+fn are_edits(words: &[String]) -> bool
+    ensures { result ≡ is_some (edits_spelled (map (λ word. string_bytes word) words.now)) }
+{
+    for word in words {
+        match edit_spelled(word.as_bytes()) {
+            Some(_) => {}
+            None => return false,
+        }
+    }
+    true
+}
+
+fn hoop_request(words: &[String]) -> Option<Request<'_>>
+    ensures value { option_map asked_by result ≡ asked_hoop (map (λ word. string_bytes word) words.now) }
+    ensures sound { IfSome result IsSound }
+{
+    match words {
+        [file, width, height] => hoop_spelled(file.as_str(), width.as_bytes(), height.as_bytes()),
+        _ => None,
+    }
+}
+
+fn hoop_spelled<'a>(file: &'a str, width: &[u8], height: &[u8]) -> Option<Request<'a>>
+    ensures value { option_map asked_by result
+        ≡ hoop_with file.now (side_of width.now) (side_of height.now) }
+    ensures sound { IfSome result IsSound }
+{
+    let Some(width) = bounded(1, MAX_SIDE, width) else {
+        return None;
+    };
+    let Some(height) = bounded(1, MAX_SIDE, height) else {
+        return None;
+    };
+    if is_name(file) {
+        Some(Request::Hoop {
+            file,
+            width,
+            height,
+        })
     } else {
         None
     }

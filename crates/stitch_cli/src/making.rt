@@ -15,10 +15,10 @@ use format_traits::{Format, WriteFault, encode_by, limit_of};
 use line_graph::{Drawing, a_loop_is_sewn_by_its_line, needles};
 use std::alloc::Global;
 
-/// What a route writes into the design's file, and its report.
+/// What is written into a design's file, and the report.
 #[derive(Drop)]
 pub(crate) struct Made {
-    pub(crate) sewn: Bytes,
+    pub(crate) bytes: Bytes,
     pub(crate) report: Bytes,
 }
 
@@ -36,8 +36,8 @@ pub(crate) fn make(alloc: Global, drawing: &Drawing, format: &Box<dyn Format>) -
     let points = needles(alloc, drawing, 0)?;
     let report = report(alloc, drawing, points.as_slice())?;
     let design = sew_loop(alloc, drawing, points.as_slice())?;
-    let sewn = write_design(alloc, format, drawing, &design)?;
-    Ok(Made { sewn, report })
+    let bytes = write_design(alloc, format, drawing, &design)?;
+    Ok(Made { bytes, report })
 }
 
 fn report(alloc: Global, drawing: &Drawing, points: &[Point]) -> Result<Bytes, Memory>

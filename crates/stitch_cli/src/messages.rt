@@ -1,16 +1,16 @@
-ghost use Rattle.std.specs.Prelude.{◌≡◌, OnErr, OnOk};
+ghost use Rattle.std.specs.Prelude.{◌≡◌, OnErr, OnOk, decimal};
 ghost use Rattle.stitch_cli.specs.declared.status.Status.TheVariants as status;
 ghost use Rattle.stitch_cli.specs.Endings.{Tells, status_of};
 ghost use Rattle.stitch_cli.specs.Requests.{subject_by};
 ghost use Rattle.stitch_cli.specs.Sights.{Puts, sink_sight};
-ghost use Rattle.stitch_cli.specs.Texts.{byte_line, line_about, line_at, memory_line, read_line, reason_line, step_line, step_text, stop_line, unprinted_line, unread_line, unwritten_line, usage_text};
+ghost use Rattle.stitch_cli.specs.Texts.{byte_line, command_line, large_text, line_about, line_at, long_text, memory_line, place_text, read_line, reason_line, step_line, step_text, stop_line, unprinted_line, unread_line, unwritten_line, usage_text, write_line};
 
 use crate::putting::{put_five, put_four, put_one, put_three};
 use crate::requests::Names;
 use crate::status::Status;
 use crate::stop::{Refusal, Stop};
 use crate::usage::usage;
-use format_traits::{Format, ReadFault, ext_of, limit_of};
+use format_traits::{Format, ReadFault, WriteFault, ext_of, limit_of};
 use itoa::Buffer;
 use outside_io::{Failed, Sink};
 
@@ -129,6 +129,15 @@ fn put_reason<E: Sink>(
         ),
         Refusal::StepTooLong { step } => put_step_above(err, about.input, step, format),
         Refusal::Unread(fault) => put_read_fault(err, about.input, fault),
+        Refusal::Unwritten(fault) => put_write_fault(err, about.output, format, fault),
+        Refusal::RefitTooMany { number } => {
+            put_command(err, about.output, number, b"too many commands")
+        }
+        Refusal::MovedOut { number } => {
+            put_command(err, about.input, number, b"moved out of range")
+        }
+        Refusal::NoPlace { place, count } => put_no_place(err, about.input, place, count),
+        Refusal::TooLarge { x, y } => put_too_large(err, x, y),
     }
 }
 
@@ -157,6 +166,101 @@ fn put_byte<E: Sink>(err: &mut E, name: &str, offset: u64, text: &[u8]) -> Resul
     let mut buffer = Buffer::new();
     let digits = buffer.format(offset).as_bytes();
     put_at(err, name.as_bytes(), b": byte ", digits, text)
+}
+
+fn put_write_fault<E: Sink>(
+    err: &mut E,
+    name: &str,
+    format: &Box<dyn Format>,
+    fault: WriteFault,
+) -> Result<(), Failed>
+    ensures { Puts (write_line name.now (meaning format.now).limit fault)
+        (sink_sight (E.taken err.old) (E.faults err.old))
+        (sink_sight (E.taken err.new) (E.faults err.new)) result }
+{
+    match fault {
+        WriteFault::StitchTooLong { number } => put_long_stitch(
+            err,
+            name,
+            number,
+            limit_of(format),
+        ),
+        WriteFault::FloatTooLong { number } => put_command(err, name, number, b"float too long"),
+        WriteFault::TooManyStops { number } => put_command(err, name, number, b"too many stops"),
+        WriteFault::TooLong { number } => {
+            put_command(err, name, number, b"more than 1000000 commands written")
+        }
+        WriteFault::Memory => put_one(err, OUT_OF_MEMORY),
+    }
+}
+
+fn put_long_stitch<E: Sink>(err: &mut E, name: &str, number: u32, limit: u32) -> Result<(), Failed>
+    ensures { Puts (long_text name.now (decimal number) (decimal limit))
+        (sink_sight (E.taken err.old) (E.faults err.old))
+        (sink_sight (E.taken err.new) (E.faults err.new)) result }
+{
+    let mut number_buffer = Buffer::new();
+    let mut limit_buffer = Buffer::new();
+    let digits = number_buffer.format(number).as_bytes();
+    let most = limit_buffer.format(limit).as_bytes();
+    put_long(err, name.as_bytes(), digits, most)
+}
+
+fn put_long<E: Sink>(err: &mut E, name: &[u8], number: &[u8], limit: &[u8]) -> Result<(), Failed>
+    ensures { Puts (long_text name.now number.now limit.now)
+        (sink_sight (E.taken err.old) (E.faults err.old))
+        (sink_sight (E.taken err.new) (E.faults err.new)) result }
+{
+    match put_four(err, b"stitch: ", name, b": command ", number) {
+        Ok(()) => put_three(err, b": stitch longer than ", limit, b"\n"),
+        Err(Failed) => Err(Failed),
+    }
+}
+
+/// Puts a line about a command of a design, counted from 1.
+fn put_command<E: Sink>(err: &mut E, name: &str, number: u32, text: &[u8]) -> Result<(), Failed>
+    ensures { Puts (command_line name.now number text.now)
+        (sink_sight (E.taken err.old) (E.faults err.old))
+        (sink_sight (E.taken err.new) (E.faults err.new)) result }
+{
+    let mut buffer = Buffer::new();
+    let digits = buffer.format(number).as_bytes();
+    put_at(err, name.as_bytes(), b": command ", digits, text)
+}
+
+fn put_no_place<E: Sink>(err: &mut E, name: &str, place: u32, count: u32) -> Result<(), Failed>
+    ensures { Puts (place_text name.now (decimal place) (decimal count))
+        (sink_sight (E.taken err.old) (E.faults err.old))
+        (sink_sight (E.taken err.new) (E.faults err.new)) result }
+{
+    let mut place_buffer = Buffer::new();
+    let mut count_buffer = Buffer::new();
+    let wanted = place_buffer.format(place).as_bytes();
+    let there = count_buffer.format(count).as_bytes();
+    put_place(err, name.as_bytes(), wanted, there)
+}
+
+fn put_place<E: Sink>(err: &mut E, name: &[u8], place: &[u8], count: &[u8]) -> Result<(), Failed>
+    ensures { Puts (place_text name.now place.now count.now)
+        (sink_sight (E.taken err.old) (E.faults err.old))
+        (sink_sight (E.taken err.new) (E.faults err.new)) result }
+{
+    match put_four(err, b"stitch: ", name, b": no colour place ", place) {
+        Ok(()) => put_three(err, b", there are ", count, b"\n"),
+        Err(Failed) => Err(Failed),
+    }
+}
+
+fn put_too_large<E: Sink>(err: &mut E, x: u32, y: u32) -> Result<(), Failed>
+    ensures { Puts (large_text (decimal x) (decimal y))
+        (sink_sight (E.taken err.old) (E.faults err.old))
+        (sink_sight (E.taken err.new) (E.faults err.new)) result }
+{
+    let mut x_buffer = Buffer::new();
+    let mut y_buffer = Buffer::new();
+    let over_x = x_buffer.format(x).as_bytes();
+    let over_y = y_buffer.format(y).as_bytes();
+    put_five(err, b"stitch: too large by ", over_x, b" ", over_y, b"\n")
 }
 
 fn put_at<E: Sink>(

@@ -1,6 +1,6 @@
 ghost use Rattle.outside_io.specs.Files.{IsName};
 ghost use Rattle.stitch_cli.specs.Sights.{store_sight};
-ghost use Rattle.stitch_cli.specs.Steps.{Loads, ReadsInput};
+ghost use Rattle.stitch_cli.specs.Steps.{Loads, ReadsDesign, ReadsInput};
 
 use crate::stop::{Refusal, Stop};
 use design_model::Bytes;
@@ -24,8 +24,25 @@ pub(crate) fn read_input<S: Store>(alloc: Global, store: &mut S, name: &str) -> 
     }
 }
 
-/// The design that a file's bytes hold.
-pub(crate) fn load(alloc: Global, format: &Box<dyn Format>, bytes: &[u8]) -> Result<Loaded, Stop>
+/// The design that an input's file holds.
+pub(crate) fn read_design<S: Store>(
+    alloc: Global,
+    store: &mut S,
+    name: &str,
+    format: &Box<dyn Format>,
+) -> Result<Loaded, Stop>
+    requires { IsName name.now }
+    ensures { ReadsDesign (meaning format.now) name.now
+        (store_sight (S.files store.old) (S.faults store.old) (S.blame store.old))
+        (store_sight (S.files store.new) (S.faults store.new) (S.blame store.new)) result }
+{
+    match read_input(alloc, store, name) {
+        Ok(bytes) => load(alloc, format, bytes.as_slice()),
+        Err(why) => Err(why),
+    }
+}
+
+fn load(alloc: Global, format: &Box<dyn Format>, bytes: &[u8]) -> Result<Loaded, Stop>
     ensures { Loads (meaning format.now) bytes.now result }
 {
     match decode_by(alloc, format, bytes) {

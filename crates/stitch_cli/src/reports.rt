@@ -1,5 +1,5 @@
 ghost use Rattle.std.specs.Prelude.{◌≡◌, ◌<◌, ◌+◌, ◌^◌, IfOk, length, string_bytes, sum_by};
-ghost use Rattle.stitch_cli.specs.Texts.{cost_text, penetrations_of, place_text, route_report, totals_line as totals_text};
+ghost use Rattle.stitch_cli.specs.Texts.{cost_text, penetrations_of, piece_place as piece_place_text, route_report, totals_line as totals_text};
 
 use design_model::{Bytes, Memory};
 use std::alloc::Global;
@@ -32,7 +32,7 @@ pub(crate) fn print_report(alloc: Global, pieces: &[PieceReport]) -> Result<Byte
 }
 
 fn piece_place(alloc: Global, report: PieceReport) -> Result<String, Memory>
-    ensures { IfOk result (λ text. string_bytes text ≡ place_text report) }
+    ensures { IfOk result (λ text. string_bytes text ≡ piece_place_text report) }
 {
     let block = report.block;
     let piece = report.piece;

@@ -3,8 +3,25 @@
 pub enum Request<'a> {
     /// Sew a drawing as one running thread.
     Route(RouteNames<'a>),
+    /// Write a design in another format, with long stitches split or long floats cut.
+    Convert {
+        names: Names<'a>,
+        splits: bool,
+        cuts: bool,
+    },
     /// Print what a file holds.
     Show(&'a str),
+    /// Write a design after edits, each of which is spelled by one word.
+    Edit {
+        names: Names<'a>,
+        edits: &'a [String],
+    },
+    /// Say whether a design fits into a hoop, whose sides are in tenths of a millimetre.
+    Hoop {
+        file: &'a str,
+        width: u32,
+        height: u32,
+    },
 }
 
 /// The files of a route: the drawing that is read, the design and the certificate that are written.
@@ -15,10 +32,9 @@ pub struct RouteNames<'a> {
     pub cert: &'a str,
 }
 
-/// The files of which the lines on standard error speak: the one that is read, and the design that is
-/// written.
+/// The file that is read, and the design that is written.
 #[derive(Clone, Copy, Debug)]
-pub(crate) struct Names<'a> {
-    pub(crate) input: &'a str,
-    pub(crate) output: &'a str,
+pub struct Names<'a> {
+    pub input: &'a str,
+    pub output: &'a str,
 }

@@ -74,7 +74,7 @@ fn deliver_route<S: Store, O: Sink, E: Sink>(
         },
         Output {
             name: names.out,
-            content: made.sewn.as_slice(),
+            content: made.bytes.as_slice(),
         },
     ];
     deliver(&outputs, made.report.as_slice(), store, out, err)

@@ -1,13 +1,17 @@
 ghost use Rattle.std.specs.Prelude.{◌≡◌, ◌≢◌, map, option_map, string_bytes};
 ghost use Rattle.std.specs.Bool.{OnTrue};
 ghost use Rattle.outside_io.specs.Files.{IsName};
-ghost use Rattle.stitch_cli.specs.Requests.{AreNames, are_apart as names_are_apart, format_of, order_of, routing_to, showing_by};
+ghost use Rattle.stitch_cli.specs.Requests.{AreNames, are_apart as names_are_apart, BothAreNames, format_of, hooping_by, order_of, rewriting_by, routing_to, showing_by};
+ghost use Rattle.stitch_cli.specs.Edits.{changes_by};
 ghost use Rattle.stitch_cli.specs.Endings.{Ends};
 ghost use Rattle.stitch_cli.specs.Runs.{IsDecided, IsDone, IsFault, IsMemory, IsQuietRun, IsRefused, IsUsage, KeepsOthers, sights};
+ghost use Rattle.stitch_cli.specs.Steps.{AreSound};
 
 use crate::command_words::request;
+use crate::hooping::hoop;
 use crate::messages::tell_usage;
-use crate::requests::{Request, RouteNames};
+use crate::requests::{Names, Request, RouteNames};
+use crate::rewriting::{Changes, rewrite};
 use crate::routing::route;
 use crate::showing::show;
 use crate::status::Status;
@@ -22,6 +26,8 @@ use std::alloc::Global;
 /// `route DRAWING OUT CERT` reads DRAWING whole, refuses what is too long, what is no plain drawing of
 /// one closed line, and a step above the limit of OUT's format, in this order, and only then writes
 /// CERT, OUT and the report. `show FILE` reads FILE whole and prints its counts, extent and blocks.
+/// `convert IN OUT` and `edit IN OUT EDIT...` read IN whole, refit or edit its design, and write OUT.
+/// `hoop FILE WIDTH HEIGHT` reads FILE whole and says whether its design fits.
 pub fn run<S: Store, O: Sink, E: Sink>(
     alloc: Global,
     words: &[String],
@@ -99,7 +105,38 @@ fn run_once<S: Store, O: Sink, E: Sink>(
 {
     match request(words) {
         Some(Request::Route(names)) => run_route(alloc, &names, formats, store, out, err),
+        Some(
+            Request::Convert {
+                names,
+                splits,
+                cuts,
+            },
+        ) => run_rewrite(
+            alloc,
+            &names,
+            &Changes::Refits { splits, cuts },
+            formats,
+            store,
+            out,
+            err,
+        ),
         Some(Request::Show(file)) => run_show(alloc, file, formats, store, out, err),
+        Some(Request::Edit { names, edits }) => run_rewrite(
+            alloc,
+            &names,
+            &Changes::Edits(edits),
+            formats,
+            store,
+            out,
+            err,
+        ),
+        Some(
+            Request::Hoop {
+                file,
+                width,
+                height,
+            },
+        ) => run_hoop(alloc, file, width, height, formats, store, out, err),
         None => tell_usage(err),
     }
 }
@@ -125,6 +162,61 @@ fn run_route<S: Store, O: Sink, E: Sink>(
     }
     match format_for(formats, names.out) {
         Some(format) => route(alloc, names, format, store, out, err),
+        None => tell_usage(err),
+    }
+}
+
+fn run_rewrite<S: Store, O: Sink, E: Sink>(
+    alloc: Global,
+    names: &Names<'_>,
+    changes: &Changes<'_>,
+    formats: &[Box<dyn Format>],
+    store: &mut S,
+    out: &mut O,
+    err: &mut E,
+) -> Status
+    requires names { BothAreNames names.now }
+    requires changes { AreSound changes.now }
+    ensures { Ends (rewriting_by names.now.input.now names.now.output.now (changes_by changes.now)
+        (format_of (map (λ format. meaning format) formats.now) names.now.input.now)
+        (format_of (map (λ format. meaning format) formats.now) names.now.output.now))
+        (sights (S.files store.old) (S.faults store.old) (S.blame store.old)
+        (O.taken out.old) (O.faults out.old) (E.taken err.old) (E.faults err.old))
+        (sights (S.files store.new) (S.faults store.new) (S.blame store.new)
+        (O.taken out.new) (O.faults out.new) (E.taken err.new) (E.faults err.new)) result }
+{
+    if names.input == names.output {
+        return tell_usage(err);
+    }
+    let Some(source) = format_for(formats, names.input) else {
+        return tell_usage(err);
+    };
+    let Some(target) = format_for(formats, names.output) else {
+        return tell_usage(err);
+    };
+    rewrite(alloc, names, source, target, changes, store, out, err)
+}
+
+fn run_hoop<S: Store, O: Sink, E: Sink>(
+    alloc: Global,
+    file: &str,
+    width: u32,
+    height: u32,
+    formats: &[Box<dyn Format>],
+    store: &mut S,
+    out: &mut O,
+    err: &mut E,
+) -> Status
+    requires { IsName file.now }
+    ensures { Ends (hooping_by file.now width height
+        (format_of (map (λ format. meaning format) formats.now) file.now))
+        (sights (S.files store.old) (S.faults store.old) (S.blame store.old)
+        (O.taken out.old) (O.faults out.old) (E.taken err.old) (E.faults err.old))
+        (sights (S.files store.new) (S.faults store.new) (S.blame store.new)
+        (O.taken out.new) (O.faults out.new) (E.taken err.new) (E.faults err.new)) result }
+{
+    match format_for(formats, file) {
+        Some(format) => hoop(alloc, file, format, width, height, store, out, err),
         None => tell_usage(err),
     }
 }

@@ -8,10 +8,10 @@ ghost use Rattle.stitch_cli.specs.Runs.{sights};
 ghost use Rattle.stitch_cli.specs.Sights.{store_sight};
 
 use crate::delivery::deliver;
+use crate::design_reports::print_loaded;
 use crate::messages::tell_stop;
-use crate::reading::{load, read_input};
+use crate::reading::read_design;
 use crate::requests::Names;
-use crate::show_report::print_loaded;
 use crate::status::Status;
 use crate::stop::Stop;
 use design_model::Bytes;
@@ -66,11 +66,7 @@ fn prepare<S: Store>(
         (store_sight (S.files store.old) (S.faults store.old) (S.blame store.old))
         (store_sight (S.files store.new) (S.faults store.new) (S.blame store.new))) }
 {
-    let bytes = match read_input(alloc, store, file) {
-        Ok(bytes) => bytes,
-        Err(why) => return Err(why),
-    };
-    let loaded = match load(alloc, format, bytes.as_slice()) {
+    let loaded = match read_design(alloc, store, file, format) {
         Ok(loaded) => loaded,
         Err(why) => return Err(why),
     };

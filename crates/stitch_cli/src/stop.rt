@@ -2,7 +2,7 @@ ghost use Rattle.std.specs.Prelude.{◌≡◌};
 
 use crate::status::Status;
 use design_model::Memory;
-use format_traits::ReadFault;
+use format_traits::{ReadFault, WriteFault};
 
 /// Why an order was refused.
 #[derive(Clone, Copy, Debug, PartialEq, Eq)]
@@ -15,6 +15,16 @@ pub enum Refusal {
     StepTooLong { step: u32 },
     /// The input file is none of its format; never for want of memory.
     Unread(ReadFault),
+    /// The output's format can't write the design; never for want of memory.
+    Unwritten(WriteFault),
+    /// A refit makes more commands than a design may have, past the act of that command.
+    RefitTooMany { number: u32 },
+    /// The point of that command would leave its range.
+    MovedOut { number: u32 },
+    /// The design has no such place for a thread, counted from 1, but so many.
+    NoPlace { place: u32, count: u32 },
+    /// The design is larger than the hoop by so many tenths of a millimetre on each side.
+    TooLarge { x: u32, y: u32 },
 }
 
 /// Why a command stopped before anything was written.

@@ -1,6 +1,6 @@
 use Rattle.std.proofs.Common.{◌≡◌, ◌++◌, ◌≤◌, drop}
 use Rattle.stitch_cli.specs.Shows.{block_lines}
-use Rattle.stitch_cli.proofs.show_report.put_blocks.Given as goal
+use Rattle.stitch_cli.proofs.design_reports.put_blocks.Given as goal
 
 -- the lines so far, and those of the blocks that are left
 abbrev pub invariant-loop-place : goal.invariant-loop-place

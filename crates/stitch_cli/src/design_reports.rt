@@ -1,6 +1,7 @@
 ghost use Rattle.std.specs.Prelude.{◌≡◌, ◌++◌, ◌+◌, ◌≤◌, ◌^◌, ◌<◌, IfOk, OnOk, decimal, length};
 ghost use Rattle.std.specs.Fmt.{signed_decimal};
 ghost use Rattle.design_model.specs.declared.design.TheConstants.{MAX_COMMANDS};
+ghost use Rattle.stitch_cli.specs.Rewrites.{written_report};
 ghost use Rattle.stitch_cli.specs.Shows.{block_line, block_lines, count_lines, ended_line, extent_line, number_line, number_text, point_text, show_report, title_lines};
 
 use design_model::{Bytes, Counts, Design, Extent, Memory, Point, block_counts, counts, extent};
@@ -21,6 +22,17 @@ pub(crate) fn print_loaded(alloc: Global, ending: &str, loaded: &Loaded) -> Resu
     put_extent(&mut text, extent(design))?;
     put_ended(&mut text, loaded.ended)?;
     put_blocks(&mut text, design, needles.as_slice())?;
+    Ok(text)
+}
+
+/// The report on a design that was written.
+pub(crate) fn print_written(alloc: Global, counts: Counts) -> Result<Bytes, Memory>
+    ensures { IfOk result (λ text. text ≡ written_report counts) }
+{
+    let mut text = Bytes::new(alloc);
+    put_number(&mut text, b"needles ", counts.needles)?;
+    put_number(&mut text, b" trims ", counts.trims)?;
+    put_number_line(&mut text, b" stops ", counts.stops)?;
     Ok(text)
 }
 

@@ -1,0 +1,35 @@
+-- Words that are too few or too many spell nothing.
+use Rattle.std.proofs.Common.{◌≡◌, ◌≢◌, ◌<◌, ◌≤◌, ◌⊎◌, inl, inr, ℕ, Bool, true, false, nat_lt, List, [], ◌∷◌, length, map, Option, Some, None, refl, IsSome, arith}
+use Rattle.std.proofs.lemmas.Bool.{ltb-true}
+use Rattle.std.specs.Prelude.{is_some}
+use Rattle.stitch_cli.specs.Changes.{Change}
+use Rattle.stitch_cli.specs.Requests.{asked_edit, asked_hoop}
+use Rattle.stitch_cli.specs.Words.{before_edits}
+
+pub few_no_hoop : {X : Type 0} (f : X → List ℕ) (words : List X) → nat_lt (length words) 3 ≡ true
+    → None ≡ asked_hoop (map f words)
+few_no_hoop f [] few = refl
+few_no_hoop f (a ∷ []) few = refl
+few_no_hoop f (a ∷ b ∷ []) few = refl
+few_no_hoop f (a ∷ b ∷ c ∷ rest) few =
+    let less = ltb-true (length (a ∷ b ∷ c ∷ rest)) 3 few in absurd (omega (arith, less))
+
+pub many_no_hoop : {X : Type 0} (f : X → List ℕ) (words : List X) → nat_lt (length words) 4 ≡ false
+    → None ≡ asked_hoop (map f words)
+many_no_hoop f [] many = cc
+many_no_hoop f (a ∷ []) many = cc
+many_no_hoop f (a ∷ b ∷ []) many = cc
+many_no_hoop f (a ∷ b ∷ c ∷ []) many = cc
+many_no_hoop f (a ∷ b ∷ c ∷ d ∷ rest) many = refl
+
+pub few_no_edit : {X : Type 0} (f : X → List ℕ) (words : List X) → length words < 2 → None ≡ asked_edit (map f words)
+few_no_edit f [] few = refl
+few_no_edit f (a ∷ []) few = refl
+few_no_edit f (a ∷ b ∷ rest) few = absurd (omega (arith, few))
+
+-- an edit before others that is spelled decides nothing
+pub spelled_before : (first : Option Change) (later : Option (List Change)) (change : Change) → Some change ≡ first
+    → is_some later ≡ is_some (before_edits first later)
+spelled_before (Some change) (Some changes) other is = refl
+spelled_before (Some change) None other is = refl
+spelled_before None later other is = cc

@@ -1,0 +1,9 @@
+use Rattle.std.proofs.Common.{◌≡◌, drop, map, string_bytes}
+use Rattle.std.specs.Prelude.{is_some}
+use Rattle.stitch_cli.specs.Words.{edits_spelled}
+use Rattle.stitch_cli.proofs.command_words.are_edits.Given as goal
+
+-- all words spell edits where those that are left do
+abbrev pub invariant-loop-word : goal.invariant-loop-word
+invariant-loop-word l = is_some (edits_spelled (map (λ word. string_bytes word) (drop l.word-index l.words)))
+    ≡ is_some (edits_spelled (map (λ word. string_bytes word) l.words))

@@ -1,0 +1,54 @@
+-- Changes of a design that was read, before it is written: what it becomes, or why it is refused.
+use Rattle.std.specs.Prelude.{◌≡◌, ◌⊎◌, ℕ, ◌-◌, ℤ, nat_lt, List, [], ◌∷◌, Option, Some, None, Result, Ok, Err, if◌then◌else◌}
+use Rattle.design_model.specs.Designs.{DesignValue}
+use Rattle.design_edits.specs.declared.axis.Axis.{Axis}
+use Rattle.design_edits.specs.Colours.{place_count, recoloured}
+use Rattle.design_edits.specs.Moves.{first_outside, mirrored, shifted, turned}
+use Rattle.step_splitter.specs.declared.refitting.RefitFault.TheVariants as fault
+use Rattle.step_splitter.specs.declared.refitting.RefitMode.{RefitMode}
+use Rattle.step_splitter.specs.declared.refitting.RefitMode.TheVariants as mode
+use Rattle.step_splitter.specs.Refits.{Refits}
+use Rattle.stitch_cli.specs.declared.stop.Refusal.{Refusal}
+use Rattle.stitch_cli.specs.declared.stop.Refusal.TheVariants as refusal
+
+-- a change: long stitches are split, long floats are cut, the design is moved or turned or mirrored, or
+-- a block, counted from 1, gets another thread
+pub data Change : Type 0 where
+  split : Change
+  cut : Change
+  shift : (dx dy : ℤ) → Change
+  turn : (quarters : ℕ) → Change
+  mirror : Axis → Change
+  thread : (place number : ℕ) → Change
+
+-- what a refit at that limit makes of a design
+abbrev pub RefitsTo : RefitMode → ℕ → DesignValue → Result DesignValue Refusal → Type 0
+RefitsTo m limit d (Ok refitted) = Refits m limit d (Ok refitted)
+RefitsTo m limit d (Err (refusal.RefitTooMany number)) = Refits m limit d (Err (fault.TooMany number))
+RefitsTo m limit d (Err _) = ⊥
+
+-- a shifted design, unless the point of a command would be out of range
+abbrev pub shifted_unless : Option ℕ → DesignValue → Result DesignValue Refusal
+shifted_unless None moved = Ok moved
+shifted_unless (Some number) moved = Err (refusal.MovedOut number)
+
+-- a design with a thread for a block counted from 1, unless it has no such place for a thread
+abbrev pub threaded : ℕ → ℕ → DesignValue → Result DesignValue Refusal
+threaded place number d = if nat_lt (place - 1) (place_count d)
+    then Ok (recoloured (place - 1) number d) else Err (refusal.NoPlace place (place_count d))
+
+-- what a change makes of a design, refits being at that limit
+abbrev pub Becomes : ℕ → Change → DesignValue → Result DesignValue Refusal → Type 0
+Becomes limit split d r = RefitsTo mode.Split limit d r
+Becomes limit cut d r = RefitsTo mode.Cut limit d r
+Becomes limit (shift dx dy) d r = r ≡ shifted_unless (first_outside (shifted dx dy d).commands) (shifted dx dy d)
+Becomes limit (turn quarters) d r = r ≡ Ok (turned quarters d)
+Becomes limit (mirror axis) d r = r ≡ Ok (mirrored axis d)
+Becomes limit (thread place number) d r = r ≡ threaded place number d
+
+-- what changes in order make of a design: the first that is refused decides
+abbrev pub BecomesAll : ℕ → List Change → DesignValue → Result DesignValue Refusal → Type 0
+BecomesAll limit [] d r = r ≡ Ok d
+BecomesAll limit (change ∷ later) d r =
+    ((mid : DesignValue) × Becomes limit change d (Ok mid) × BecomesAll limit later mid r)
+    ⊎ ((why : Refusal) × Becomes limit change d (Err why) × (r ≡ Err why))

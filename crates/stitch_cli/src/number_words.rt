@@ -1,0 +1,40 @@
+ghost use Rattle.std.specs.Prelude.{◌≡◌, ◌≤◌, IfSome, unsigned_abs};
+ghost use Rattle.design_model.specs.WholeNumbers.{whole_of};
+ghost use Rattle.stitch_cli.specs.Words.{bounded as bounded_by, number_within, sized as sized_by};
+
+use design_model::{Whole, parse_whole};
+
+/// The number that a word spells, where it is at most `most` in size.
+pub(crate) fn sized(most: u32, word: &[u8]) -> Option<i32>
+    ensures value { result ≡ sized_by most (whole_of word.now) }
+    ensures most { IfSome result (λ number. unsigned_abs number ≤ most) }
+{
+    match parse_whole(word) {
+        Whole::Value(number) if number.unsigned_abs() <= most => Some(number),
+        Whole::Value(_) | Whole::Outside | Whole::NotANumber => None,
+    }
+}
+
+/// The number that a word spells, where it is from `least` to `most`.
+pub(crate) fn bounded(least: u32, most: u32, word: &[u8]) -> Option<u32>
+    ensures value { result ≡ bounded_by least most (whole_of word.now) }
+    ensures least { IfSome result (λ number. least ≤ number) }
+    ensures most { IfSome result (λ number. number ≤ most) }
+{
+    match parse_whole(word) {
+        Whole::Value(number) if number >= 0 => within(least, most, number.unsigned_abs()),
+        Whole::Value(_) | Whole::Outside | Whole::NotANumber => None,
+    }
+}
+
+fn within(least: u32, most: u32, number: u32) -> Option<u32>
+    ensures value { result ≡ number_within least most number }
+    ensures least { IfSome result (λ number. least ≤ number) }
+    ensures most { IfSome result (λ number. number ≤ most) }
+{
+    if least <= number && number <= most {
+        Some(number)
+    } else {
+        None
+    }
+}
