@@ -4,5 +4,6 @@ pub mod EndingLemmas
 pub mod PointLemmas
 mod PlacingFacts
 mod RecordFacts
+mod RereadingFacts
 pub mod WriterLemmas
 pub mod rereading
