@@ -71,6 +71,22 @@ module _ (p q : Point) (step n : ℕ) (some : 1 ≤ n) where
       (axis_within p.x q.x n i 30000 some there a.0 b.0)
       (axis_within p.y q.y n i 30000 some there a.1 b.1)
 
+-- the ends of the steps keep close, and the last is the other end of the segment
+pub comes_close : (p q : Point) (step : ℕ) → 1 ≤ size_of (move_between p q) → 1 ≤ step
+    → KeepsClose step p (split_points p q step) × (last_from p (split_points p q step) ≡ q)
+comes_close p q step sized low =
+    let n : ℕ = steps_of p q step in
+    let size : ℕ = size_of (move_between p q) in
+    let some : 1 ≤ n = div_ceil_some size step sized low in
+    let f : ℕ → Point = λ i. point_at p q n i in
+    let first : f 0 ≡ p = first_point p q step n some in
+    let Close : Point → Type 0 = λ r. KeepsClose step r (split_points p q step) in
+    let Last : Point → Type 0 = λ r. last_from r (split_points p q step) ≡ q in (
+      subst Close first
+          (close_along f step 0 n (λ i h. each_close p q step n some (div_ceil_covers size step low) i)),
+      subst Last first (last_along f 0 n ∙ (ap f (omega arith) ∙ last_point p q step n some)),
+    )
+
 -- the split of a segment leads from its one end to the other
 pub leads : (p q : Point) (step : ℕ) → p ≢ q → IsNeedlePoint p → IsNeedlePoint q → 1 ≤ step
     → LeadsTo p q step (split_points p q step)
@@ -80,16 +96,14 @@ leads p q step differ from to low =
     let some : 1 ≤ n = div_ceil_some size step (size_some p q differ) low in
     let f : ℕ → Point = λ i. point_at p q n i in
     let first : f 0 ≡ p = first_point p q step n some in
-    let Close : Point → Type 0 = λ r. KeepsClose step r (split_points p q step) in
+    let close = comes_close p q step (size_some p q differ) low in
     let Moving : Point → Type 0 = λ r. KeepsMoving r (split_points p q step) in
-    let Last : Point → Type 0 = λ r. last_from r (split_points p q step) ≡ q in
     record {
       count = length-map-range_with_len f 1 n;
       some = omega (arith, length-map-range_with_len f 1 n);
-      close = subst Close first
-          (close_along f step 0 n (λ i h. each_close p q step n some (div_ceil_covers size step low) i));
+      close = close.0;
       moving = subst Moving first
           (moving_along f 0 n (λ i h. each_moves p q step n some (div_ceil_few size step low) i));
       in_range = all_along IsNeedlePoint f n (each_within p q step n some from to);
-      last = subst Last first (last_along f 0 n ∙ (ap f (omega arith) ∙ last_point p q step n some));
+      last = close.1;
     }

@@ -6,3 +6,4 @@ mod ChainLemmas
 mod RefitFacts
 pub mod RefitLemmas
 pub mod ToldLemmas
+pub mod FitLemmas

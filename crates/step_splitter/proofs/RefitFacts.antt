@@ -4,8 +4,9 @@ use Rattle.design_model.specs.declared.act.Act.{Act}
 use Rattle.design_model.specs.declared.act.Act.TheVariants as act
 use Rattle.design_model.specs.declared.command.Command.TheVariants as command
 use Rattle.design_model.specs.Acts.{acts_along}
+use Rattle.design_model.specs.Points.{origin}
 use Rattle.step_splitter.specs.declared.refitting.RefitMode.TheVariants as mode
-use Rattle.step_splitter.specs.Refits.{refitted_acts, refitted_commands}
+use Rattle.step_splitter.specs.Refits.{is_near_act, refitted_acts, refitted_commands}
 use Rattle.step_splitter.proofs.SplitFacts.{at}
 
 -- a needle that is no float, and one that is
@@ -53,3 +54,16 @@ pub known_commands :
     ≡ command.Stitch (at (pos 0) (pos 0)) ∷ command.Jump (at (pos 8) (pos 0))
     ∷ command.Stitch (at (pos 8) (pos 0)) ∷ command.Trim ∷ command.Stop ∷ []
 known_commands = refl
+
+-- a needle is near within the limit, and anywhere if it is loose or a float
+pub known_far : is_near_act 121 false origin (needle (pos 122) (pos 0)) ≡ false
+known_far = refl
+
+pub known_within : is_near_act 121 false origin (needle (pos 121) (negsuc 120)) ≡ true
+known_within = refl
+
+pub known_loose_near : is_near_act 121 true origin (needle (pos 122) (pos 0)) ≡ true
+known_loose_near = refl
+
+pub known_float_near : is_near_act 121 false origin (float (pos 122) (pos 0)) ≡ true
+known_float_near = refl

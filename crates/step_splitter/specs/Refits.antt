@@ -1,5 +1,6 @@
 -- Designs whose acts are made to fit a limit, which is in whole tenths of a millimetre. Own rules.
-use Rattle.std.specs.Prelude.{◌≡◌, ℕ, ◌<◌, ◌≤◌, Bool, true, false, not, ◌&&◌, List, [], ◌∷◌, ◌++◌, length, map, Result, Ok, Err, if◌then◌else◌}
+use Rattle.std.specs.Prelude.{◌≡◌, ℕ, ◌<◌, ◌≤◌, Bool, true, false, not, ◌&&◌, ◌||◌, IsTrue, List, [], ◌∷◌, ◌++◌, length, map, Result, Ok, Err, if◌then◌else◌}
+use Rattle.std.specs.List.{list_all}
 use Rattle.design_model.specs.declared.act.Act.{Act}
 use Rattle.design_model.specs.declared.act.Act.TheVariants as act
 use Rattle.design_model.specs.declared.act.NumberedAct.{NumberedAct}
@@ -57,6 +58,30 @@ refitted_from m limit loose place (a ∷ rest) = refitted_act m limit loose plac
 -- the acts in the place of a design's
 abbrev pub refitted_acts : RefitMode → ℕ → List Act → List Act
 refitted_acts m limit acts = refitted_from m limit true origin acts
+
+-- a needle that is neither loose nor a float is no farther than the limit from the one before
+abbrev pub is_near_act : ℕ → Bool → Point → Act → Bool
+is_near_act limit loose place (act.Needle p true) = true
+is_near_act limit loose place (act.Needle p false) = loose || is_within limit (move_between place p)
+is_near_act limit loose place act.Trim = true
+is_near_act limit loose place act.Stop = true
+
+-- so is each such needle of those acts
+abbrev pub KeepsNear : ℕ → Bool → Point → List Act → Type 0
+KeepsNear limit loose place [] = Unit {0}
+KeepsNear limit loose place (a ∷ rest) =
+    IsTrue (is_near_act limit loose place a) × KeepsNear limit (is_loose_after a) (place_after place a) rest
+
+-- an act that is no float
+abbrev pub is_no_float : Act → Bool
+is_no_float (act.Needle p float) = not float
+is_no_float act.Trim = true
+is_no_float act.Stop = true
+
+-- what a refit of that mode is for: no needle is too far from the one before, or no act is a float
+abbrev pub Fits : RefitMode → ℕ → List Act → Type 0
+Fits mode.Split limit acts = KeepsNear limit true origin acts
+Fits mode.Cut limit acts = IsTrue (list_all is_no_float acts)
 
 -- the commands of an act: a float is a jump and a stitch
 abbrev pub commands_of_act : Act → List Command

@@ -4,7 +4,7 @@ ghost use Rattle.design_model.specs.declared.design.TheConstants.{MAX_COMMANDS};
 ghost use Rattle.design_model.specs.Acts.{acts_along, acts_of, bare};
 ghost use Rattle.design_model.specs.Commands.{is_in_range};
 ghost use Rattle.step_splitter.specs.declared.segment.TheConstants.{MAX_STEP};
-ghost use Rattle.step_splitter.specs.Refits.{Refits, refitted_acts};
+ghost use Rattle.step_splitter.specs.Refits.{Fits, Refits, refitted_acts};
 ghost use Rattle.step_splitter.specs.RefitSteps.{RefitsAll};
 
 use crate::refit_progress::Progress;
@@ -43,7 +43,7 @@ impl From<Memory> for RefitFault {
 
 /// A design with the same label and threads, whose acts are made to fit the limit, in tenths of a
 /// millimetre. Its commands are a jump and a stitch for a float, and one for each other act.
-#[tactic(auto, using(crate::proofs::ToldLemmas::refitted_told))]
+#[tactic(auto, using(crate::proofs::ToldLemmas::refitted_told, crate::proofs::FitLemmas::refitted_fits))]
 pub fn refit(
     alloc: Global,
     design: &Design,
@@ -55,6 +55,7 @@ pub fn refit(
     ensures value { Refits mode limit design.now result }
     ensures acts { IfOk result (λ refitted.
         bare (acts_of refitted) ≡ refitted_acts mode limit (bare (acts_of design.now))) }
+    ensures fits { IfOk result (λ refitted. Fits mode limit (bare (acts_of refitted))) }
 {
     let mut refitted = design.without_commands(alloc);
     refit_commands(alloc, &mut refitted, design.commands(), limit, mode)?;
