@@ -9,3 +9,4 @@ mod LoopLemmas
 mod PointLists
 mod LoopSewing
 mod SpellingFacts
+mod WordLemmas

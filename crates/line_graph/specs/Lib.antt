@@ -10,6 +10,8 @@ pub mod Sewing
 pub mod Spelling
 pub mod Loops
 pub mod Laws
+pub mod Words
+pub mod Growing
 -- of the reader's inside
 pub mod Numerals
 pub mod LoopShapes

@@ -2,6 +2,7 @@
 //! a drawing of one closed line.
 #![tactic(auto)]
 
+mod draw_fault;
 mod drawing;
 mod laws;
 mod limits;
@@ -16,8 +17,10 @@ mod point_text;
 mod spelling;
 #[cfg(test)]
 mod tests;
+mod text_words;
 mod words;
 
+pub use draw_fault::{DrawFault, DrawKind};
 pub use drawing::Drawing;
 pub use laws::{
     a_loop_is_sewn_by_its_line, plain_texts_share_steps, the_limits_of_drawings,

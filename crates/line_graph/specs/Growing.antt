@@ -1,0 +1,64 @@
+-- Drawings that grow line by line and block by block, within the limits of a drawing. Costs count steps.
+use Rattle.std.specs.Prelude.{ℕ, ◌+◌, ◌-◌, ◌==◌, Bool, false, not, ◌&&◌, ◌||◌, nat_lt, List, [], ◌∷◌, ◌++◌, Result, Ok, Err, length, sum_by, if◌then◌else◌}
+use Rattle.std.specs.List.{list_any}
+use Rattle.design_model.specs.declared.point.Point.{Point}
+use Rattle.design_model.specs.Points.{is_same_point}
+use Rattle.line_graph.specs.declared.draw_fault.DrawKind.{DrawKind}
+use Rattle.line_graph.specs.declared.draw_fault.DrawKind.TheVariants as kind
+use Rattle.line_graph.specs.declared.limits.TheConstants.{MAX_BLOCKS, MAX_COST, MAX_LINES, MAX_POINTS}
+use Rattle.line_graph.specs.Drawings.{DrawingValue, LineValue}
+use Rattle.line_graph.specs.Needles.{line_steps}
+
+-- the points of all these lines, counted
+abbrev pub point_count : List LineValue → ℕ
+point_count lines = sum_by (λ line. length line.points) lines
+
+-- the steps of all these lines
+abbrev pub step_count : ℕ → List LineValue → ℕ
+step_count step lines = sum_by (λ line. line_steps step line.points) lines
+
+-- a line is in that block
+abbrev pub is_used : DrawingValue → ℕ → Bool
+is_used d block = list_any (λ line. line.block == block) d.lines
+
+-- there is a block, and no line is in the last one
+abbrev pub is_last_empty : DrawingValue → Bool
+is_last_empty d = not (length d.threads == 0) && not (is_used d (length d.threads - 1))
+
+-- the drawing with one block more
+abbrev pub with_block : DrawingValue → ℕ → DrawingValue
+with_block d thread = record d { threads = d.threads ++ thread ∷ [] }
+
+-- the drawing with that block, or why it may not have it
+abbrev pub block_added : DrawingValue → ℕ → Result DrawingValue DrawKind
+block_added d thread =
+    if is_last_empty d then Err kind.EmptyBlock
+    else (if length d.threads == MAX_BLOCKS then Err kind.TooManyBlocks
+    else Ok (with_block d thread))
+
+-- a point that is the same as the one before
+abbrev pub has_repeat : List Point → Bool
+has_repeat [] = false
+has_repeat (p ∷ []) = false
+has_repeat (p ∷ q ∷ rest) = is_same_point p q || has_repeat (q ∷ rest)
+
+-- the drawing with one line more in its last block
+abbrev pub with_line : DrawingValue → List Point → DrawingValue
+with_line d points =
+    record d { lines = d.lines ++ record { block = length d.threads - 1; points = points } ∷ [] }
+
+-- the drawing with that line, or why it may not have it: the first of these faults
+abbrev pub line_added : DrawingValue → List Point → Result DrawingValue DrawKind
+line_added d points =
+    if nat_lt (length points) 2 then Err kind.FewPoints
+    else (if has_repeat points then Err kind.RepeatedPoint
+    else (if length d.lines == MAX_LINES then Err kind.TooManyLines
+    else (if nat_lt MAX_POINTS (point_count d.lines + length points) then Err kind.TooManyPoints
+    else (if nat_lt MAX_COST (step_count d.step d.lines + line_steps d.step points) then Err kind.TooMuchCost
+    else Ok (with_line d points)))))
+
+-- the drawing where it may end so, with a line in each of its blocks
+abbrev pub finished : DrawingValue → Result DrawingValue DrawKind
+finished d =
+    if length d.threads == 0 then Err kind.NoBlock
+    else (if is_last_empty d then Err kind.EmptyBlock else Ok d)
