@@ -1,6 +1,7 @@
 ghost use Rattle.std.specs.Prelude.{◌≡◌};
 
 use design_model::Memory;
+use std::alloc::AllocFailed;
 
 /// What is wrong with a drawing or a drawing text.
 #[derive(Clone, Copy, Debug, PartialEq, Eq)]
@@ -47,6 +48,16 @@ impl From<Memory> for DrawKind {
     ghost from_gives = { λ _ e. e ≡ kind.Memory };
 
     fn from(_memory: Memory) -> DrawKind {
+        DrawKind::Memory
+    }
+}
+
+impl<T: Drop> From<AllocFailed<T>> for DrawKind {
+    ghost use Rattle.line_graph.specs.declared.draw_fault.DrawKind.TheVariants as kind;
+
+    ghost from_gives = { λ _ e. e ≡ kind.Memory };
+
+    fn from(_error: AllocFailed<T>) -> DrawKind {
         DrawKind::Memory
     }
 }

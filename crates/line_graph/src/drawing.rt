@@ -67,6 +67,34 @@ impl Drawing {
         })
     }
 
+    /// The drawing of these parts.
+    pub(crate) fn of_parts(
+        label: ArrayVec<u8, MAX_LABEL>,
+        step: u32,
+        threads: ArrayVec<u8, MAX_BLOCKS>,
+        lines: Vec<Line>,
+    ) -> Drawing
+        requires { KeepsDrawing (record {
+            label = label.items;
+            step = step;
+            threads = threads.items;
+            lines = lines.items;
+        }) }
+        ensures { result ≡ record {
+            label = label.items;
+            step = step;
+            threads = threads.items;
+            lines = lines.items;
+        } }
+    {
+        Drawing {
+            label,
+            step,
+            threads,
+            lines,
+        }
+    }
+
     /// The longest step on each axis, in tenths of a millimetre.
     pub fn step(&self) -> u32
         ensures value { result ≡ self.now.step }

@@ -4,9 +4,11 @@
 
 mod draw_fault;
 mod drawing;
+mod drawing_maker;
 mod laws;
 mod limits;
 mod line;
+mod line_shape;
 mod loop_fault;
 mod loop_shape;
 mod loop_text;
