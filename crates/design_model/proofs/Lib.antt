@@ -5,3 +5,6 @@ mod ExtentFacts
 pub mod ExtentLemmas
 mod BlockFacts
 pub mod BlockLemmas
+pub mod CommandLemmas
+mod WholeFacts
+pub mod WholeLemmas

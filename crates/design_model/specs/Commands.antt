@@ -1,7 +1,8 @@
--- The ranges of a command's point.
-use Rattle.std.specs.Prelude.{Bool, true}
+-- The point of a command, and its range.
+use Rattle.std.specs.Prelude.{Bool, true, false, Option, Some, None}
 use Rattle.design_model.specs.declared.command.Command.{Command}
 use Rattle.design_model.specs.declared.command.Command.TheVariants.{Stitch, Jump, Trim, Stop}
+use Rattle.design_model.specs.declared.point.Point.{Point}
 use Rattle.design_model.specs.declared.point.TheConstants.{NEEDLE_LIMIT, JUMP_LIMIT}
 use Rattle.design_model.specs.Points.{is_within}
 
@@ -11,3 +12,24 @@ is_in_range (Stitch p) = is_within NEEDLE_LIMIT p
 is_in_range (Jump p) = is_within JUMP_LIMIT p
 is_in_range Trim = true
 is_in_range Stop = true
+
+-- where a stitch or a jump leads
+abbrev pub target_of : Command → Option Point
+target_of (Stitch p) = Some p
+target_of (Jump p) = Some p
+target_of Trim = None
+target_of Stop = None
+
+-- the same stitch or jump at another point
+abbrev pub moved_to : Command → Point → Command
+moved_to (Stitch q) p = Stitch p
+moved_to (Jump q) p = Jump p
+moved_to Trim p = Trim
+moved_to Stop p = Stop
+
+-- the command is a stitch or a jump, and the point is in its range
+abbrev pub takes_point : Command → Point → Bool
+takes_point (Stitch q) p = is_within NEEDLE_LIMIT p
+takes_point (Jump q) p = is_within JUMP_LIMIT p
+takes_point Trim p = false
+takes_point Stop p = false

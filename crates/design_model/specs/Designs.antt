@@ -1,5 +1,5 @@
 -- Designs as contracts see them: three lists within their limits.
-use Rattle.std.specs.Prelude.{◌≡◌, ℕ, ◌+◌, ◌%◌, ◌<◌, ◌≤◌, List, [], ◌∷◌, ◌++◌, true, false, length, Result, Ok, Err, IsTrue, slice_get, unwrap_or}
+use Rattle.std.specs.Prelude.{◌≡◌, ℕ, ◌+◌, ◌%◌, ◌<◌, ◌≤◌, List, [], ◌∷◌, ◌++◌, true, false, length, Result, Ok, Err, IsTrue, slice_get, slice_set, unwrap_or}
 use Rattle.std.specs.List.{list_all}
 use Rattle.design_model.specs.declared.command.Command.{Command}
 use Rattle.design_model.specs.declared.design.ModelFault.{ModelFault}
@@ -33,9 +33,21 @@ with_label d text = record d { label = text }
 abbrev pub with_thread : DesignValue → ℕ → DesignValue
 with_thread d thread = record d { threads = d.threads ++ thread ∷ [] }
 
+-- the design with another number in the place of a kept one
+abbrev pub with_thread_at : DesignValue → ℕ → ℕ → DesignValue
+with_thread_at d place thread = record d { threads = slice_set d.threads place thread }
+
 -- the design with one command more
 abbrev pub with_command : DesignValue → Command → DesignValue
 with_command d command = record d { commands = d.commands ++ command ∷ [] }
+
+-- the design with another command in the place of one
+abbrev pub with_command_at : DesignValue → ℕ → Command → DesignValue
+with_command_at d index command = record d { commands = slice_set d.commands index command }
+
+-- the label and the threads alone
+abbrev pub without_commands : DesignValue → DesignValue
+without_commands d = record d { commands = [] }
 
 -- the thread of a block: the kept number, else one from 1 to 64 by the block's place
 abbrev pub thread_of : DesignValue → ℕ → ℕ

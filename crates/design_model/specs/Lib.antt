@@ -11,3 +11,4 @@ pub mod ActWalks
 pub mod Counts
 pub mod Extents
 pub mod Blocks
+pub mod WholeNumbers

@@ -1,5 +1,5 @@
 ghost use Rattle.std.specs.Prelude.{◌≡◌};
-ghost use Rattle.design_model.specs.Commands.{is_in_range as command_is_in_range};
+ghost use Rattle.design_model.specs.Commands.{is_in_range as command_is_in_range, moved_to as command_moved_to, takes_point as command_takes_point, target_of};
 
 use crate::point::{JUMP_LIMIT, NEEDLE_LIMIT, Point};
 
@@ -25,6 +25,38 @@ impl Command {
             Command::Stitch(at) => at.is_within(NEEDLE_LIMIT),
             Command::Jump(at) => at.is_within(JUMP_LIMIT),
             Command::Trim | Command::Stop => true,
+        }
+    }
+
+    /// Where it leads, if it is a stitch or a jump.
+    pub fn target(self) -> Option<Point>
+        ensures { result ≡ target_of self }
+    {
+        match self {
+            Command::Stitch(at) | Command::Jump(at) => Some(at),
+            Command::Trim | Command::Stop => None,
+        }
+    }
+
+    /// Says whether it is a stitch or a jump and the point is in its range.
+    pub fn takes_point(self, point: Point) -> bool
+        ensures { result ≡ command_takes_point self point }
+    {
+        match self {
+            Command::Stitch(_) => point.is_within(NEEDLE_LIMIT),
+            Command::Jump(_) => point.is_within(JUMP_LIMIT),
+            Command::Trim | Command::Stop => false,
+        }
+    }
+
+    /// The same stitch or jump at another point; a trim or a stop stays as it is.
+    pub fn moved_to(self, point: Point) -> Command
+        ensures { result ≡ command_moved_to self point }
+    {
+        match self {
+            Command::Stitch(_) => Command::Stitch(point),
+            Command::Jump(_) => Command::Jump(point),
+            Command::Trim | Command::Stop => self,
         }
     }
 }

@@ -1,8 +1,11 @@
-ghost use Rattle.std.specs.Prelude.{◌≡◌, ◌<◌, ◌≤◌, ◌∷◌, ◌++◌, [], length};
+ghost use Rattle.std.specs.Prelude.{◌≡◌, ◌<◌, ◌≤◌, ◌∷◌, ◌++◌, [], length, slice_get, slice_set, IfSome, IsSomeAnd, IsTrue};
+ghost use Rattle.std.specs.List.{list_all};
+ghost use Rattle.design_model.specs.Commands.{is_in_range, moved_to, takes_point};
 ghost use Rattle.design_model.specs.Labels.{IsLabel};
 
 use crate::command::Command;
 use crate::memory::Memory;
+use crate::point::Point;
 use arrayvec::ArrayVec;
 use std::alloc::{AllocFailed, Global};
 use std::marker::Model;
@@ -66,7 +69,7 @@ impl Model for Design {
 }
 
 impl Design {
-    ghost use Rattle.design_model.specs.Designs.{KeepsLimits, Pushes, empty_design, with_label, with_thread, thread_of};
+    ghost use Rattle.design_model.specs.Designs.{KeepsLimits, Pushes, empty_design, with_command_at, with_label, with_thread, with_thread_at, without_commands, thread_of};
 
     /// A design without label, threads and commands.
     pub fn new(alloc: Global) -> Self
@@ -77,6 +80,19 @@ impl Design {
             threads: ArrayVec::new(),
             commands: Vec::new(alloc),
         }
+    }
+
+    /// A design with the label and the threads of this one, and no command.
+    pub fn without_commands(&self, alloc: Global) -> Self
+        ensures { result ≡ without_commands self.now }
+    {
+        let mut design = Design::new(alloc);
+        design.set_label(self.label());
+        design
+            .threads
+            .try_extend_from_slice(self.threads())
+            .unwrap();
+        design
     }
 
     /// Sets the label.
@@ -102,6 +118,14 @@ impl Design {
         ensures { self.new ≡ with_thread self.old thread }
     {
         self.threads.push(thread);
+    }
+
+    /// Puts another thread number in the place of a kept one.
+    pub fn put_thread(&mut self, place: usize, thread: u8)
+        requires { place < length self.old.threads }
+        ensures { self.new ≡ with_thread_at self.old place thread }
+    {
+        self.threads.as_mut_slice()[place] = thread;
     }
 
     /// The kept thread numbers, those of the first blocks.
@@ -143,4 +167,25 @@ impl Design {
     {
         self.commands.as_slice()
     }
+
+    /// Moves the stitch or the jump at `index` to a point in its range.
+    pub fn put_point(&mut self, index: usize, point: Point)
+        requires { IsSomeAnd (slice_get self.old.commands index) (λ command. IsTrue (takes_point command point)) }
+        ensures { IfSome (slice_get self.old.commands index)
+            (λ command. self.new ≡ with_command_at self.old index (moved_to command point)) }
+    {
+        move_one(&mut self.commands, index, point);
+    }
+}
+
+#[tactic(auto, using(crate::proofs::CommandLemmas::moved_in_place, crate::proofs::CommandLemmas::moved_in_range))]
+fn move_one(commands: &mut Vec<Command>, index: usize, point: Point)
+    requires { IsSomeAnd (slice_get commands.old.items index) (λ command. IsTrue (takes_point command point)) }
+    ensures moved { IfSome (slice_get commands.old.items index)
+        (λ command. commands.new.items ≡ slice_set commands.old.items index (moved_to command point)) }
+    ensures length { length commands.new.items ≡ length commands.old.items }
+    ensures in_range { IsTrue (list_all is_in_range commands.old.items) → IsTrue (list_all is_in_range commands.new.items) }
+{
+    let command = commands[index];
+    commands[index] = command.moved_to(point);
 }

@@ -19,6 +19,7 @@ mod tally;
 #[cfg(test)]
 mod tests;
 mod thread_state;
+mod whole_number;
 
 pub use act::{Act, NumberedAct};
 pub use act_lists::acts;
@@ -35,3 +36,4 @@ pub use memory::Memory;
 pub use point::{JUMP_LIMIT, NEEDLE_LIMIT, Point};
 pub use tally::Counts;
 pub use thread_state::ThreadState;
+pub use whole_number::{MAX_WHOLE, Whole, parse_whole};

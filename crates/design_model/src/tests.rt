@@ -1,6 +1,6 @@
 use crate::{
     Act, Acts, Bytes, Command, Counts, Design, Extent, Memory, ModelFault, NumberedAct, Point,
-    acts, block_counts, counts, extent,
+    Whole, acts, block_counts, counts, extent, parse_whole,
 };
 use std::test::Fail;
 
@@ -142,5 +142,69 @@ fn a_design_is_counted_measured_and_parted_into_blocks(rt: HostRuntime) -> Resul
             "{commands:?}"
         );
     }
+    Ok(())
+}
+
+#[test]
+fn a_word_spells_a_whole_number_of_nine_digits(rt: HostRuntime) {
+    let cases = [
+        ("0", Whole::Value(0)),
+        ("-0", Whole::Value(0)),
+        ("-007", Whole::Value(-7)),
+        ("999999999", Whole::Value(999_999_999)),
+        ("-999999999", Whole::Value(-999_999_999)),
+        ("0000000000000000000001", Whole::Value(1)),
+        ("1000000000", Whole::Outside),
+        ("-99999999999999999999999999999999999999", Whole::Outside),
+        ("99999999999999999999999999999999999999x", Whole::NotANumber),
+        ("", Whole::NotANumber),
+        ("-", Whole::NotANumber),
+        ("+5", Whole::NotANumber),
+        ("--5", Whole::NotANumber),
+        ("5-", Whole::NotANumber),
+    ];
+    for (word, spelled) in cases {
+        assert_eq!(rt; parse_whole(word.as_bytes()), spelled, "`{word}`");
+    }
+}
+
+fn put_thread(design: &mut Design, place: usize, thread: u8) {
+    if place < design.threads().len() {
+        design.put_thread(place, thread);
+    }
+}
+
+fn put_point(design: &mut Design, index: usize, point: Point) {
+    if index < design.commands().len() && design.commands()[index].takes_point(point) {
+        design.put_point(index, point);
+    }
+}
+
+#[test]
+fn one_thread_and_one_point_are_put_in_place(rt: HostRuntime) -> Result<(), Fail> {
+    let mut design = Design::new(rt.alloc());
+    design.push_thread(5);
+    for command in MIXED {
+        design.push(command)?;
+    }
+    put_thread(&mut design, 0, 7);
+    assert_eq!(rt; design.threads(), [7].as_slice());
+
+    for (index, x, y) in [(0, 32_767, 0), (1, 0, -30_000), (2, 0, 30_001), (3, 0, 0)] {
+        put_point(&mut design, index, place(x, y));
+    }
+    let moved = [
+        Command::Jump(place(32_767, 0)),
+        Command::Stitch(place(0, -30_000)),
+        MIXED[2],
+        MIXED[3],
+        MIXED[4],
+        MIXED[5],
+    ];
+    assert_eq!(rt; design.commands(), moved.as_slice());
+
+    let bare = design.without_commands(rt.alloc());
+    assert_eq!(rt; bare.threads(), [7].as_slice());
+    assert_eq!(rt; bare.commands(), [].as_slice());
     Ok(())
 }

@@ -1,0 +1,47 @@
+-- Commands of which one is moved to another point.
+use Rattle.std.proofs.Common.{ap, ◌≡◌, ℕ, zero, suc, IsTrue, List, [], ◌∷◌, Option, Some, None, IfSome, IsSomeAnd, get_or, set, refl}
+use Rattle.std.proofs.lemmas.Bool.{and_parts, and_from}
+use Rattle.std.specs.Prelude.{slice_get}
+use Rattle.std.specs.List.{list_all}
+use Rattle.design_model.specs.declared.command.Command.{Command}
+use Rattle.design_model.specs.declared.command.Command.TheVariants.{Stitch, Jump, Trim, Stop}
+use Rattle.design_model.specs.declared.point.Point.{Point}
+use Rattle.design_model.specs.Commands.{is_in_range, moved_to, takes_point}
+
+-- a command that takes a point is in range there
+taken_in_range : (c : Command) (p : Point) → IsTrue (takes_point c p) → IsTrue (is_in_range (moved_to c p))
+taken_in_range (Stitch q) p takes = takes
+taken_in_range (Jump q) p takes = takes
+taken_in_range Trim p takes = refl
+taken_in_range Stop p takes = refl
+
+-- the command that was found at the index is the one that is looked up there
+found_there : (cs : List Command) (i : ℕ) (found : Command) → found ≡ get_or cs i found
+    → IfSome (slice_get cs i) (λ c. found ≡ c)
+found_there [] i found is = tt
+found_there (c ∷ rest) zero found is = is
+found_there (c ∷ rest) (suc i) found is = found_there rest i found is
+
+-- so what is put there may be made of either
+put_there : (cs : List Command) (i : ℕ) (found : Command) (p : Point) (looked_up : Option Command)
+    → IfSome looked_up (λ c. found ≡ c)
+    → IfSome looked_up (λ c. set cs i (moved_to found p) ≡ set cs i (moved_to c p))
+put_there cs i found p None same = tt
+put_there cs i found p (Some c) same = ap (λ x. set cs i (moved_to x p)) same
+
+pub moved_in_place : (cs : List Command) (i : ℕ) (found : Command) (p : Point) → found ≡ get_or cs i found
+    → IfSome (slice_get cs i) (λ c. set cs i (moved_to found p) ≡ set cs i (moved_to c p))
+moved_in_place cs i found p is = put_there cs i found p (slice_get cs i) (found_there cs i found is)
+
+-- commands in range stay so
+pub moved_in_range : (cs : List Command) (i : ℕ) (found : Command) (p : Point) → found ≡ get_or cs i found
+    → IsSomeAnd (slice_get cs i) (λ c. IsTrue (takes_point c p))
+    → IsTrue (list_all is_in_range cs) → IsTrue (list_all is_in_range (set cs i (moved_to found p)))
+moved_in_range [] i found p is takes all = all
+moved_in_range (c ∷ rest) zero found p is takes all =
+    and_from (is_in_range (moved_to found p)) (list_all is_in_range rest)
+    (rw is (taken_in_range c p takes)) (and_parts (is_in_range c) (list_all is_in_range rest) all).1
+moved_in_range (c ∷ rest) (suc i) found p is takes all =
+    let both = and_parts (is_in_range c) (list_all is_in_range rest) all in
+    and_from (is_in_range c) (list_all is_in_range (set rest i (moved_to found p))) both.0
+    (moved_in_range rest i found p is takes both.1)

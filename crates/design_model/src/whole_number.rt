@@ -1,0 +1,100 @@
+ghost use Rattle.std.specs.Prelude.{◌≡◌, ◌+◌, ◌*◌, ◌≤◌, ◌∷◌, min, true, false, IfSome, IfNone};
+ghost use Rattle.std.specs.Char.{digit_value, is_ascii_digit};
+ghost use Rattle.std.specs.Str.{all_ascii_digits};
+ghost use Rattle.std.specs.Str.Parse.{digits_value};
+ghost use Rattle.design_model.specs.WholeNumbers.{is_numeral as is_a_numeral, signed as signed_by, signed_whole, whole_of};
+
+/// The greatest size of a whole number that a word may spell.
+pub const MAX_WHOLE: u32 = 999_999_999;
+
+/// What a word says as a whole number.
+#[derive(Clone, Copy, Debug, PartialEq, Eq)]
+pub enum Whole {
+    /// It is not an optional `-` and then one or more digits.
+    NotANumber,
+    /// It is a number whose size passes 999,999,999.
+    Outside,
+    /// This number.
+    Value(i32),
+}
+
+/// The whole number that a word of any length spells. This takes no memory.
+pub fn parse_whole(word: &[u8]) -> Whole
+    ensures { result ≡ whole_of word.now }
+{
+    match after_minus(word) {
+        Some(digits) => parse_signed(true, digits),
+        None => parse_signed(false, word),
+    }
+}
+
+/// What stands behind a minus sign at the beginning.
+fn after_minus(word: &[u8]) -> Option<&[u8]>
+    ensures some { IfSome result (λ digits. word.now ≡ 45 ∷ digits.now) }
+    ensures none { IfNone result (whole_of word.now ≡ signed_whole false word.now) }
+{
+    match word {
+        [first, digits @ ..] if *first == b'-' => Some(digits),
+        _ => None,
+    }
+}
+
+fn parse_signed(minus: bool, digits: &[u8]) -> Whole
+    ensures { result ≡ signed_whole minus digits.now }
+{
+    if !is_numeral(digits) {
+        return Whole::NotANumber;
+    }
+    let size = capped_value(digits);
+    if size > MAX_WHOLE {
+        return Whole::Outside;
+    }
+    Whole::Value(signed(minus, size))
+}
+
+fn signed(minus: bool, size: u32) -> i32
+    requires { size ≤ MAX_WHOLE }
+    ensures { result ≡ signed_by minus size }
+{
+    if minus { -(size as i32) } else { size as i32 }
+}
+
+fn is_numeral(digits: &[u8]) -> bool
+    ensures { result ≡ is_a_numeral digits.now }
+{
+    !digits.is_empty() && are_digits(digits)
+}
+
+fn are_digits(bytes: &[u8]) -> bool
+    ensures { result ≡ all_ascii_digits bytes.now }
+{
+    for byte in bytes {
+        if !byte.is_ascii_digit() {
+            return false;
+        }
+    }
+    true
+}
+
+/// What the digits write, or one more than the greatest whole number where that is less.
+#[tactic(auto, using(crate::proofs::WholeLemmas::capped_more, crate::proofs::WholeLemmas::digit_among))]
+fn capped_value(digits: &[u8]) -> u32
+    requires { all_ascii_digits digits.now ≡ true }
+    ensures { result ≡ min (digits_value 10 digits.now) (MAX_WHOLE + 1) }
+{
+    let mut value: u32 = 0;
+    for digit in digits {
+        value = capped_with(value, *digit);
+    }
+    value
+}
+
+/// The same with one digit more at the end.
+fn capped_with(value: u32, digit: u8) -> u32
+    requires digit { is_ascii_digit digit ≡ true }
+    requires value { value ≤ MAX_WHOLE + 1 }
+    ensures { result ≡ min (value * 10 + digit_value digit) (MAX_WHOLE + 1) }
+{
+    let longer = value as u64 * 10 + (digit - b'0') as u64;
+    longer.min(MAX_WHOLE as u64 + 1) as u32
+}
