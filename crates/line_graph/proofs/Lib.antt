@@ -10,3 +10,4 @@ mod PointLists
 mod LoopSewing
 mod SpellingFacts
 mod WordLemmas
+mod MakerLemmas

@@ -99,27 +99,34 @@ finished d =
     if length d.threads == 0 then Err kind.NoBlock
     else (if is_last_empty d then Err kind.EmptyBlock else Ok d)
 
--- the limits of a drawing that grows: those of a drawing, but that its last block may be empty
-pub record KeepsGrowing (d : DrawingValue) : Type 0 where
-  pub label : IsLabel d.label
-  pub one_word : All (λ byte. byte ≢ 32) d.label
-  pub step_from : 1 ≤ d.step
-  pub step_to : d.step ≤ MAX_STEP
-  pub blocks_to : length d.threads ≤ MAX_BLOCKS
-  pub threads : All (λ thread. thread < 256) d.threads
-  pub used : (block : ℕ) → block + 1 < length d.threads
-      → Contains (map (λ line. line.block) d.lines) block
-  pub there : All (λ line. line.block < length d.threads) d.lines
-  pub ordered : IsNonDecreasing (map (λ line. line.block) d.lines)
-  pub lines : All (λ line. IsLine line.points) d.lines
-  pub line_count : length d.lines ≤ MAX_LINES
-  pub point_count : point_count d.lines ≤ MAX_POINTS
-  pub cost : step_count d.step d.lines ≤ MAX_COST
+-- the limits of a label that is one word or empty, and of a longest step
+pub record IsHead (label : List ℕ) (step : ℕ) : Type 0 where
+  pub label_ok : IsLabel label
+  pub one_word : All (λ byte. byte ≢ 32) label
+  pub step_from : 1 ≤ step
+  pub step_to : step ≤ MAX_STEP
+
+-- the limits of blocks that fit lines: each block has a line, but that the last one may be empty
+pub record AreBlocks (threads : List ℕ) (lines : List LineValue) : Type 0 where
+  pub blocks_to : length threads ≤ MAX_BLOCKS
+  pub in_range : All (λ thread. thread < 256) threads
+  pub used : (block : ℕ) → block + 1 < length threads → Contains (map (λ line. line.block) lines) block
+  pub there : All (λ line. line.block < length threads) lines
+  pub ordered : IsNonDecreasing (map (λ line. line.block) lines)
+
+-- the limits of lines
+pub record AreLines (step : ℕ) (lines : List LineValue) : Type 0 where
+  pub each : All (λ line. IsLine line.points) lines
+  pub line_count : length lines ≤ MAX_LINES
+  pub points_to : point_count lines ≤ MAX_POINTS
+  pub cost : step_count step lines ≤ MAX_COST
 
 -- the drawing keeps these limits, and these are what is known of its lines: whether the last block is
 -- empty, and how many points and steps there are
 pub record IsMade (d : DrawingValue) (empty : Bool) (points steps : ℕ) : Type 0 where
-  pub limits : KeepsGrowing d
+  pub head : IsHead d.label d.step
+  pub blocks : AreBlocks d.threads d.lines
+  pub lines : AreLines d.step d.lines
   pub last_is : empty ≡ is_last_empty d
   pub points_are : points ≡ point_count d.lines
   pub steps_are : steps ≡ step_count d.step d.lines
