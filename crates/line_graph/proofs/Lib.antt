@@ -11,3 +11,4 @@ mod LoopSewing
 mod SpellingFacts
 mod WordLemmas
 mod MakerLemmas
+mod TextLemmas

@@ -24,6 +24,11 @@ abbrev pub IsSaid : {A : Type 0} → Result A DrawKind → DrawKind → Type 0
 IsSaid said kind.Memory = Unit {0}
 IsSaid said why = said ≡ Err why
 
+-- what each answer of a call means: it is what was said, or memory was wanted
+abbrev pub Answers : {A : Type 0} → Result A DrawKind → Result A DrawKind → Type 0
+Answers said (Ok a) = said ≡ Ok a
+Answers said (Err why) = IsSaid said why
+
 -- what each answer of a call means that is to change a value as said: a refusal leaves it as it was
 abbrev pub Changes : {A T : Type 0} → Result A DrawKind → A → Result T DrawKind → A → Type 0
 Changes said old (Ok _) new = said ≡ Ok new

@@ -12,6 +12,8 @@ pub mod Loops
 pub mod Laws
 pub mod Words
 pub mod Growing
+pub mod TextLines
+pub mod DrawingText
 -- of the reader's inside
 pub mod Numerals
 pub mod LoopShapes

@@ -1,4 +1,6 @@
 ghost use Rattle.std.specs.Prelude.{◌≡◌, ◌≤◌, length, All, true};
+ghost use Rattle.std.specs.Char.{is_ascii_graphic};
+ghost use Rattle.std.specs.List.{list_all};
 ghost use Rattle.step_splitter.specs.declared.segment.TheConstants.{MAX_STEP as max_step};
 ghost use Rattle.step_splitter.specs.Chains.{IsNeedlePoint};
 ghost use Rattle.line_graph.specs.Growing.{Changes, blank_drawing, block_added, finished, is_label_word as is_a_label_word, line_added, steps_with as steps_of_lines_with};
@@ -164,4 +166,24 @@ impl DrawingMaker {
         } = self;
         Ok(Drawing::of_parts(label, step, threads, lines))
     }
+}
+
+/// Says whether a word may be a label.
+pub fn is_label_word(word: &[u8]) -> bool
+    ensures { result ≡ is_a_label_word word.now }
+{
+    word.len() <= MAX_LABEL && are_graphic(word)
+}
+
+fn are_graphic(bytes: &[u8]) -> bool
+    ensures { result ≡ list_all is_ascii_graphic bytes.now }
+{
+    let mut rest = bytes;
+    while let [byte, after @ ..] = rest {
+        if !byte.is_ascii_graphic() {
+            return false;
+        }
+        rest = after;
+    }
+    true
 }

@@ -2,6 +2,7 @@
 //! a drawing of one closed line.
 #![tactic(auto)]
 
+mod draft;
 mod draw_fault;
 mod drawing;
 mod drawing_maker;
@@ -13,9 +14,11 @@ mod loop_fault;
 mod loop_shape;
 mod loop_text;
 mod needle_points;
+mod number_words;
 mod numbers;
 mod pass;
 mod point_text;
+mod point_words;
 mod spelling;
 #[cfg(test)]
 mod tests;
