@@ -6,6 +6,7 @@ mod draft;
 mod draw_fault;
 mod drawing;
 mod drawing_maker;
+mod drawing_text;
 mod laws;
 mod limits;
 mod line;
@@ -27,6 +28,7 @@ mod words;
 
 pub use draw_fault::{DrawFault, DrawKind};
 pub use drawing::Drawing;
+pub use drawing_text::read_drawing;
 pub use laws::{
     a_loop_is_sewn_by_its_line, plain_texts_share_steps, the_limits_of_drawings,
     the_sewn_design_sews,
