@@ -12,3 +12,4 @@ mod SpellingFacts
 mod WordLemmas
 mod MakerLemmas
 mod TextLemmas
+mod DrawingTextFacts
