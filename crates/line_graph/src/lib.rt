@@ -14,6 +14,7 @@ mod line_shape;
 mod loop_fault;
 mod loop_shape;
 mod loop_text;
+mod loops;
 mod needle_points;
 mod number_words;
 mod numbers;
@@ -36,6 +37,7 @@ pub use laws::{
 pub use limits::{MAX_BLOCKS, MAX_COST, MAX_LINES, MAX_POINTS, MAX_TEXT};
 pub use loop_fault::LoopFault;
 pub use loop_text::read_loop;
+pub use loops::only_loops;
 pub use needle_points::needles;
 pub use pass::Pass;
 pub use spelling::print_drawing;
