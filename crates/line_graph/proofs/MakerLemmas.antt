@@ -1,8 +1,8 @@
 -- Drawings that grow keep their limits.
-use Rattle.std.proofs.Common.{◌≡◌, ◌≢◌, ℕ, suc, ◌+◌, ◌-◌, ◌<◌, ◌≤◌, ◌==◌, Bool, true, false, not, ◌&&◌, ◌||◌, nat_le, nat_lt, List, [], ◌∷◌, ◌++◌, Result, Ok, Err, length, map, get_or, slice_get, Some, All, Contains, sum_by, ap, sym, subst, ◌∙◌, refl, arith, rules, length-append, eq-eqb, if◌then◌else◌}
+use Rattle.std.proofs.Common.{◌≡◌, ◌≢◌, ℕ, ◌+◌, ◌-◌, ◌<◌, ◌≤◌, ◌==◌, Bool, true, false, not, ◌&&◌, ◌||◌, nat_le, nat_lt, List, [], ◌∷◌, ◌++◌, Result, Ok, Err, length, map, get_or, All, Contains, ap, sym, subst, ◌∙◌, refl, arith, length-append, eq-eqb, if◌then◌else◌}
 use Rattle.std.proofs.lemmas.Bool.Decides.{nat_tests, Decides-int_eq}
-use Rattle.std.proofs.lemmas.List.{map-append, nil_from_length}
-use Rattle.std.proofs.lemmas.List.Elements.{All-append, All-cons, All-get_or, All-head, All-map, All-nil, All-push, All-tail, All-weaker, Contains-append_left, Contains-append_right}
+use Rattle.std.proofs.lemmas.List.{map-append}
+use Rattle.std.proofs.lemmas.List.Elements.{All-get_or, All-head, All-map, All-push, All-weaker, Contains-append_left, Contains-append_right}
 use Rattle.std.proofs.lemmas.List.Folds.{list_any-append, list_any_none}
 use Rattle.std.proofs.lemmas.List.Sorted.{IsNonDecreasingBy-push}
 use Rattle.std.proofs.lemmas.List.Sums.{AllPass-from_list_all, sum_by-append}
@@ -17,7 +17,7 @@ use Rattle.step_splitter.specs.Chains.{IsNeedlePoint, KeepsMoving}
 use Rattle.line_graph.specs.declared.draw_fault.DrawKind.{DrawKind}
 use Rattle.line_graph.specs.declared.draw_fault.DrawKind.TheVariants as kind
 use Rattle.line_graph.specs.Drawings.{DrawingValue, HasNoRepeat, IsLine, KeepsDrawing, LineValue}
-use Rattle.line_graph.specs.Growing.{AreBlocks, AreLines, IsMade, has_repeat, is_label_word, is_last_empty, is_used, point_count, repeats_after, step_count, steps_with, with_block, with_line}
+use Rattle.line_graph.specs.Growing.{AreBlocks, IsMade, has_repeat, is_label_word, is_last_empty, is_used, point_count, repeats_after, step_count, steps_with, with_block, with_line}
 use Rattle.line_graph.specs.Needles.{line_steps}
 
 -- the same points are found to be the same

@@ -1,9 +1,8 @@
 -- What a plain text says of the longest step.
 use Rattle.std.proofs.Common.{◌≡◌, ℕ, ◌^◌, ◌<◌, List, [], ◌∷◌, ◌++◌, ap, sym, ◌∙◌, refl, arith, append_assoc, codes}
 use Rattle.std.specs.Fmt.{decimal}
-use Rattle.line_graph.specs.Drawings.{DrawingValue, KeepsDrawing}
+use Rattle.line_graph.specs.Drawings.{DrawingValue}
 use Rattle.line_graph.specs.Laws.{PlainTextsShareSteps}
-use Rattle.line_graph.specs.Loops.{IsLoop}
 use Rattle.line_graph.specs.Numerals.{digits_on}
 use Rattle.line_graph.specs.Spelling.{blocks_text, plain_spelling}
 use Rattle.line_graph.proofs.NumeralLemmas.{digits_on-decimal}

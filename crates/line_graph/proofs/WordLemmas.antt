@@ -1,8 +1,8 @@
 -- The first line of a text, and the first word of a line.
-use Rattle.std.proofs.Common.{◌≡◌, ◌≢◌, ℕ, suc, ◌+◌, ◌<◌, ◌≤◌, Bool, true, false, not, List, [], ◌∷◌, length, take, drop, filter, ap, sym, ◌∙◌, refl, arith, one-add, length-drop, eq-eqb, subst, get_or, ◌-◌, ◌==◌}
+use Rattle.std.proofs.Common.{◌≡◌, ◌≢◌, ℕ, suc, ◌+◌, ◌<◌, ◌≤◌, Bool, true, false, List, [], ◌∷◌, length, take, drop, filter, ap, sym, ◌∙◌, refl, arith, one-add, length-drop, eq-eqb, subst, get_or, ◌-◌, ◌==◌}
 use Rattle.std.proofs.lemmas.Bool.Decides.{nat_tests}
 use Rattle.std.proofs.lemmas.List.{nil_from_length}
-use Rattle.std.specs.List.{onto_first, position_or_len, slice_split}
+use Rattle.std.specs.List.{position_or_len, slice_split}
 use Rattle.line_graph.specs.Words.{is_blank, is_filled, is_line_feed, is_solid, text_lines, without_return, words_in}
 
 -- one place more takes and drops one byte more

@@ -1,6 +1,6 @@
 -- The pieces of a drawing: lines of one block that are joined at their ends. Indexes of lines count from 0.
 use Rattle.std.specs.Prelude.{◌≡◌, ◌≢◌, ℕ, ◌<◌, ◌==◌, Bool, true, not, ◌&&◌, List, [], ◌∷◌, Some, length, map, slice_get, All, AllPairs, Contains}
-use Rattle.std.specs.List.{concat, list_any, range_with_len}
+use Rattle.std.specs.List.{concat, list_any}
 use Rattle.std.specs.List.Sorted.{IsStrictlyIncreasing}
 use Rattle.design_model.specs.declared.point.Point.{Point}
 use Rattle.design_model.specs.Points.{is_same_point}

@@ -1,6 +1,6 @@
 -- What one line of a drawing text says after the lines before it. Numbers are in tenths of a millimetre,
 -- lines of the text count from 1.
-use Rattle.std.specs.Prelude.{◌≡◌, ℕ, ℤ, pos, negsuc, ◌==◌, Bool, true, false, not, ◌&&◌, ◌||◌, nat_le, unsigned_abs, List, [], ◌∷◌, Option, Some, None, Result, Ok, Err, length, bytes_eq, codes, if◌then◌else◌}
+use Rattle.std.specs.Prelude.{ℕ, ℤ, pos, negsuc, ◌==◌, Bool, true, false, not, ◌&&◌, ◌||◌, nat_le, unsigned_abs, List, [], ◌∷◌, Option, Some, None, Result, Ok, Err, length, bytes_eq, codes, if◌then◌else◌}
 use Rattle.design_model.specs.declared.point.Point.{Point}
 use Rattle.design_model.specs.declared.point.TheConstants.{NEEDLE_LIMIT}
 use Rattle.design_model.specs.declared.whole_number.Whole.{Whole}
@@ -66,7 +66,7 @@ stepped draft None = Err kind.BadWord
 stepped draft (Some word) =
     if draft.stepped || not (is_before_blocks draft) then Err kind.BadWord
     else and_then (count_in 1 MAX_STEP (whole_of word)) (λ step.
-        Ok (record draft { stepped = true; drawing = record draft.drawing { step = step } }))
+    Ok (record draft { stepped = true; drawing = record draft.drawing { step = step } }))
 
 -- what the line of that number says that has the word "color" and this one
 abbrev pub coloured : ℕ → Draft → Option (List ℕ) → Result Draft DrawKind
@@ -81,7 +81,7 @@ abbrev pub lined : Draft → List (List ℕ) → Result Draft DrawKind
 lined draft words =
     if is_before_blocks draft then Err kind.NoBlock
     else and_then (points_in words) (λ points.
-        and_then (line_added draft.drawing points) (λ drawing. Ok (record draft { drawing = drawing })))
+    and_then (line_added draft.drawing points) (λ drawing. Ok (record draft { drawing = drawing })))
 
 -- what the line of that number says that has these words, after the lines that say the draft
 abbrev pub judged : ℕ → Draft → List (List ℕ) → Result Draft DrawKind

@@ -1,5 +1,5 @@
 -- The lines of a text and the words of a line, as bytes of ASCII.
-use Rattle.std.specs.Prelude.{ℕ, Bool, true, false, not, ◌==◌, ◌||◌, List, [], ◌∷◌, length, filter, map, if◌then◌else◌}
+use Rattle.std.specs.Prelude.{ℕ, Bool, true, false, not, ◌==◌, ◌||◌, List, [], ◌∷◌, filter, map, if◌then◌else◌}
 use Rattle.std.specs.List.{onto_first, slice_split}
 
 -- the byte that ends a line

@@ -75,16 +75,16 @@ impl Drawing {
         lines: Vec<Line>,
     ) -> Drawing
         requires { KeepsDrawing (record {
-            label = label.items;
-            step = step;
-            threads = threads.items;
-            lines = lines.items;
+          label = label.items;
+          step = step;
+          threads = threads.items;
+          lines = lines.items;
         }) }
         ensures { result ≡ record {
-            label = label.items;
-            step = step;
-            threads = threads.items;
-            lines = lines.items;
+          label = label.items;
+          step = step;
+          threads = threads.items;
+          lines = lines.items;
         } }
     {
         Drawing {

@@ -34,23 +34,23 @@ fn find_header(bytes: &[u8]) -> Result<Body<'_>, DrawFault>
     ensures early { IfOk result (λ body. body.number + length body.text.now ≤ MAX_TEXT + 1) }
     ensures err { IfErr result (λ fault. drawing_of bytes.now ≡ Err fault) }
 {
-    let mut number: u32 = 1;
+    let mut passed: u32 = 0;
     let mut rest = bytes;
     while let Some((line, after)) = next_line(rest) {
         let line = without_return(line);
         if is_header(line) {
             return Ok(Body {
-                number: number + 1,
+                number: passed + 2,
                 text: after,
             });
         }
         if !is_passed_over(line) {
             break;
         }
-        number += 1;
+        passed += 1;
         rest = after;
     }
-    Err(told_at(number, 0, DrawKind::BadHeader))
+    Err(told_at(passed + 1, 0, DrawKind::BadHeader))
 }
 
 fn is_passed_over(line: &[u8]) -> bool

@@ -6,8 +6,8 @@ use Rattle.line_graph.proofs.drawing_text.find_header.Given as goal
 -- the lines so far are passed over, so all depends on those that are left
 abbrev pub invariant-loop-line : goal.invariant-loop-line
 invariant-loop-line l = record {
-  read : drawing_of l.bytes ≡ drawn_from l.number (words_by_line l.rest);
-  early : l.number + length l.rest ≤ 67108865;
+  read : drawing_of l.bytes ≡ drawn_from (l.passed + 1) (words_by_line l.rest);
+  early : l.passed + length l.rest ≤ 67108864;
 }
 
 abbrev pub decreases-loop-line : goal.decreases-loop-line

@@ -1,4 +1,4 @@
-use Rattle.std.proofs.Common.{◌≡◌, ◌≢◌, [], length, ap, arith}
+use Rattle.std.proofs.Common.{◌≢◌, [], length, ap, arith}
 use Rattle.std.proofs.lemmas.Bool.Decides.{nat_tests}
 use Rattle.line_graph.proofs.WordLemmas.{some_line}
 use Rattle.line_graph.proofs.text_words.next_line.Goals as goal

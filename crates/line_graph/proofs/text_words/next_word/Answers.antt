@@ -1,4 +1,4 @@
-use Rattle.std.proofs.Common.{◌≡◌, ◌≢◌, length, arith}
+use Rattle.std.proofs.Common.{◌≢◌, length, arith}
 use Rattle.std.proofs.lemmas.Bool.Decides.{nat_tests}
 use Rattle.line_graph.proofs.WordLemmas.{Taken, no_word, word_taken}
 use Rattle.line_graph.proofs.text_words.next_word.Goals as goal

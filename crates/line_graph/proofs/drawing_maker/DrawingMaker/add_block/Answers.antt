@@ -1,4 +1,4 @@
-use Rattle.std.proofs.Common.{◌≢◌, length, ap, ◌∙◌, arith}
+use Rattle.std.proofs.Common.{◌≢◌, length, ◌∙◌}
 use Rattle.line_graph.proofs.MakerLemmas.{block_put}
 use Rattle.line_graph.proofs.drawing_maker.DrawingMaker.add_block.Goals as goal
 

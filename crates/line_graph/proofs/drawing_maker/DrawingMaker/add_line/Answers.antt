@@ -1,4 +1,4 @@
-use Rattle.std.proofs.Common.{◌≡◌, ◌≤◌, ℕ, ◌-◌, ◌++◌, ◌∷◌, [], length, ap, sym, subst, ◌∙◌}
+use Rattle.std.proofs.Common.{◌≤◌, ℕ, ◌++◌, ◌∷◌, [], length, ap, sym, subst, ◌∙◌}
 use Rattle.line_graph.proofs.MakerLemmas.{line_put, may_come}
 use Rattle.line_graph.specs.Drawings.{DrawingValue, LineValue}
 use Rattle.line_graph.specs.Growing.{steps_with}

@@ -1,4 +1,4 @@
-use Rattle.std.proofs.Common.{◌≡◌, length, ap, ◌∙◌}
+use Rattle.std.proofs.Common.{length, ap, ◌∙◌}
 use Rattle.line_graph.proofs.MakerLemmas.{step_set}
 use Rattle.line_graph.specs.Drawings.{DrawingValue}
 use Rattle.line_graph.proofs.drawing_maker.DrawingMaker.set_step.Goals as goal
