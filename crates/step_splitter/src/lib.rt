@@ -7,5 +7,5 @@ mod segment;
 mod tests;
 mod way;
 
-pub use laws::the_limit_of_steps;
+pub use laws::{split_points_lead, the_limit_of_steps};
 pub use segment::{MAX_STEP, split, steps};
