@@ -7,9 +7,12 @@ mod PointLemmas
 mod NeedleLemmas
 mod LoopLemmas
 mod PointLists
+mod SewnLoops
 mod LoopSewing
 mod SpellingFacts
 mod WordLemmas
 mod MakerLemmas
 mod TextLemmas
+mod PieceLemmas
 mod DrawingTextFacts
+mod PieceFacts

@@ -21,7 +21,7 @@ use Rattle.line_graph.specs.Growing.{AreBlocks, IsMade, has_repeat, is_label_wor
 use Rattle.line_graph.specs.Needles.{line_steps}
 
 -- the same points are found to be the same
-same_found : (p q : Point) → p ≡ q → is_same_point p q ≡ true
+pub same_found : (p q : Point) → p ≡ q → is_same_point p q ≡ true
 same_found p q same =
     let x : (Rattle.std.specs.Ordering.int_eq p.x q.x) ≡ true = (Decides-int_eq p.x q.x).1 (ap (λ (r : Point). r.x) same) in
     let y : (Rattle.std.specs.Ordering.int_eq p.y q.y) ≡ true = (Decides-int_eq p.y q.y).1 (ap (λ (r : Point). r.y) same) in
@@ -65,7 +65,7 @@ all_ink : (word : List ℕ) → list_all is_ascii_graphic word ≡ true → All 
 all_ink word test =
     All-weaker (λ byte. is_ascii_graphic byte ≡ true) IsInk ink word (AllPass-from_list_all is_ascii_graphic word test)
 
-and_parts_of : (a b : Bool) → (a && b) ≡ true → (a ≡ true) × (b ≡ true)
+pub and_parts_of : (a b : Bool) → (a && b) ≡ true → (a ≡ true) × (b ≡ true)
 and_parts_of true b both = (refl, both)
 and_parts_of false b both = absurd cc
 

@@ -11,6 +11,7 @@ pub mod Sewing
 pub mod Spelling
 pub mod Loops
 pub mod Laws
+pub mod SewnPieces
 pub mod Words
 pub mod Growing
 pub mod TextLines

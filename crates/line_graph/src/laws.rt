@@ -1,5 +1,9 @@
+ghost use Rattle.line_graph.specs.Drawings.{DrawingValue};
 ghost use Rattle.line_graph.specs.Laws.{ALoopIsSewnByItsLine, PlainTextsShareSteps, TheSewnDesignSews};
 ghost use Rattle.line_graph.specs.Limits.{DrawingLimits};
+ghost use Rattle.line_graph.specs.SewnPieces.{LoopsAreSewnAlong, NeedlesLeadAlong};
+
+use step_splitter::split_points_lead;
 
 /// The limits of drawings are these numbers.
 pub fn the_limits_of_drawings()
@@ -20,3 +24,17 @@ pub fn the_sewn_design_sews()
 pub fn plain_texts_share_steps()
     ensures { PlainTextsShareSteps }
 {}
+
+/// The needle points of each line of a drawing lead along it.
+pub fn needles_lead_along()
+    ensures { (d : DrawingValue) → NeedlesLeadAlong d }
+{
+    split_points_lead();
+}
+
+/// A drawing whose lines are closed and share no end is sewn best along each line, in order.
+pub fn loops_are_sewn_along()
+    ensures { LoopsAreSewnAlong }
+{
+    needles_lead_along();
+}

@@ -31,8 +31,8 @@ pub use draw_fault::{DrawFault, DrawKind};
 pub use drawing::Drawing;
 pub use drawing_text::read_drawing;
 pub use laws::{
-    a_loop_is_sewn_by_its_line, plain_texts_share_steps, the_limits_of_drawings,
-    the_sewn_design_sews,
+    a_loop_is_sewn_by_its_line, loops_are_sewn_along, needles_lead_along, plain_texts_share_steps,
+    the_limits_of_drawings, the_sewn_design_sews,
 };
 pub use limits::{MAX_BLOCKS, MAX_COST, MAX_LINES, MAX_POINTS, MAX_TEXT};
 pub use loop_fault::LoopFault;
