@@ -1,5 +1,6 @@
 -- Drawings that grow keep their limits.
-use Rattle.std.proofs.Common.{◌≡◌, ◌≢◌, ℕ, ◌+◌, ◌-◌, ◌<◌, ◌≤◌, ◌==◌, Bool, true, false, not, ◌&&◌, ◌||◌, nat_le, nat_lt, List, [], ◌∷◌, ◌++◌, Result, Ok, Err, length, map, get_or, All, Contains, ap, sym, subst, ◌∙◌, refl, arith, length-append, eq-eqb, if◌then◌else◌}
+use Rattle.std.proofs.Common.{◌≡◌, ◌≢◌, ℕ, ◌+◌, ◌-◌, ◌<◌, ◌≤◌, ◌==◌, Bool, true, false, not, ◌||◌, nat_le, nat_lt, List, [], ◌∷◌, ◌++◌, Result, Ok, Err, length, map, get_or, All, Contains, ap, sym, subst, ◌∙◌, refl, arith, length-append, eq-eqb, if◌then◌else◌}
+use Rattle.std.proofs.lemmas.Bool.{and_parts, both_ways, or_parts, or_right}
 use Rattle.std.proofs.lemmas.Bool.Decides.{nat_tests, Decides-int_eq}
 use Rattle.std.proofs.lemmas.List.{map-append}
 use Rattle.std.proofs.lemmas.List.Elements.{All-get_or, All-head, All-map, All-push, All-weaker, Contains-append_left, Contains-append_right}
@@ -28,22 +29,11 @@ same_found p q same =
     rw (x, y) refl
 
 -- where no repeat is found, none is there
-or_parts : (a b : Bool) → (a || b) ≡ false → (a ≡ false) × (b ≡ false)
-or_parts true b none = absurd cc
-or_parts false b none = (refl, none)
-
-not_both : (b : Bool) → b ≡ true → b ≡ false → ⊥
-not_both b is isnt = cc
-
-or_true : (a b : Bool) → b ≡ true → (a || b) ≡ true
-or_true true b yes_b = refl
-or_true false b yes_b = yes_b
-
 keeps_moving : (p : Point) (rest : List Point) → repeats_after p rest ≡ false → KeepsMoving p rest
 keeps_moving p [] none = tt
 keeps_moving p (q ∷ rest) none =
     let both = or_parts (is_same_point p q) (repeats_after q rest) none in
-    (λ same. not_both (is_same_point p q) (same_found p q same) both.0, keeps_moving q rest both.1)
+    (λ same. both_ways (is_same_point p q) both.0 (same_found p q same), keeps_moving q rest both.1)
 
 pub no_repeat : (points : List Point) → has_repeat points ≡ false → HasNoRepeat points
 no_repeat [] none = tt
@@ -65,13 +55,9 @@ all_ink : (word : List ℕ) → list_all is_ascii_graphic word ≡ true → All 
 all_ink word test =
     All-weaker (λ byte. is_ascii_graphic byte ≡ true) IsInk ink word (AllPass-from_list_all is_ascii_graphic word test)
 
-pub and_parts_of : (a b : Bool) → (a && b) ≡ true → (a ≡ true) × (b ≡ true)
-and_parts_of true b both = (refl, both)
-and_parts_of false b both = absurd cc
-
 label_of : (word : List ℕ) → is_label_word word ≡ true → IsLabel word × All (λ byte. byte ≢ 32) word
 label_of word test =
-    let both = and_parts_of (nat_le (length word) 16) (list_all is_ascii_graphic word) test in
+    let both = and_parts (nat_le (length word) 16) (list_all is_ascii_graphic word) test in
     let inked = all_ink word both.1 in
     let other : All (λ byte. byte ≢ 32) word =
     All-weaker IsInk (λ byte. byte ≢ 32) (λ byte has same. absurd (omega (arith, has.from))) word inked in (
@@ -176,7 +162,7 @@ last_used : (d : DrawingValue) (block : ℕ) (used : Bool) → length d.threads 
     → is_last_empty d ≡ false → used ≡ true
 last_used d block true count is filled = refl
 last_used d block false count is filled =
-    absurd (not_both (is_last_empty d) (last_by d block false count is) filled)
+    absurd (both_ways (is_last_empty d) filled (last_by d block false count is))
 
 used_at : (d : DrawingValue) (block : ℕ) (last : Bool) → AreBlocks d.threads d.lines → is_last_empty d ≡ false
     → block < length d.threads → (block + 1 == length d.threads) ≡ last
@@ -218,7 +204,7 @@ found_last : (lines : List LineValue) (line : LineValue) → list_any (λ l. l.b
 found_last lines line =
     let here : (line.block == line.block) ≡ true = eq-eqb line.block line.block refl in
     list_any-append (λ (l : LineValue). l.block == line.block) lines (line ∷ [])
-    ∙ or_true (list_any (λ (l : LineValue). l.block == line.block) lines) _ (rw here refl)
+    ∙ or_right (list_any (λ (l : LineValue). l.block == line.block) lines) _ (rw here refl)
 
 -- each line is in a block that is there
 below_last : (lines : List LineValue) (count e : ℕ) → All (λ line. line.block < count) lines

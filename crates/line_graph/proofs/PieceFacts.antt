@@ -1,10 +1,10 @@
 -- Worked values of closed lines, of what touches, and of walks along each line.
-use Rattle.std.proofs.Common.{◌≡◌, ℕ, pos, true, false, List, [], ◌∷◌, refl}
+use Rattle.std.proofs.Common.{◌≡◌, ℕ, true, false, [], ◌∷◌, refl}
 use Rattle.design_model.specs.declared.point.Point.{Point}
 use Rattle.line_graph.proofs.DrawingTextFacts.{two_squares}
 use Rattle.line_graph.proofs.WalkFacts.{at, forth, square, stroke}
 use Rattle.line_graph.specs.Drawings.{LineValue}
-use Rattle.line_graph.specs.Pieces.{are_loops, is_closed, single_lines, touches}
+use Rattle.line_graph.specs.Pieces.{are_loops, single_lines, touches}
 use Rattle.line_graph.specs.SewnPieces.{along_each, stops_after}
 
 -- a line of three points in a block

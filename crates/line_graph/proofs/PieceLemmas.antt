@@ -1,5 +1,6 @@
 -- Lines that touch no other are pieces of their own.
-use Rattle.std.proofs.Common.{◌≡◌, ◌≢◌, ℕ, zero, suc, ◌+◌, ◌-◌, ◌<◌, ◌≤◌, ◌==◌, ◌⊎◌, Bool, true, false, not, ◌&&◌, ◌||◌, List, [], ◌∷◌, ◌++◌, Option, Some, None, length, map, get_or, slice_get, All, Contains, inl, inr, ap, sym, subst, ◌∙◌, refl, arith}
+use Rattle.std.proofs.Common.{◌≡◌, ◌≢◌, ℕ, zero, suc, ◌+◌, ◌<◌, ◌==◌, Bool, true, false, not, ◌&&◌, ◌||◌, List, [], ◌∷◌, Some, length, map, get_or, slice_get, All, Contains, inl, inr, ap, sym, subst, ◌∙◌, refl, arith}
+use Rattle.std.proofs.lemmas.Bool.{and_parts, both_ways, not-true, or_cases, or_left, or_right}
 use Rattle.std.proofs.lemmas.Bool.Decides.{nat_tests, Decides-int_eq}
 use Rattle.std.proofs.lemmas.List.Elements.{All-cons, All-map, All-nil}
 use Rattle.std.proofs.lemmas.List.FromFn.{get_or-map-range_with_len, get_or-range_with_len, length-map-range_with_len, length-range_with_len}
@@ -7,23 +8,10 @@ use Rattle.std.specs.List.{concat, list_any, range_with_len}
 use Rattle.std.specs.List.Sorted.{IsStrictlyIncreasing}
 use Rattle.design_model.specs.declared.point.Point.{Point}
 use Rattle.design_model.specs.Points.{is_same_point}
-use Rattle.line_graph.proofs.MakerLemmas.{and_parts_of, same_found}
+use Rattle.line_graph.proofs.MakerLemmas.{same_found}
 use Rattle.line_graph.proofs.PointLemmas.{same_point}
 use Rattle.line_graph.specs.Drawings.{DrawingValue, LineValue}
-use Rattle.line_graph.specs.Pieces.{ArePieces, Joined, Leads, TouchAt, are_loops, ends_of, first_line, is_closed, shares_point, single_lines, touches}
-
--- one of two tests holds
-or_cases : (a b : Bool) → (a || b) ≡ true → (a ≡ true) ⊎ (b ≡ true)
-or_cases true b holds = inl refl
-or_cases false b holds = inr holds
-
-or_left : (a b : Bool) → a ≡ true → (a || b) ≡ true
-or_left true b holds = refl
-or_left false b holds = absurd cc
-
-or_right : (a b : Bool) → b ≡ true → (a || b) ≡ true
-or_right true b holds = refl
-or_right false b holds = holds
+use Rattle.line_graph.specs.Pieces.{ArePieces, Joined, Leads, are_loops, ends_of, first_line, is_closed, shares_point, single_lines, touches}
 
 -- a test that passes where another does
 any_more : {X : Type 0} (f g : X → Bool) → ((x : X) → f x ≡ true → g x ≡ true) → (xs : List X)
@@ -37,7 +25,7 @@ any_more f g more (x ∷ xs) some = elim (or_cases (f x) (list_any f xs) some) [
 -- points that are found to be the same are the same
 pub same_is : (p q : Point) → is_same_point p q ≡ true → p ≡ q
 same_is p q found =
-    let both = and_parts_of (Rattle.std.specs.Ordering.int_eq p.x q.x) (Rattle.std.specs.Ordering.int_eq p.y q.y) found in
+    let both = and_parts (Rattle.std.specs.Ordering.int_eq p.x q.x) (Rattle.std.specs.Ordering.int_eq p.y q.y) found in
     same_point p q ((Decides-int_eq p.x q.x).0 both.0) ((Decides-int_eq p.y q.y).0 both.1)
 
 same_turned : (p q : Point) → is_same_point p q ≡ true → is_same_point q p ≡ true
@@ -57,7 +45,7 @@ shares_turned (p ∷ ps) qs shared =
 
 touch_turned : (a b : LineValue) → touches a b ≡ true → touches b a ≡ true
 touch_turned a b touch =
-    let both = and_parts_of (a.block == b.block) (shares_point (ends_of a.points) (ends_of b.points)) touch in
+    let both = and_parts (a.block == b.block) (shares_point (ends_of a.points) (ends_of b.points)) touch in
     let block : (b.block == a.block) ≡ true = grind (arith, nat_tests, both.0) in
     rw (block, shares_turned (ends_of a.points) (ends_of b.points) both.1) refl
 
@@ -67,15 +55,11 @@ pub record FirstLoop (line : LineValue) (rest : List LineValue) : Type 0 where
   pub apart : list_any (touches line) rest ≡ false
   pub loops : are_loops rest ≡ true
 
-not_true : (b : Bool) → not b ≡ true → b ≡ false
-not_true true is = absurd cc
-not_true false is = refl
-
 pub first_loop : (line : LineValue) (rest : List LineValue) → are_loops (line ∷ rest) ≡ true → FirstLoop line rest
 first_loop line rest loops =
-    let first = and_parts_of (is_closed line.points) (not (list_any (touches line) rest) && are_loops rest) loops in
-    let second = and_parts_of (not (list_any (touches line) rest)) (are_loops rest) first.1 in
-    record { closed = first.0; apart = not_true (list_any (touches line) rest) second.0; loops = second.1 }
+    let first = and_parts (is_closed line.points) (not (list_any (touches line) rest) && are_loops rest) loops in
+    let second = and_parts (not (list_any (touches line) rest)) (are_loops rest) first.1 in
+    record { closed = first.0; apart = not-true (list_any (touches line) rest) second.0; loops = second.1 }
 
 -- a line that is touched is found
 any_at : (test : LineValue → Bool) (lines : List LineValue) (i : ℕ) (line : LineValue) → slice_get lines i ≡ Some line
@@ -89,14 +73,11 @@ any_at test (x ∷ xs) (suc i) line is holds = or_right (test x) (list_any test 
 some_is : {X : Type 0} (a b : X) → Some a ≡ Some b → a ≡ b
 some_is a b is = cc
 
-no_both : (b : Bool) → b ≡ true → b ≡ false → ⊥
-no_both b is isnt = cc
-
 -- a loop touches no line but itself
 touches_later : (x : LineValue) (xs : List LineValue) (j : ℕ) (b : LineValue) → are_loops (x ∷ xs) ≡ true
     → slice_get xs j ≡ Some b → touches x b ≡ true → ⊥
 touches_later x xs j b loops other touch =
-    no_both (list_any (touches x) xs) (any_at (touches x) xs j b other touch) (first_loop x xs loops).apart
+    both_ways (list_any (touches x) xs) (first_loop x xs loops).apart (any_at (touches x) xs j b other touch)
 
 only_itself : (lines : List LineValue) (i j : ℕ) (a b : LineValue) → are_loops lines ≡ true → slice_get lines i ≡ Some a
     → slice_get lines j ≡ Some b → touches a b ≡ true → i ≡ j

@@ -1,5 +1,5 @@
 -- A drawing whose lines are loops is sewn along each line.
-use Rattle.std.proofs.Common.{◌≡◌, ◌≢◌, ℕ, zero, suc, ◌+◌, ◌-◌, ◌*◌, ◌<◌, ◌≤◌, true, false, List, [], ◌∷◌, ◌++◌, Option, Some, None, length, map, drop, get_or, slice_get, All, Contains, ap, sym, subst, ◌∙◌, refl, rules, arith}
+use Rattle.std.proofs.Common.{◌≡◌, ◌≢◌, ℕ, zero, suc, ◌+◌, ◌<◌, ◌≤◌, true, false, List, [], ◌∷◌, Option, Some, length, map, drop, get_or, slice_get, All, Contains, ap, sym, subst, ◌∙◌, refl, arith}
 use Rattle.std.proofs.lemmas.List.{append-nil, get_or-map, length-map}
 use Rattle.std.proofs.lemmas.List.Elements.{All-cons, All-head, All-nil, All-weaker}
 use Rattle.std.proofs.lemmas.List.FromFn.{length-map-range_with_len}
@@ -8,15 +8,14 @@ use Rattle.std.proofs.lemmas.Option.{slice_get-get_or, slice_get_within}
 use Rattle.std.specs.List.{AllZip, range_with_len}
 use Rattle.std.specs.Prelude.{sum_by}
 use Rattle.design_model.specs.declared.point.Point.{Point}
-use Rattle.step_splitter.specs.Chains.{IsNeedlePoint, last_from}
+use Rattle.step_splitter.specs.Chains.{last_from}
 use Rattle.line_graph.proofs.NeedleLemmas.{cost_is}
 use Rattle.line_graph.proofs.PieceLemmas.{first_loop, loops_are_pieces, same_is}
 use Rattle.line_graph.proofs.SewingLemmas.{walks_come}
 use Rattle.line_graph.specs.declared.pass.Pass.{Pass}
 use Rattle.line_graph.specs.Drawings.{DrawingValue, KeepsDrawing, LineValue, block_in, block_of, first_of, last_of, points_in, points_of}
 use Rattle.line_graph.specs.Growing.{step_count}
-use Rattle.line_graph.specs.Laws.{AreNeedlesOf}
-use Rattle.line_graph.specs.Needles.{line_steps, needle_points}
+use Rattle.line_graph.specs.Needles.{line_steps}
 use Rattle.line_graph.specs.Pieces.{are_loops, is_closed, single_lines}
 use Rattle.line_graph.specs.SewnPieces.{AreNear, AreWritable, IsBestWalk, IsSewnBy, NeedlesLeadAlong, along, along_each, stops_after}
 use Rattle.line_graph.specs.Walks.{IsTour, cost_of_line, cost_of_walk, lines_of, needles_of, needles_of_walk}

@@ -40,10 +40,10 @@ fn behind_first(bytes: &[u8]) -> &[u8]
 pub fn without_return(line: &[u8]) -> &[u8]
     ensures { result.now ≡ line_without_return line.now }
 {
-    match line {
-        [before @ .., last] if *last == b'\r' => before,
-        _ => line,
-    }
+    let [before @ .., last] = line else {
+        return line;
+    };
+    if *last == b'\r' { before } else { line }
 }
 
 /// The first word of a line, and the line behind it.
