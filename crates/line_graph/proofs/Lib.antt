@@ -12,7 +12,7 @@ mod LoopSewing
 mod SpellingFacts
 mod WordLemmas
 mod MakerLemmas
-mod TextLemmas
+mod PointWordLemmas
 mod PieceLemmas
 mod DrawingTextFacts
 mod PieceFacts

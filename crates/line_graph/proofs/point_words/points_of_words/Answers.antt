@@ -1,7 +1,7 @@
 use Rattle.std.proofs.Common.{◌≡◌, ℤ, ◌≤◌, unsigned_abs, to_z, of_z, w32, sym, ◌∙◌, ap, ◌++◌, ◌∷◌, [], arith}
 use Rattle.std.proofs.lemmas.Int.{ints}
 use Rattle.design_model.specs.declared.point.TheConstants.{NEEDLE_LIMIT}
-use Rattle.line_graph.proofs.TextLemmas.{point_in_range, point_read}
+use Rattle.line_graph.proofs.PointWordLemmas.{point_in_range, point_read}
 use Rattle.line_graph.proofs.point_words.points_of_words.Goals as goal
 
 -- a coordinate is held as it is

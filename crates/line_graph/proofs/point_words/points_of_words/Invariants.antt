@@ -1,6 +1,6 @@
 use Rattle.std.proofs.Common.{All, length}
 use Rattle.step_splitter.specs.Chains.{IsNeedlePoint}
-use Rattle.line_graph.proofs.TextLemmas.{GoesOn}
+use Rattle.line_graph.proofs.PointWordLemmas.{GoesOn}
 use Rattle.line_graph.proofs.point_words.points_of_words.Given as goal
 
 -- the words so far spell these points, where needles may go down
