@@ -14,5 +14,10 @@ mod WordLemmas
 mod MakerLemmas
 mod PointWordLemmas
 mod PieceLemmas
+mod SpelledWords
+mod SpelledNumbers
+mod SpelledBlocks
+mod SpelledLines
+mod SpelledDrawings
 mod DrawingTextFacts
 mod PieceFacts

@@ -125,7 +125,7 @@ step_set d step empty points steps made low high none =
     }
 
 -- whether the last block is empty
-last_by : (d : DrawingValue) (block : ℕ) (used : Bool) → length d.threads ≡ block + 1 → is_used d block ≡ used
+pub last_by : (d : DrawingValue) (block : ℕ) (used : Bool) → length d.threads ≡ block + 1 → is_used d block ≡ used
     → is_last_empty d ≡ not used
 last_by d block used count is =
     let some : (length d.threads == 0) ≡ false = grind (arith, nat_tests) in

@@ -5,8 +5,9 @@ use Rattle.line_graph.specs.declared.draft.Draft.{Draft}
 use Rattle.line_graph.specs.declared.draw_fault.DrawFault.{DrawFault}
 use Rattle.line_graph.specs.declared.draw_fault.DrawKind.{DrawKind}
 use Rattle.line_graph.specs.declared.draw_fault.DrawKind.TheVariants as kind
-use Rattle.line_graph.specs.Drawings.{DrawingValue}
+use Rattle.line_graph.specs.Drawings.{DrawingValue, KeepsDrawing}
 use Rattle.line_graph.specs.Growing.{and_then, finished}
+use Rattle.line_graph.specs.Spelling.{plain_spelling}
 use Rattle.line_graph.specs.TextLines.{first_draft, judged}
 use Rattle.line_graph.specs.Words.{is_passed_over, words_by_line}
 
@@ -61,3 +62,7 @@ no_memory = record { number = 0; kind = kind.Memory }
 abbrev pub Reads : Result DrawingValue DrawFault → Result DrawingValue DrawFault → Type 0
 Reads said (Ok d) = said ≡ Ok d
 Reads said (Err fault) = (said ≡ Err fault) ⊎ (fault ≡ no_memory)
+
+-- the plain spelling of a drawing says that drawing
+abbrev pub PlainSpellingSays : Type 0
+PlainSpellingSays = (d : DrawingValue) → KeepsDrawing d → drawing_of (plain_spelling d) ≡ Ok d

@@ -1,3 +1,4 @@
+ghost use Rattle.line_graph.specs.DrawingText.{PlainSpellingSays};
 ghost use Rattle.line_graph.specs.Drawings.{DrawingValue};
 ghost use Rattle.line_graph.specs.Laws.{ALoopIsSewnByItsLine, PlainTextsShareSteps, TheSewnDesignSews};
 ghost use Rattle.line_graph.specs.Limits.{DrawingLimits};
@@ -38,3 +39,8 @@ pub fn loops_are_sewn_along()
 {
     needles_lead_along();
 }
+
+/// The plain spelling of a drawing is read as that drawing.
+pub fn the_plain_spelling_says()
+    ensures { PlainSpellingSays }
+{}

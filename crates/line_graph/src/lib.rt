@@ -32,7 +32,7 @@ pub use drawing::Drawing;
 pub use drawing_text::read_drawing;
 pub use laws::{
     a_loop_is_sewn_by_its_line, loops_are_sewn_along, needles_lead_along, plain_texts_share_steps,
-    the_limits_of_drawings, the_sewn_design_sews,
+    the_limits_of_drawings, the_plain_spelling_says, the_sewn_design_sews,
 };
 pub use limits::{MAX_BLOCKS, MAX_COST, MAX_LINES, MAX_POINTS, MAX_TEXT};
 pub use loop_fault::LoopFault;

@@ -28,7 +28,7 @@ returns-else-eq c d spells =
     c.in-Some.ensures.only c.in-Ok.ensures.1 spells in
     let drawn : d ≡ c.in_ok-d.d = agreed.0 ∙ sym c.in_ok-d.ensures in
     let printed : c.in_ok-text.text ≡ c.args.bytes.now =
-    c.in_ok-text.ensures ∙ (ap plain_spelling (sym drawn) ∙ sym spells.spelled) in
+    c.in_ok-text.ensures.value ∙ (ap plain_spelling (sym drawn) ∙ sym spells.spelled) in
     let same = slice_eq-Decides Decides-eqb c.as_slice-2.result.now c.args.bytes.now c.eq.result c.eq.ensures in
     let equal : c.eq.result ≡ true = same.1 (c.as_slice-2.ensures ∙ printed) in
     cc
