@@ -50,7 +50,7 @@ is_used d block = list_any (λ line. line.block == block) d.lines
 abbrev pub is_last_empty : DrawingValue → Bool
 is_last_empty d = not (length d.threads == 0) && not (is_used d (length d.threads - 1))
 
--- the drawing before anything is said of it
+-- the drawing before anything is said of it; its longest step is 25 where none is given
 abbrev pub blank_drawing : DrawingValue
 blank_drawing = record { label = []; step = 25; threads = []; lines = [] }
 

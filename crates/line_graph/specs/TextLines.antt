@@ -11,7 +11,7 @@ use Rattle.line_graph.specs.declared.draft.Draft.{Draft}
 use Rattle.line_graph.specs.declared.draw_fault.DrawKind.{DrawKind}
 use Rattle.line_graph.specs.declared.draw_fault.DrawKind.TheVariants as kind
 use Rattle.line_graph.specs.Growing.{and_then, blank_drawing, block_added, is_label_word, line_added}
-use Rattle.line_graph.specs.Words.{is_comment}
+use Rattle.line_graph.specs.Words.{is_comment, only_word}
 
 -- a number that is from low to high
 abbrev pub count_from : ℕ → ℕ → ℤ → Result ℕ DrawKind
@@ -38,11 +38,6 @@ points_in (x ∷ y ∷ rest) =
     and_then (coordinate_in (whole_of x)) (λ across.
     and_then (coordinate_in (whole_of y)) (λ down.
     and_then (points_in rest) (λ points. Ok (record { x = across; y = down } ∷ points))))
-
--- the only one of the words
-abbrev pub only_word : List (List ℕ) → Option (List ℕ)
-only_word (word ∷ []) = Some word
-only_word words = None
 
 -- nothing was said but the header
 abbrev pub first_draft : Draft

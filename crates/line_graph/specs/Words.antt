@@ -1,5 +1,5 @@
 -- The lines of a text and the words of a line, as bytes of ASCII.
-use Rattle.std.specs.Prelude.{ℕ, Bool, true, false, not, ◌==◌, ◌||◌, List, [], ◌∷◌, filter, map, if◌then◌else◌}
+use Rattle.std.specs.Prelude.{ℕ, Bool, true, false, not, ◌==◌, ◌||◌, List, [], ◌∷◌, Option, Some, None, filter, map, if◌then◌else◌}
 use Rattle.std.specs.List.{onto_first, slice_split}
 
 -- the byte that ends a line
@@ -37,6 +37,11 @@ words_in line = filter is_filled (slice_split is_blank line)
 -- the words of each line of a text
 abbrev pub words_by_line : List ℕ → List (List (List ℕ))
 words_by_line text = map (λ line. words_in (without_return line)) (text_lines text)
+
+-- the only one of the words
+abbrev pub only_word : List (List ℕ) → Option (List ℕ)
+only_word (word ∷ []) = Some word
+only_word words = None
 
 -- a word that begins with a hash sign begins a comment
 abbrev pub is_comment : List ℕ → Bool

@@ -1,15 +1,15 @@
-ghost use Rattle.std.specs.Prelude.{◌≡◌, ◌∷◌, [], None, IfSome, IfNone, bytes_eq};
-ghost use Rattle.line_graph.specs.DrawingText.{at_line, told_at as fault_told_at};
+ghost use Rattle.std.specs.Prelude.{◌≡◌};
+ghost use Rattle.line_graph.specs.DrawingText.{at_line};
 ghost use Rattle.line_graph.specs.Growing.{Changes, finished};
-ghost use Rattle.line_graph.specs.TextLines.{coloured, first_draft, judged, lined, named, only_word as only_of_words, stepped};
-ghost use Rattle.line_graph.specs.Words.{is_comment as begins_comment, words_in};
+ghost use Rattle.line_graph.specs.TextLines.{coloured, first_draft, judged, lined, named, stepped};
+ghost use Rattle.line_graph.specs.Words.{only_word as only_of_words, words_in};
 
-use crate::draw_fault::{DrawFault, DrawKind};
+use crate::draw_fault::{DrawFault, DrawKind, told_at};
 use crate::drawing::Drawing;
 use crate::drawing_maker::{DrawingMaker, is_label_word};
 use crate::number_words::count_in;
 use crate::point_words::points_of_words;
-use crate::text_words::next_word;
+use crate::text_words::{is_comment, next_word, only_word, spells};
 use std::alloc::Global;
 use step_splitter::MAX_STEP;
 
@@ -123,45 +123,4 @@ impl Draft {
             Err(kind) => Err(told_at(number, opened, kind)),
         }
     }
-}
-
-/// The fault with the number of the text line that it is told of.
-pub fn told_at(number: u32, opened: u32, kind: DrawKind) -> DrawFault
-    ensures { result ≡ fault_told_at number opened kind }
-{
-    let number = match kind {
-        DrawKind::EmptyBlock => opened,
-        DrawKind::Memory => 0,
-        _ => number,
-    };
-    DrawFault { number, kind }
-}
-
-/// The only word of a line, if it has one word.
-pub fn only_word(line: &[u8]) -> Option<&[u8]>
-    ensures some { IfSome result (λ word. words_in line.now ≡ word.now ∷ []) }
-    ensures none { IfNone result (only_of_words (words_in line.now) ≡ None) }
-{
-    let (word, rest) = next_word(line)?;
-    match next_word(rest) {
-        None => Some(word),
-        Some(_) => None,
-    }
-}
-
-/// Says whether a word begins a comment.
-pub fn is_comment(word: &[u8]) -> bool
-    ensures { result ≡ begins_comment word.now }
-{
-    match word {
-        [first, ..] => *first == b'#',
-        [] => false,
-    }
-}
-
-/// Says whether a word is this text.
-pub fn spells(word: &[u8], text: &str) -> bool
-    ensures { result ≡ bytes_eq word.now text.now }
-{
-    word == text.as_bytes()
 }

@@ -1,4 +1,5 @@
 ghost use Rattle.std.specs.Prelude.{◌≡◌};
+ghost use Rattle.line_graph.specs.DrawingText.{told_at as fault_told_at};
 
 use design_model::Memory;
 use std::alloc::AllocFailed;
@@ -60,4 +61,16 @@ impl<T: Drop> From<AllocFailed<T>> for DrawKind {
     fn from(_error: AllocFailed<T>) -> DrawKind {
         DrawKind::Memory
     }
+}
+
+/// The fault with the number of the text line that it is told of.
+pub fn told_at(number: u32, opened: u32, kind: DrawKind) -> DrawFault
+    ensures { result ≡ fault_told_at number opened kind }
+{
+    let number = match kind {
+        DrawKind::EmptyBlock => opened,
+        DrawKind::Memory => 0,
+        _ => number,
+    };
+    DrawFault { number, kind }
 }

@@ -3,11 +3,11 @@ ghost use Rattle.line_graph.specs.DrawingText.{Reads, drawing_of, drawn_after, i
 ghost use Rattle.line_graph.specs.TextLines.{first_draft};
 ghost use Rattle.line_graph.specs.Words.{is_passed_over as has_no_words, words_by_line, words_in};
 
-use crate::draft::{Draft, is_comment, only_word, spells, told_at};
-use crate::draw_fault::{DrawFault, DrawKind};
+use crate::draft::Draft;
+use crate::draw_fault::{DrawFault, DrawKind, told_at};
 use crate::drawing::Drawing;
 use crate::limits::MAX_TEXT;
-use crate::text_words::{next_line, next_word, without_return};
+use crate::text_words::{is_comment, next_line, next_word, only_word, spells, without_return};
 use std::alloc::Global;
 
 /// The drawing that a text says, or the first fault of the text in the order of its lines.
@@ -15,23 +15,17 @@ pub fn read_drawing(alloc: Global, bytes: &[u8]) -> Result<Drawing, DrawFault>
     requires { length bytes.now ≤ MAX_TEXT }
     ensures { Reads (drawing_of bytes.now) result }
 {
-    match find_header(bytes) {
-        Ok(body) => read_body(alloc, body.number, body.text),
+    match find_body(bytes) {
+        Ok((first, text)) => read_body(alloc, first, text),
         Err(fault) => Err(fault),
     }
 }
 
-/// The text behind the header, and the number of its first line.
-#[derive(Clone, Copy)]
-struct Body<'a> {
-    number: u32,
-    text: &'a [u8],
-}
-
-fn find_header(bytes: &[u8]) -> Result<Body<'_>, DrawFault>
+/// The number of the first line behind the header, and the text from there on.
+fn find_body(bytes: &[u8]) -> Result<(u32, &[u8]), DrawFault>
     requires { length bytes.now ≤ MAX_TEXT }
-    ensures ok { IfOk result (λ body. drawing_of bytes.now ≡ drawn_after body.number first_draft (words_by_line body.text.now)) }
-    ensures early { IfOk result (λ body. body.number + length body.text.now ≤ MAX_TEXT + 1) }
+    ensures ok { IfOk result (λ r. drawing_of bytes.now ≡ drawn_after r.0 first_draft (words_by_line r.1.now)) }
+    ensures early { IfOk result (λ r. r.0 + length r.1.now ≤ MAX_TEXT + 1) }
     ensures err { IfErr result (λ fault. drawing_of bytes.now ≡ Err fault) }
 {
     let mut passed: u32 = 0;
@@ -39,10 +33,7 @@ fn find_header(bytes: &[u8]) -> Result<Body<'_>, DrawFault>
     while let Some((line, after)) = next_line(rest) {
         let line = without_return(line);
         if is_header(line) {
-            return Ok(Body {
-                number: passed + 2,
-                text: after,
-            });
+            return Ok((passed + 2, after));
         }
         if !is_passed_over(line) {
             break;

@@ -1,6 +1,6 @@
-ghost use Rattle.std.specs.Prelude.{◌≡◌, ◌<◌, ◌≤◌, ◌∷◌, [], drop, length, IfSome, IfNone};
+ghost use Rattle.std.specs.Prelude.{◌≡◌, ◌<◌, ◌≤◌, ◌∷◌, [], None, bytes_eq, drop, length, IfSome, IfNone};
 ghost use Rattle.std.specs.List.{position_or_len};
-ghost use Rattle.line_graph.specs.Words.{is_blank as is_a_blank, is_line_feed, is_solid, text_lines, without_return as line_without_return, words_in};
+ghost use Rattle.line_graph.specs.Words.{is_blank as is_a_blank, is_comment as begins_comment, is_line_feed, is_solid, only_word as only_of_words, text_lines, without_return as line_without_return, words_in};
 
 /// The first line of a text without its end, and the text behind it.
 pub fn next_line(text: &[u8]) -> Option<(&[u8], &[u8])>
@@ -88,4 +88,33 @@ fn is_blank(byte: u8) -> bool
     ensures { result ≡ is_a_blank byte }
 {
     byte == b' ' || byte == b'\t'
+}
+
+/// The only word of a line, if it has one word.
+pub fn only_word(line: &[u8]) -> Option<&[u8]>
+    ensures some { IfSome result (λ word. words_in line.now ≡ word.now ∷ []) }
+    ensures none { IfNone result (only_of_words (words_in line.now) ≡ None) }
+{
+    let (word, rest) = next_word(line)?;
+    match next_word(rest) {
+        None => Some(word),
+        Some(_) => None,
+    }
+}
+
+/// Says whether a word begins a comment.
+pub fn is_comment(word: &[u8]) -> bool
+    ensures { result ≡ begins_comment word.now }
+{
+    match word {
+        [first, ..] => *first == b'#',
+        [] => false,
+    }
+}
+
+/// Says whether a word is this text.
+pub fn spells(word: &[u8], text: &str) -> bool
+    ensures { result ≡ bytes_eq word.now text.now }
+{
+    word == text.as_bytes()
 }

@@ -1,7 +1,7 @@
 use Rattle.std.proofs.Common.{◌≡◌, ◌+◌, ◌≤◌, length}
 use Rattle.line_graph.specs.DrawingText.{drawing_of, drawn_from}
 use Rattle.line_graph.specs.Words.{words_by_line}
-use Rattle.line_graph.proofs.drawing_text.find_header.Given as goal
+use Rattle.line_graph.proofs.drawing_text.find_body.Given as goal
 
 -- the lines so far are passed over, so all depends on those that are left
 abbrev pub invariant-loop-line : goal.invariant-loop-line
