@@ -9,13 +9,9 @@ pub mod Walks
 pub mod Pieces
 pub mod Sewing
 pub mod Spelling
-pub mod Loops
 pub mod Laws
 pub mod SewnPieces
 pub mod Words
 pub mod Growing
 pub mod TextLines
 pub mod DrawingText
--- of the reader's inside
-pub mod Numerals
-pub mod LoopShapes
