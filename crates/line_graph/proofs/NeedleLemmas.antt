@@ -5,7 +5,7 @@ use Rattle.std.proofs.lemmas.List.Elements.{All-append, All-cons, All-head, All-
 use Rattle.std.proofs.lemmas.List.FromFn.{length-map-range_with_len}
 use Rattle.std.proofs.lemmas.List.Sums.{get_or-le-sum_by}
 use Rattle.design_model.specs.declared.point.Point.{Point}
-use Rattle.step_splitter.specs.Chains.{IsNeedlePoint, KeepsClose, KeepsMoving, LeadsTo, last_from}
+use Rattle.step_splitter.specs.Chains.{IsNeedlePoint, KeepsClose, KeepsMoving, LeadsTo, SplitPointsLead, last_from}
 use Rattle.step_splitter.specs.Steps.{point_at, split_points, steps_of}
 use Rattle.std.proofs.lemmas.Option.{slice_get-get_or}
 use Rattle.line_graph.specs.Drawings.{DrawingValue, HasNoRepeat, IsLine, KeepsDrawing, LineValue, first_of, last_of, points_in, points_of}
@@ -184,3 +184,29 @@ needles_sound d line points there keeps is along = record {
   few = omega (arith, cost_is d line there keeps, cost_few d line there keeps);
   along = along;
 }
+
+-- the needle points of a line lead along it, segment by segment
+segments_lead : SplitPointsLead → (step : ℕ) → 1 ≤ step → (line : List Point) (before : Point) (rest needles : List Point)
+    → IsSewn step line before rest needles → LeadAlong step line (needle_points step line)
+segments_lead lead step low line before [] needles sewn =
+    let done = all_sewn step line before [] needles sewn refl in
+    let Along : List Point → Type 0 = λ points. LeadAlong step line points in
+    subst Along done.0 done.1
+segments_lead lead step low line before (next ∷ rest) needles sewn =
+    let ends : List Point = split_points before next step in
+    let leads = lead before next step sewn.moving.0 sewn.in_range (All-head IsNeedlePoint next rest sewn.rest_in_range) low in
+    segments_lead lead step low line next rest (needles ++ ends)
+    (segment_sewn step line before next (next ∷ rest) rest needles ends sewn refl refl leads)
+
+line_leads : SplitPointsLead → (step : ℕ) → 1 ≤ step → (line : List Point) → IsLine line
+    → LeadAlong step line (needle_points step line)
+line_leads lead step low [] able = absurd (omega (arith, able.long))
+line_leads lead step low (p ∷ rest) able =
+    segments_lead lead step low (p ∷ rest) p rest (p ∷ []) (first_sewn step (p ∷ rest) p rest refl able)
+
+-- and so do those of a line of a drawing
+pub needles_lead : SplitPointsLead → (d : DrawingValue) (line : ℕ) → KeepsDrawing d → line < length d.lines
+    → AreNeedlesOf d line (needles_of d line)
+needles_lead lead d line keeps there =
+    needles_sound d line (needles_of d line) there keeps refl
+    (line_leads lead d.step keeps.step_from (points_of d line) (line_there d line there keeps))

@@ -6,10 +6,12 @@ pub mod Needles
 pub mod Drawings
 -- read this one first: what walks are, and which of them are least
 pub mod Walks
+pub mod Pieces
 pub mod Sewing
 pub mod Spelling
-pub mod Loops
 pub mod Laws
--- of the reader's inside
-pub mod Numerals
-pub mod LoopShapes
+pub mod SewnPieces
+pub mod Words
+pub mod Growing
+pub mod TextLines
+pub mod DrawingText

@@ -1,15 +1,28 @@
-ghost use Rattle.std.specs.Prelude.{◌≡◌, ◌≤◌, ◌++◌, length, IfOk, OnOk};
+ghost use Rattle.std.specs.Prelude.{◌≡◌, ◌≤◌, ◌++◌, length, Ok, IfOk, OnOk};
 ghost use Rattle.std.specs.List.{flat_map};
+ghost use Rattle.line_graph.specs.DrawingText.{drawing_of};
 ghost use Rattle.line_graph.specs.Spelling.{plain_spelling, label_text, number_text, blocks_text, line_text, lines_in, points_text, point_text};
 
 use crate::drawing::Drawing;
+use crate::laws::the_plain_spelling_says;
 use crate::limits::MAX_BLOCKS;
 use crate::line::Line;
 use design_model::{Bytes, Memory, Point};
 use std::alloc::Global;
 
-/// The plain spelling of a drawing.
+/// The plain spelling of a drawing, which is read as that drawing again.
 pub fn print_drawing(alloc: Global, d: &Drawing) -> Result<Bytes, Memory>
+    ensures value { IfOk result (λ text. text ≡ plain_spelling d.now) }
+    ensures again { IfOk result (λ text. drawing_of text ≡ Ok d.now) }
+{
+    // The clauses of `step` bring the drawing's limits.
+    let _step = d.step();
+    the_plain_spelling_says();
+    let text = spelled(alloc, d)?;
+    Ok(text)
+}
+
+fn spelled(alloc: Global, d: &Drawing) -> Result<Bytes, Memory>
     ensures { IfOk result (λ text. text ≡ plain_spelling d.now) }
 {
     let mut text = Bytes::new(alloc);

@@ -1,33 +1,56 @@
-use crate::{Drawing, LoopFault, MAX_TEXT, needles, print_drawing, read_loop};
-use design_model::Point;
+use crate::{
+    DrawFault, DrawKind, Drawing, MAX_TEXT, needles, only_loops, print_drawing, read_drawing,
+};
+use design_model::{Bytes, Memory, Point};
 use std::alloc::Global;
 use std::test::Fail;
 
-const SQUARE: &str = "redwork 1\nstep 30\ncolor 5\nline 0 0 30 0 30 30 0 30 0 0\n";
-
-fn read(alloc: Global, text: &str) -> Result<Drawing, LoopFault> {
+fn drawing(alloc: Global, text: &[u8]) -> Result<Drawing, DrawFault> {
     if text.len() > MAX_TEXT {
-        return Err(LoopFault::Memory);
+        let kind = DrawKind::Memory;
+        return Err(DrawFault { number: 0, kind });
     }
-    read_loop(alloc, text.as_bytes())
+    read_drawing(alloc, text)
 }
 
+fn fault(alloc: Global, text: &[u8]) -> (u32, Option<DrawKind>) {
+    match drawing(alloc, text) {
+        Ok(_) => (0, None),
+        Err(fault) => (fault.number, Some(fault.kind)),
+    }
+}
+
+const SQUARES: &str = "redwork 1
+step 30
+color 3
+line 0 0 30 0 30 30 0 30 0 0
+color 9
+line 300 0 330 0 330 30 300 30 300 0
+";
+
 #[test]
-fn the_text_of_a_square_is_read_and_printed_again(rt: HostRuntime) -> Result<(), Fail> {
-    let d = read(rt.alloc(), SQUARE).ok().ok_or("the square")?;
+fn a_drawing_of_two_blocks_is_read_and_printed_again(rt: HostRuntime) -> Result<(), Fail> {
+    let d = drawing(rt.alloc(), SQUARES.as_bytes())
+        .ok()
+        .ok_or("two squares")?;
     assert_eq!(rt; d.step(), 30);
-    assert_eq!(rt; d.label().len(), 0);
-    assert_eq!(rt; d.block_count(), 1);
-    assert_eq!(rt; d.line_count(), 1);
+    assert_eq!(rt; d.block_count(), 2);
+    assert_eq!(rt; d.line_count(), 2);
     let text = print_drawing(rt.alloc(), &d).ok().ok_or("no memory")?;
-    assert!(rt; text.as_slice() == SQUARE.as_bytes());
+    assert!(rt; text.as_slice() == SQUARES.as_bytes());
+    if d.block_count() == 2 && d.line_count() == 2 {
+        assert_eq!(rt; d.block_thread(1), 9);
+        assert_eq!(rt; d.line_block(0), 0);
+        assert_eq!(rt; d.line_block(1), 1);
+        assert!(rt; d.line_points(1).first() == Some(&Point { x: 300, y: 0 }));
+    }
     Ok(())
 }
 
 #[test]
 fn the_needles_of_a_line_are_its_points_and_those_between(rt: HostRuntime) -> Result<(), Fail> {
     let table: [(&str, usize, (i32, i32)); 3] = [
-        (SQUARE, 5, (30, 0)),
+        (SQUARES, 5, (30, 0)),
         (
             "redwork 1\nstep 10\ncolor 5\nline 0 0 40 0 0 0\n",
             9,
@@ -39,71 +62,207 @@ fn the_needles_of_a_line_are_its_points_and_those_between(rt: HostRuntime) -> Re
             (-3, 1),
         ),
     ];
-    for (text, count, second) in table {
-        let d = read(rt.alloc(), text).ok().ok_or("a loop")?;
+    for (text, count, (x, y)) in table {
+        let d = drawing(rt.alloc(), text.as_bytes())
+            .ok()
+            .ok_or("a drawing")?;
         if d.line_count() == 0 {
             continue;
         }
         let points = needles(rt.alloc(), &d, 0).ok().ok_or("no memory")?;
         assert_eq!(rt; points.len(), count, "{text}");
+        assert!(rt; points.as_slice().get(1) == Some(&Point { x, y }), "{text}");
+    }
+    Ok(())
+}
+
+#[test]
+fn texts_of_any_spelling_are_read(rt: HostRuntime) -> Result<(), Fail> {
+    let table = [
+        "redwork 1\nname Rose\ncolor 7\nline 0 0 5 5",
+        "\n# a rose\n\tredwork \t 1\r\nname Rose\r\n  # red\r\ncolor 007\r\nline -0 0 05 5\r\n",
+        "redwork 1\nstep 25\nname Rose\n\ncolor 7\nline 0 0 5 5\n\n#\n \n",
+    ];
+    for text in table {
+        let d = drawing(rt.alloc(), text.as_bytes())
+            .ok()
+            .ok_or("a drawing")?;
+        let plain = print_drawing(rt.alloc(), &d).ok().ok_or("no memory")?;
+        let wanted = "redwork 1\nname Rose\nstep 25\ncolor 7\nline 0 0 5 5\n";
+        assert!(rt; plain.as_slice() == wanted.as_bytes(), "{text}");
+    }
+    Ok(())
+}
+
+#[test]
+fn the_first_fault_of_a_text_is_told_with_its_line(rt: HostRuntime) {
+    let table = [
+        ("", 1, DrawKind::BadHeader),
+        ("# a\n\n", 3, DrawKind::BadHeader),
+        ("redwork 01\n", 1, DrawKind::BadHeader),
+        ("redwork 1\nfoo\n", 2, DrawKind::BadWord),
+        ("redwork 1\nstep 5\nstep 5\n", 3, DrawKind::BadWord),
+        ("redwork 1\ncolor 1\nname a\n", 3, DrawKind::BadWord),
+        ("redwork 1\nname a\r\r\n", 2, DrawKind::BadWord),
+        ("redwork 1\nstep +5\n", 2, DrawKind::BadNumber),
+        (
+            "redwork 1\nstep 99999999999999999999x\n",
+            2,
+            DrawKind::BadNumber,
+        ),
+        (
+            "redwork 1\nstep 99999999999999999999\n",
+            2,
+            DrawKind::OutOfRange,
+        ),
+        ("redwork 1\nstep 2048\n", 2, DrawKind::OutOfRange),
+        ("redwork 1\ncolor 256\n", 2, DrawKind::OutOfRange),
+        ("redwork 1\ncolor 1\n", 2, DrawKind::EmptyBlock),
+        ("redwork 1\ncolor 1\n#\ncolor 2\n", 2, DrawKind::EmptyBlock),
+        ("redwork 1\ncolor 1\nfoo\n", 3, DrawKind::BadWord),
+        ("redwork 1\ncolor 1\ncolor x\n", 3, DrawKind::BadNumber),
+        (
+            "redwork 1\ncolor 1\nline 0 0\ncolor 2\n",
+            3,
+            DrawKind::FewPoints,
+        ),
+        ("redwork 1\nname a\n", 3, DrawKind::NoBlock),
+        ("redwork 1\nline 0 0 x\n", 2, DrawKind::NoBlock),
+        (
+            "redwork 1\ncolor 1\nline 30001 x\n",
+            3,
+            DrawKind::OutOfRange,
+        ),
+        ("redwork 1\ncolor 1\nline x 30001\n", 3, DrawKind::BadNumber),
+        (
+            "redwork 1\ncolor 1\nline 0 0 0 0 1\n",
+            3,
+            DrawKind::FewPoints,
+        ),
+        (
+            "redwork 1\ncolor 1\nline 0 0 0 -0\n",
+            3,
+            DrawKind::RepeatedPoint,
+        ),
+    ];
+    for (text, number, kind) in table {
         assert!(rt;
-            points.as_slice().get(1)
-                == Some(&Point {
-                    x: second.0,
-                    y: second.1
-                }),
+            fault(rt.alloc(), text.as_bytes()) == (number, Some(kind)),
             "{text}"
+        );
+    }
+}
+
+#[test]
+fn only_closed_lines_that_share_no_end_are_loops(rt: HostRuntime) -> Result<(), Fail> {
+    let table = [
+        (SQUARES, true),
+        ("redwork 1\ncolor 1\nline 0 0 40 0\n", false),
+        (
+            "redwork 1\ncolor 1\nline 0 0 9 0 0 0\nline 5 5 0 0 5 5\n",
+            true,
+        ),
+        (
+            "redwork 1\ncolor 1\nline 0 0 9 0 0 0\nline 0 0 0 9 0 0\n",
+            false,
+        ),
+        (
+            "redwork 1\ncolor 1\nline 0 0 9 0 0 0\ncolor 1\nline 0 0 0 9 0 0\n",
+            true,
+        ),
+    ];
+    for (text, wanted) in table {
+        let d = drawing(rt.alloc(), text.as_bytes())
+            .ok()
+            .ok_or("a drawing")?;
+        assert_eq!(rt; only_loops(&d), wanted, "{text}");
+    }
+    Ok(())
+}
+
+/// The text of a head, so many times a middle, and an end.
+fn repeated(
+    alloc: Global,
+    head: &str,
+    middle: &str,
+    times: u32,
+    end: &str,
+) -> Result<Bytes, Memory> {
+    let mut text = Bytes::new(alloc);
+    text.append(head.as_bytes())?;
+    for _ in 0..times {
+        text.append(middle.as_bytes())?;
+    }
+    text.append(end.as_bytes())?;
+    Ok(text)
+}
+
+#[test]
+fn a_drawing_may_reach_its_limits_and_not_pass_them(rt: HostRuntime) -> Result<(), Fail> {
+    let blocks = "redwork 1\n";
+    let lines = "redwork 1\ncolor 1\n";
+    let points = "redwork 1\nstep 2047\ncolor 1\nline";
+    let steps = "redwork 1\nstep 1\ncolor 1\n";
+    let cases = [
+        (blocks, "color 1\nline 0 0 1 0\n", 255, "", (0, None)),
+        (
+            blocks,
+            "color 1\nline 0 0 1 0\n",
+            256,
+            "",
+            (512, Some(DrawKind::TooManyBlocks)),
+        ),
+        (lines, "line 0 0 1 0\n", 1_024, "", (0, None)),
+        (
+            lines,
+            "line 0 0 1 0\n",
+            1_025,
+            "",
+            (1_027, Some(DrawKind::TooManyLines)),
+        ),
+        (points, " 0 0 1 0", 32_768, "\n", (0, None)),
+        (
+            points,
+            " 0 0 1 0",
+            32_768,
+            " 0 0\n",
+            (4, Some(DrawKind::TooManyPoints)),
+        ),
+        (
+            points,
+            " 0 0 1 0",
+            32_768,
+            " 0 0 0\n",
+            (4, Some(DrawKind::FewPoints)),
+        ),
+        (steps, "line 0 0 20000 0\n", 10, "", (0, None)),
+        (
+            steps,
+            "line 0 0 30000 0\n",
+            7,
+            "",
+            (10, Some(DrawKind::TooMuchCost)),
+        ),
+    ];
+    for (head, middle, times, end, wanted) in cases {
+        let text = repeated(rt.alloc(), head, middle, times, end)
+            .ok()
+            .ok_or("no memory")?;
+        assert!(rt;
+            fault(rt.alloc(), text.as_slice()) == wanted,
+            "{times} times {middle}"
         );
     }
     Ok(())
 }
 
 #[test]
-fn only_the_plain_spelling_of_a_closed_line_is_read(rt: HostRuntime) {
-    let table = [
-        "",
-        "redwork 1\n",
-        "redwork 1\nstep 30\ncolor 5\nline 0 0 30 0 30 30 0 30 0 0",
-        "redwork 1\nstep 30\ncolor 5\nline  0 0 30 0 30 30 0 30 0 0\n",
-        "redwork 1\nstep 30\ncolor 5\nline 0 0 030 0 30 30 0 30 0 0\n",
-        "redwork 1\nstep 030\ncolor 5\nline 0 0 30 0 30 30 0 30 0 0\n",
-        "redwork 1\nstep 30\ncolor 5\nline 0 -0 30 0 30 30 0 30 0 0\n",
-        "redwork 1\nstep 30\ncolor +5\nline 0 0 30 0 30 30 0 30 0 0\n",
-        "redwork 1\nstep 30\ncolor 5\nline 0 0 +30 0 30 30 0 30 0 0\n",
-        "redwork 1\nstep 30\ncolor 5\nline 0 0 30 0 30 30 0 30 0 0\nline 0 0 5 5 0 0\n",
-        "redwork 1\nstep 30\ncolor 5\nline 0 0 30 0 30 30 0 30 0 0\n\n",
-        "redwork 1\nstep 30\ncolor 256\nline 0 0 30 0 30 30 0 30 0 0\n",
-        "redwork 1\nstep 0\ncolor 5\nline 0 0 30 0 30 30 0 30 0 0\n",
-        "redwork 1\nstep 2048\ncolor 5\nline 0 0 30 0 30 30 0 30 0 0\n",
-        "redwork 1\nstep 99999999999999999999\ncolor 5\nline 0 0 30 0 30 30 0 30 0 0\n",
-        "redwork 1\nstep 30\ncolor 5\nline 0 0 30001 0 0 0\n",
-        "redwork 1\nstep 30\ncolor 5\nline 0 0 0 -30001 0 0\n",
-        "redwork 1\nstep 30\ncolor 5\nline 0 0 30 0 30 30\n",
-        "redwork 1\nstep 30\ncolor 5\nline 30 0 30 30 30 0\n",
-        "redwork 1\nstep 30\ncolor 5\nline 0 0 30 0 30 0 0 0\n",
-        "redwork 1\nstep 30\ncolor 5\nline 0 0\n",
-        "redwork 1\nstep 30\ncolor 5\nline 0 0 30 0 0\n",
-        "redwork 1\nstep 30\ncolor 5\nline\n",
-        "redwork 1\nname a\nstep 30\ncolor 5\nline 0 0 30 0 30 30 0 30 0 0\n",
-        "redwork 1\nstep 30\ncolor 5\ncolor 6\nline 0 0 30 0 30 30 0 30 0 0\n",
-        "redwork 1\r\nstep 30\r\ncolor 5\r\nline 0 0 30 0 30 30 0 30 0 0\r\n",
-        "redwork 1\ncolor 5\nline 0 0 30 0 30 30 0 30 0 0\n",
-        "redwork 2\nstep 30\ncolor 5\nline 0 0 30 0 30 30 0 30 0 0\n",
-        "redwork 1\nstep 1\ncolor 5\nline 0 0 30000 0 0 0 30000 0 0 0 30000 0 0 0 30000 0 0 0\n",
-    ];
-    for text in table {
-        let answer = read(rt.alloc(), text);
-        assert!(rt; matches!(answer, Err(LoopFault::NotPlainLoop)), "{text}");
-    }
-}
-
-#[test]
-fn the_limits_themselves_are_read(rt: HostRuntime) {
-    let table = [
-        "redwork 1\nstep 2047\ncolor 255\nline 0 0 30000 -30000 0 0\n",
-        "redwork 1\nstep 1\ncolor 0\nline 0 0 30000 0 0 0 30000 0 0 0 30000 0 0 0 10000 0 0 0\n",
-    ];
-    for text in table {
-        assert!(rt; read(rt.alloc(), text).is_ok(), "{text}");
-    }
+fn the_longest_text_is_read_in_one_pass(rt: HostRuntime) -> Result<(), Fail> {
+    let head = "redwork 1\ncolor 1\nline 0 0 1 0\n";
+    let text = repeated(rt.alloc(), head, "# sixteen bytes\n", 4_194_301, "")
+        .ok()
+        .ok_or("no memory")?;
+    assert!(rt; text.len() > MAX_TEXT - 32);
+    assert!(rt; fault(rt.alloc(), text.as_slice()) == (0, None));
+    Ok(())
 }

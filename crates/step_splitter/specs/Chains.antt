@@ -3,7 +3,7 @@ use Rattle.std.specs.Prelude.{◌≡◌, ◌≢◌, ℕ, ◌≤◌, List, [], �
 use Rattle.design_model.specs.declared.point.Point.{Point}
 use Rattle.design_model.specs.declared.point.TheConstants.{NEEDLE_LIMIT}
 use Rattle.design_model.specs.Points.{is_within, move_between}
-use Rattle.step_splitter.specs.Steps.{steps_of}
+use Rattle.step_splitter.specs.Steps.{split_points, steps_of}
 
 -- each point lies within the limit of the one before, on each axis; the first one of p
 abbrev pub KeepsClose : ℕ → Point → List Point → Type 0
@@ -32,3 +32,8 @@ pub record LeadsTo (p q : Point) (step : ℕ) (points : List Point) : Type 0 whe
   pub moving : KeepsMoving p points
   pub in_range : All IsNeedlePoint points
   pub last : last_from p points ≡ q
+
+-- the ends of the steps of a segment lead along it
+abbrev pub SplitPointsLead : Type 0
+SplitPointsLead = (p q : Point) (step : ℕ) → p ≢ q → IsNeedlePoint p → IsNeedlePoint q → 1 ≤ step
+    → LeadsTo p q step (split_points p q step)

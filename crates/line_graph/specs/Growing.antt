@@ -1,0 +1,137 @@
+-- Drawings that grow by blocks and lines, within the limits of a drawing. Costs count steps.
+use Rattle.std.specs.Prelude.{◌≡◌, ℕ, ◌+◌, ◌-◌, ◌<◌, ◌≤◌, ◌≢◌, ◌==◌, Bool, false, not, ◌&&◌, ◌||◌, nat_le, nat_lt, List, [], ◌∷◌, ◌++◌, Result, Ok, Err, length, map, All, Contains, sum_by, if◌then◌else◌}
+use Rattle.std.specs.Char.{is_ascii_graphic}
+use Rattle.std.specs.List.{list_all, list_any}
+use Rattle.std.specs.List.Sorted.{IsNonDecreasing}
+use Rattle.design_model.specs.declared.design.TheConstants.{MAX_LABEL}
+use Rattle.design_model.specs.declared.point.Point.{Point}
+use Rattle.design_model.specs.Labels.{IsLabel}
+use Rattle.design_model.specs.Points.{is_same_point}
+use Rattle.step_splitter.specs.declared.segment.TheConstants.{MAX_STEP}
+use Rattle.line_graph.specs.declared.draw_fault.DrawKind.{DrawKind}
+use Rattle.line_graph.specs.declared.draw_fault.DrawKind.TheVariants as kind
+use Rattle.line_graph.specs.declared.limits.TheConstants.{MAX_BLOCKS, MAX_COST, MAX_LINES, MAX_POINTS}
+use Rattle.line_graph.specs.Drawings.{DrawingValue, IsLine, LineValue}
+use Rattle.line_graph.specs.Needles.{line_steps}
+
+-- what comes after an answer that isn't a fault
+abbrev pub and_then : {A B F : Type 0} → Result A F → (A → Result B F) → Result B F
+and_then (Ok a) next = next a
+and_then (Err why) next = Err why
+
+-- the refusal is the one that was said, or memory was wanted
+abbrev pub IsSaid : {A : Type 0} → Result A DrawKind → DrawKind → Type 0
+IsSaid said kind.Memory = Unit {0}
+IsSaid said why = said ≡ Err why
+
+-- what each answer of a call means: it is what was said, or memory was wanted
+abbrev pub Answers : {A : Type 0} → Result A DrawKind → Result A DrawKind → Type 0
+Answers said (Ok a) = said ≡ Ok a
+Answers said (Err why) = IsSaid said why
+
+-- what each answer of a call means that is to change a value as said: a refusal leaves it as it was
+abbrev pub Changes : {A T : Type 0} → Result A DrawKind → A → Result T DrawKind → A → Type 0
+Changes said old (Ok _) new = said ≡ Ok new
+Changes said old (Err why) new = IsSaid said why × (new ≡ old)
+
+-- the points of all these lines, counted
+abbrev pub point_count : List LineValue → ℕ
+point_count lines = sum_by (λ line. length line.points) lines
+
+-- the steps of all these lines
+abbrev pub step_count : ℕ → List LineValue → ℕ
+step_count step lines = sum_by (λ line. line_steps step line.points) lines
+
+-- a line is in that block
+abbrev pub is_used : DrawingValue → ℕ → Bool
+is_used d block = list_any (λ line. line.block == block) d.lines
+
+-- there is a block, and no line is in the last one
+abbrev pub is_last_empty : DrawingValue → Bool
+is_last_empty d = not (length d.threads == 0) && not (is_used d (length d.threads - 1))
+
+-- the drawing before anything is said of it; its longest step is 25 where none is given
+abbrev pub blank_drawing : DrawingValue
+blank_drawing = record { label = []; step = 25; threads = []; lines = [] }
+
+-- a word that may be a label
+abbrev pub is_label_word : List ℕ → Bool
+is_label_word word = nat_le (length word) MAX_LABEL && list_all is_ascii_graphic word
+
+-- the drawing with one block more
+abbrev pub with_block : DrawingValue → ℕ → DrawingValue
+with_block d thread = record d { threads = d.threads ++ thread ∷ [] }
+
+-- the drawing with that block, or why it may not have it
+abbrev pub block_added : DrawingValue → ℕ → Result DrawingValue DrawKind
+block_added d thread =
+    if is_last_empty d then Err kind.EmptyBlock
+    else (if length d.threads == MAX_BLOCKS then Err kind.TooManyBlocks
+    else Ok (with_block d thread))
+
+-- one of the points is the same as the one before it, the first one as p
+abbrev pub repeats_after : Point → List Point → Bool
+repeats_after p [] = false
+repeats_after p (q ∷ rest) = is_same_point p q || repeats_after q rest
+
+-- one of the points is the same as the one before it
+abbrev pub has_repeat : List Point → Bool
+has_repeat [] = false
+has_repeat (p ∷ rest) = repeats_after p rest
+
+-- the steps of the drawing's lines and a further line through these points, or the first fault of that line
+abbrev pub steps_with : DrawingValue → List Point → Result ℕ DrawKind
+steps_with d points =
+    if nat_lt (length points) 2 then Err kind.FewPoints
+    else (if has_repeat points then Err kind.RepeatedPoint
+    else (if length d.lines == MAX_LINES then Err kind.TooManyLines
+    else (if nat_lt MAX_POINTS (point_count d.lines + length points) then Err kind.TooManyPoints
+    else (if nat_lt MAX_COST (step_count d.step d.lines + line_steps d.step points) then Err kind.TooMuchCost
+    else Ok (step_count d.step d.lines + line_steps d.step points)))))
+
+-- the drawing with one line more in its last block
+abbrev pub with_line : DrawingValue → List Point → DrawingValue
+with_line d points =
+    record d { lines = d.lines ++ record { block = length d.threads - 1; points = points } ∷ [] }
+
+-- the drawing with that line, or why it may not have it
+abbrev pub line_added : DrawingValue → List Point → Result DrawingValue DrawKind
+line_added d points = and_then (steps_with d points) (λ steps. Ok (with_line d points))
+
+-- the drawing where it may end so, with a line in each of its blocks
+abbrev pub finished : DrawingValue → Result DrawingValue DrawKind
+finished d =
+    if length d.threads == 0 then Err kind.NoBlock
+    else (if is_last_empty d then Err kind.EmptyBlock else Ok d)
+
+-- the limits of a label that is one word or empty, and of a longest step
+pub record IsHead (label : List ℕ) (step : ℕ) : Type 0 where
+  pub label_ok : IsLabel label
+  pub one_word : All (λ byte. byte ≢ 32) label
+  pub step_from : 1 ≤ step
+  pub step_to : step ≤ MAX_STEP
+
+-- the limits of blocks that fit lines: each block has a line, but that the last one may be empty
+pub record AreBlocks (threads : List ℕ) (lines : List LineValue) : Type 0 where
+  pub blocks_to : length threads ≤ MAX_BLOCKS
+  pub in_range : All (λ thread. thread < 256) threads
+  pub used : (block : ℕ) → block + 1 < length threads → Contains (map (λ line. line.block) lines) block
+  pub there : All (λ line. line.block < length threads) lines
+  pub ordered : IsNonDecreasing (map (λ line. line.block) lines)
+
+-- the limits of lines
+pub record AreLines (step : ℕ) (lines : List LineValue) : Type 0 where
+  pub each : All (λ line. IsLine line.points) lines
+  pub line_count : length lines ≤ MAX_LINES
+  pub points_to : point_count lines ≤ MAX_POINTS
+  pub cost : step_count step lines ≤ MAX_COST
+
+-- the drawing keeps these limits, and these are what is known of its lines: whether the last block is
+-- empty, and how many points and steps there are
+pub record IsMade (d : DrawingValue) (empty : Bool) (points steps : ℕ) : Type 0 where
+  pub head : IsHead d.label d.step
+  pub blocks : AreBlocks d.threads d.lines
+  pub lines : AreLines d.step d.lines
+  pub last_is : empty ≡ is_last_empty d
+  pub points_are : points ≡ point_count d.lines
+  pub steps_are : steps ≡ step_count d.step d.lines

@@ -1,0 +1,189 @@
+ghost use Rattle.std.specs.Prelude.{◌≡◌, ◌≤◌, length, All, true};
+ghost use Rattle.std.specs.Char.{is_ascii_graphic};
+ghost use Rattle.std.specs.List.{list_all};
+ghost use Rattle.step_splitter.specs.declared.segment.TheConstants.{MAX_STEP as max_step};
+ghost use Rattle.step_splitter.specs.Chains.{IsNeedlePoint};
+ghost use Rattle.line_graph.specs.Growing.{Changes, blank_drawing, block_added, finished, is_label_word as is_a_label_word, line_added, steps_with as steps_of_lines_with};
+
+use crate::draw_fault::DrawKind;
+use crate::drawing::Drawing;
+use crate::limits::{MAX_BLOCKS, MAX_COST, MAX_LINES, MAX_POINTS};
+use crate::line::Line;
+use crate::line_shape::{has_repeat, line_steps};
+use arrayvec::ArrayVec;
+use design_model::{MAX_LABEL, Point, Points};
+use std::alloc::Global;
+use std::marker::Model;
+
+/// The longest step of a drawing that names none, in tenths of a millimetre.
+const DEFAULT_STEP: u32 = 25;
+
+/// A drawing that grows: blocks are added at its end, and lines to its last block.
+#[derive(Debug, Drop)]
+pub struct DrawingMaker {
+    label: ArrayVec<u8, MAX_LABEL>,
+    step: u32,
+    threads: ArrayVec<u8, MAX_BLOCKS>,
+    lines: Vec<Line>,
+    is_last_empty: bool,
+    points: u32,
+    steps: u32,
+}
+
+impl Model for DrawingMaker {
+    ghost use Rattle.line_graph.specs.Drawings.{DrawingValue};
+    ghost use Rattle.line_graph.specs.Growing.{IsMade};
+
+    ghost Value = { DrawingValue };
+
+    ghost view = { λ d. record {
+      label = d.label.items;
+      step = d.step;
+      threads = d.threads.items;
+      lines = d.lines.items;
+    } };
+
+    ghost invariant = { λ d. IsMade (record {
+      label = d.label.items;
+      step = d.step;
+      threads = d.threads.items;
+      lines = d.lines.items;
+    }) d.is_last_empty d.points d.steps };
+}
+
+impl DrawingMaker {
+    /// A drawing without label, blocks and lines.
+    pub fn new(alloc: Global) -> Self
+        ensures { result ≡ blank_drawing }
+    {
+        DrawingMaker {
+            label: ArrayVec::new(),
+            step: DEFAULT_STEP,
+            threads: ArrayVec::new(),
+            lines: Vec::new(alloc),
+            is_last_empty: false,
+            points: 0,
+            steps: 0,
+        }
+    }
+
+    /// Sets the label.
+    pub fn set_label(&mut self, word: &[u8])
+        requires { is_a_label_word word.now ≡ true }
+        ensures { self.new ≡ record self.old { label = word.now } }
+    {
+        self.label.clear();
+        self.label.try_extend_from_slice(word).unwrap();
+    }
+
+    /// Sets the longest step, in tenths of a millimetre.
+    pub fn set_step(&mut self, step: u32)
+        requires low { 1 ≤ step }
+        requires high { step ≤ max_step }
+        requires early { length self.old.threads ≡ 0 }
+        ensures { self.new ≡ record self.old { step = step } }
+    {
+        self.step = step;
+    }
+
+    /// The number of blocks.
+    pub fn block_count(&self) -> usize
+        ensures { result ≡ length self.now.threads }
+    {
+        self.threads.len()
+    }
+
+    /// Adds a block at the end. A refusal leaves the drawing as it was.
+    pub fn add_block(&mut self, thread: u8) -> Result<(), DrawKind>
+        ensures { Changes (block_added self.old thread) self.old result self.new }
+    {
+        if self.is_last_empty {
+            return Err(DrawKind::EmptyBlock);
+        }
+        if self.threads.len() == MAX_BLOCKS {
+            return Err(DrawKind::TooManyBlocks);
+        }
+        self.threads.push(thread);
+        self.is_last_empty = true;
+        Ok(())
+    }
+
+    /// Adds a line to the last block. A refusal leaves the drawing as it was.
+    pub fn add_line(&mut self, points: Points) -> Result<(), DrawKind>
+        requires in_range { All IsNeedlePoint points }
+        requires block { 1 ≤ length self.old.threads }
+        ensures { Changes (line_added self.old points) self.old result self.new }
+    {
+        let steps = self.steps_with(points.as_slice())?;
+        let count = points.len() as u32;
+        let block = self.threads.len() as u32 - 1;
+        self.lines.push(Line::new(block, points))?;
+        self.is_last_empty = false;
+        self.points += count;
+        self.steps = steps;
+        Ok(())
+    }
+
+    fn steps_with(&self, points: &[Point]) -> Result<u32, DrawKind>
+        requires { All IsNeedlePoint points.now }
+        ensures { result ≡ steps_of_lines_with self.now points.now }
+    {
+        if points.len() < 2 {
+            return Err(DrawKind::FewPoints);
+        }
+        if has_repeat(points) {
+            return Err(DrawKind::RepeatedPoint);
+        }
+        if self.lines.len() == MAX_LINES {
+            return Err(DrawKind::TooManyLines);
+        }
+        if self.points as usize + points.len() > MAX_POINTS {
+            return Err(DrawKind::TooManyPoints);
+        }
+        let steps = self.steps as u64 + line_steps(self.step, points);
+        if steps > MAX_COST as u64 {
+            return Err(DrawKind::TooMuchCost);
+        }
+        Ok(steps as u32)
+    }
+
+    /// The drawing, where each of its blocks has a line.
+    pub fn finish(self) -> Result<Drawing, DrawKind>
+        ensures { result ≡ finished self }
+    {
+        if self.threads.is_empty() {
+            return Err(DrawKind::NoBlock);
+        }
+        if self.is_last_empty {
+            return Err(DrawKind::EmptyBlock);
+        }
+        let DrawingMaker {
+            label,
+            step,
+            threads,
+            lines,
+            ..
+        } = self;
+        Ok(Drawing::of_parts(label, step, threads, lines))
+    }
+}
+
+/// Says whether a word may be a label.
+pub fn is_label_word(word: &[u8]) -> bool
+    ensures { result ≡ is_a_label_word word.now }
+{
+    word.len() <= MAX_LABEL && are_graphic(word)
+}
+
+fn are_graphic(bytes: &[u8]) -> bool
+    ensures { result ≡ list_all is_ascii_graphic bytes.now }
+{
+    let mut rest = bytes;
+    while let [byte, after @ ..] = rest {
+        if !byte.is_ascii_graphic() {
+            return false;
+        }
+        rest = after;
+    }
+    true
+}

@@ -1,0 +1,50 @@
+ghost use Rattle.std.specs.Prelude.{◌≡◌, ◌≤◌, length};
+ghost use Rattle.line_graph.specs.declared.limits.TheConstants.{MAX_POINTS};
+ghost use Rattle.line_graph.specs.Drawings.{IsLine};
+ghost use Rattle.line_graph.specs.Growing.{has_repeat as has_a_repeat};
+ghost use Rattle.line_graph.specs.Needles.{line_steps as steps_of_line};
+
+use design_model::Point;
+use step_splitter::{MAX_STEP, steps};
+
+/// Says whether a point is the same as the one before.
+pub fn has_repeat(points: &[Point]) -> bool
+    ensures { result ≡ has_a_repeat points.now }
+{
+    let [first, after @ ..] = points else {
+        return false;
+    };
+    let mut before = *first;
+    let mut rest = after;
+    while let [next, after @ ..] = rest {
+        if before == *next {
+            return true;
+        }
+        before = *next;
+        rest = after;
+    }
+    false
+}
+
+/// The steps of a line at the longest step `step`.
+pub fn line_steps(step: u32, points: &[Point]) -> u64
+    requires low { 1 ≤ step }
+    requires high { step ≤ MAX_STEP }
+    requires line { IsLine points.now }
+    requires few { length points.now ≤ MAX_POINTS }
+    ensures value { result ≡ steps_of_line step points.now }
+    ensures most { result ≤ 3932160000 }
+{
+    let [first, after @ ..] = points else {
+        return 0;
+    };
+    let mut count: u64 = 0;
+    let mut before = *first;
+    let mut rest = after;
+    while let [next, after @ ..] = rest {
+        count += steps(before, *next, step) as u64;
+        before = *next;
+        rest = after;
+    }
+    count
+}
