@@ -1,0 +1,4 @@
+pub mod Coordinates
+pub mod Spelling
+pub mod Records
+pub mod Header
