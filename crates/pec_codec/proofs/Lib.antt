@@ -1,2 +1,3 @@
 pub mod ExtentLemmas
 pub mod HeaderLemmas
+pub mod RecordLemmas

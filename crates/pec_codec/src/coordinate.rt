@@ -1,5 +1,6 @@
-ghost use Rattle.std.specs.Prelude.{◌≡◌, ◌<◌, ◌≤◌, ◌+◌, ◌*◌, ◌++◌, length, take, unsigned_abs, IfSome, OnOk};
-ghost use Rattle.pec_codec.specs.Coordinates.{coordinate_in as coordinate_of, is_short as is_short_number, long_bytes, long_coordinate as long_of, short_bytes, short_coordinate as short_of, signed as signed_of, unsigned as unsigned_of};
+ghost use Rattle.std.specs.Prelude.{◌≡◌, ◌<◌, ◌≤◌, ◌*◌, length, unsigned_abs, IfSome};
+ghost use Rattle.format_traits.specs.declared.record_reader.TheConstants.{GREATEST_STEP};
+ghost use Rattle.pec_codec.specs.Coordinates.{coordinate_in as coordinate_of, long_coordinate as long_of, short_coordinate as short_of, signed as signed_of};
 
 /// A coordinate of a record.
 #[derive(Clone, Copy, Debug, PartialEq, Eq)]
@@ -15,8 +16,9 @@ pub struct Coordinate {
 /// The coordinate at the head of bytes, unless they end before it does.
 pub fn coordinate_in(bytes: &[u8]) -> Option<Coordinate>
     ensures value { result ≡ coordinate_of bytes.now }
+    ensures some { IfSome result (λ c. 0 < c.size) }
     ensures size { IfSome result (λ c. c.size ≤ length bytes.now) }
-    ensures small { IfSome result (λ c. unsigned_abs c.number ≤ 2048) }
+    ensures small { IfSome result (λ c. unsigned_abs c.number ≤ GREATEST_STEP) }
 {
     match bytes {
         [first, ..] if *first < 128 => Some(short_coordinate(*first)),
@@ -28,7 +30,7 @@ pub fn coordinate_in(bytes: &[u8]) -> Option<Coordinate>
 fn short_coordinate(byte: u8) -> Coordinate
     requires { byte < 128 }
     ensures value { result ≡ short_of byte }
-    ensures small { unsigned_abs result.number ≤ 2048 }
+    ensures small { unsigned_abs result.number ≤ GREATEST_STEP }
 {
     Coordinate {
         size: 1,
@@ -40,7 +42,7 @@ fn short_coordinate(byte: u8) -> Coordinate
 
 fn long_coordinate(first: u8, second: u8) -> Coordinate
     ensures value { result ≡ long_of first second }
-    ensures small { unsigned_abs result.number ≤ 2048 }
+    ensures small { unsigned_abs result.number ≤ GREATEST_STEP }
 {
     Coordinate {
         size: 2,
@@ -55,7 +57,7 @@ fn signed(half: u32, number: u32) -> i32
     requires half { half ≤ 2048 }
     requires number { number < 2 * half }
     ensures value { result ≡ signed_of half number }
-    ensures small { unsigned_abs result ≤ 2048 }
+    ensures small { unsigned_abs result ≤ GREATEST_STEP }
 {
     if number < half {
         number as i32

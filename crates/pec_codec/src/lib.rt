@@ -5,5 +5,6 @@
 mod block;
 mod coordinate;
 mod header;
-mod reading;
+mod pec_records;
+mod record_cuts;
 mod spelling;

@@ -1,6 +1,10 @@
-ghost use Rattle.std.specs.Prelude.{◌≡◌, ◌≤◌, ◌+◌, ◌<◌, ◌^◌, length, IfSome, unsigned_abs};
+ghost use Rattle.std.specs.Prelude.{◌≡◌, ◌≤◌, IsTrue, unsigned_abs};
+ghost use Rattle.std.specs.List.{list_all};
+ghost use Rattle.design_model.specs.Points.{is_within};
+ghost use Rattle.format_traits.specs.declared.record_reader.TheConstants.{GREATEST_STEP};
+ghost use Rattle.format_traits.specs.Records.{moves_in};
 ghost use Rattle.pec_codec.specs.Coordinates.{coordinate_in as coordinate_of};
-ghost use Rattle.pec_codec.specs.Records.{begins_end as begins_end_of, begins_stop as begins_stop_of, cut_of, cut_stop as cut_stop_of, cut_move as cut_move_of, event_of as event_of_pair};
+ghost use Rattle.pec_codec.specs.Records.{FitsIn, cut_of, cut_stop as cut_stop_of, cut_move as cut_move_of, event_of as event_of_pair};
 
 use crate::coordinate::{Coordinate, coordinate_in};
 use design_model::Point;
@@ -8,7 +12,8 @@ use format_traits::{Cut, Event};
 
 /// What stands first in bytes.
 pub fn cut(bytes: &[u8]) -> Cut
-    ensures { result ≡ cut_of bytes.now }
+    ensures value { result ≡ cut_of bytes.now }
+    ensures fits { FitsIn bytes.now result }
 {
     match bytes {
         [0xFF, ..] => Cut::Over { ended: true },
@@ -18,7 +23,8 @@ pub fn cut(bytes: &[u8]) -> Cut
 }
 
 fn cut_stop(bytes: &[u8]) -> Cut
-    ensures { result ≡ cut_stop_of bytes.now }
+    ensures value { result ≡ cut_stop_of bytes.now }
+    ensures fits { FitsIn bytes.now result }
 {
     if bytes.len() < 3 {
         return Cut::Over { ended: false };
@@ -30,7 +36,8 @@ fn cut_stop(bytes: &[u8]) -> Cut
 }
 
 fn cut_move(bytes: &[u8]) -> Cut
-    ensures { result ≡ cut_move_of (coordinate_of bytes.now) bytes.now }
+    ensures value { result ≡ cut_move_of (coordinate_of bytes.now) bytes.now }
+    ensures fits { FitsIn bytes.now result }
 {
     let Some(x) = coordinate_in(bytes) else {
         return Cut::Over { ended: false };
@@ -45,7 +52,10 @@ fn cut_move(bytes: &[u8]) -> Cut
 }
 
 fn event_of(x: Coordinate, y: Coordinate) -> Event
-    ensures { result ≡ event_of_pair x y }
+    requires x { unsigned_abs x.number ≤ GREATEST_STEP }
+    requires y { unsigned_abs y.number ≤ GREATEST_STEP }
+    ensures value { result ≡ event_of_pair x y }
+    ensures small { IsTrue (list_all (λ move. is_within GREATEST_STEP move) (moves_in result)) }
 {
     let step = Point {
         x: x.number,
