@@ -1,0 +1,139 @@
+-- The parts of a move on one axis: how far each goes, and where each ends.
+use Rattle.std.proofs.Common.{◌≡◌, ℕ, zero, suc, ◌+◌, ◌-◌, ◌*◌, ◌/◌, ◌<◌, ◌≤◌, ℤ, pos, negsuc, neg_ℤ, ◌+ℤ◌, ◌-ℤ◌, ◌*ℤ◌, unsigned_abs, refl, ap, sym, ◌∙◌, arith}
+use Rattle.std.proofs.Math.Nat.{zero-div}
+use Rattle.std.proofs.lemmas.Int.{ints}
+use Rattle.std.proofs.lemmas.Nat.{div_below, le-div, mul-le}
+use Rattle.std.specs.Int.{int_div_euclid}
+
+-- where `count` of the n parts end
+abbrev pub axis_part : ℤ → ℕ → ℕ → ℤ
+axis_part z n count = int_div_euclid (pos count *ℤ z) (pos n)
+
+-- the same of a size, rounded down and rounded up
+abbrev floor : ℕ → ℕ → ℕ → ℕ
+floor a n count = count * a / n
+
+abbrev ceiling : ℕ → ℕ → ℕ → ℕ
+ceiling a n count = (count * a + (n - 1)) / n
+
+quotient_step : (v w n l : ℕ) → 0 < n → v ≤ w + n * l → v / n ≤ w / n + l
+quotient_step v w n l some near =
+    let below : v < (w / n + l + 1) * n = omega (arith, near) in
+    let small = div_below v n (w / n + l + 1) some below in
+    omega (arith, small)
+
+quotient_rises : (v w n : ℕ) → 0 < n → v ≤ w → v / n ≤ w / n
+quotient_rises v w n some less =
+    let small = div_below v n (w / n + 1) some (omega (arith, less)) in
+    omega (arith, small)
+
+product_rises : (a n count : ℕ) → count ≤ n → count * a ≤ n * a
+product_rises a n count less = mul-le count a n a less (omega arith)
+
+floor_most : (a n count : ℕ) → 0 < n → count ≤ n → floor a n count ≤ a
+floor_most a n count some less =
+    let few = product_rises a n count less in
+    let small = div_below (count * a) n (a + 1) some (omega (arith, few, some)) in
+    omega (arith, small)
+
+ceiling_most : (a n count : ℕ) → 0 < n → count ≤ n → ceiling a n count ≤ a
+ceiling_most a n count some less =
+    let few = product_rises a n count less in
+    let small = div_below (count * a + (n - 1)) n (a + 1) some (omega (arith, few, some)) in
+    omega (arith, small)
+
+floor_all : (a n : ℕ) → 0 < n → floor a n n ≡ a
+floor_all a n some =
+    let low = le-div a (n * a) n some (omega arith) in
+    let high = floor_most a n n some (omega arith) in
+    omega (arith, low, high)
+
+ceiling_all : (a n : ℕ) → 0 < n → ceiling a n n ≡ a
+ceiling_all a n some =
+    let low = le-div a (n * a + (n - 1)) n some (omega arith) in
+    let high = ceiling_most a n n some (omega arith) in
+    omega (arith, low, high)
+
+-- one part more
+floor_step : (a n count l : ℕ) → 0 < n → a ≤ n * l
+    → (floor a n count ≤ floor a n (count + 1)) × (floor a n (count + 1) ≤ floor a n count + l)
+floor_step a n count l some near = (
+  quotient_rises (count * a) ((count + 1) * a) n some (omega arith),
+  quotient_step ((count + 1) * a) (count * a) n l some (omega (arith, near)),
+)
+
+ceiling_step : (a n count l : ℕ) → 0 < n → a ≤ n * l
+    → (ceiling a n count ≤ ceiling a n (count + 1)) × (ceiling a n (count + 1) ≤ ceiling a n count + l)
+ceiling_step a n count l some near = (
+  quotient_rises (count * a + (n - 1)) ((count + 1) * a + (n - 1)) n some (omega arith),
+  quotient_step ((count + 1) * a + (n - 1)) (count * a + (n - 1)) n l some (omega (arith, near)),
+)
+
+-- a quotient of a number below 0 is that of its size, rounded up
+div_opposite : (v n : ℕ) → 0 < n → int_div_euclid (neg_ℤ (pos v)) (pos n) ≡ neg_ℤ (pos ((v + (n - 1)) / n))
+div_opposite zero n some =
+    let low : (0 + (n - 1)) / n ≡ 0 = omega (arith, div_below (0 + (n - 1)) n 1 some (omega (arith, some))) in
+    ap pos (zero-div n) ∙ sym (ap (λ c. neg_ℤ (pos c)) low)
+div_opposite (suc w) n some =
+    let low : (suc w + (n - 1)) / n ≡ suc (w / n) = one_more w n some in
+    sym (ap (λ c. neg_ℤ (pos c)) low)
+  where
+    one_more : (w n : ℕ) → 0 < n → (suc w + (n - 1)) / n ≡ suc (w / n)
+    one_more w n some =
+        let low = le-div (w / n + 1) (suc w + (n - 1)) n some (omega (arith, some)) in
+        let high = div_below (suc w + (n - 1)) n (w / n + 2) some (omega (arith, some)) in
+        omega (arith, low, high)
+
+part_right : (a n count : ℕ) → axis_part (pos a) n count ≡ pos (floor a n count)
+part_right a n count = refl
+
+part_left : (a n count : ℕ) → 0 < n → axis_part (negsuc a) n count ≡ neg_ℤ (pos (ceiling (suc a) n count))
+part_left a n count some = div_opposite (count * suc a) n some
+
+-- all of the parts make up the whole
+pub axis_all : (z : ℤ) (n : ℕ) → 0 < n → axis_part z n n ≡ z
+axis_all (pos a) n some = ap pos (floor_all a n some)
+axis_all (negsuc a) n some =
+    part_left a n n some ∙ ap (λ c. neg_ℤ (pos c)) (ceiling_all (suc a) n some)
+
+-- none of them make up nothing
+pub axis_none : (z : ℤ) (n : ℕ) → 0 < n → axis_part z n 0 ≡ pos 0
+axis_none (pos a) n some =
+    let none : floor a n 0 ≡ 0 = omega (arith, div_below (0 * a) n 1 some (omega (arith, some))) in
+    ap pos none
+axis_none (negsuc a) n some =
+    let none : ceiling (suc a) n 0 ≡ 0 = omega (arith, div_below (0 * suc a + (n - 1)) n 1 some (omega (arith, some))) in
+    part_left a n 0 some ∙ ap (λ c. neg_ℤ (pos c)) none
+
+-- one part is at most l, where n times l are enough
+pub axis_step : (z : ℤ) (n count l : ℕ) → 0 < n → unsigned_abs z ≤ n * l
+    → unsigned_abs (axis_part z n (count + 1) -ℤ axis_part z n count) ≤ l
+axis_step (pos a) n count l some near = size_right (floor a n count) (floor a n (count + 1)) l
+    (floor_step a n count l some near).0 (floor_step a n count l some near).1
+  where
+    size_right : (u v l : ℕ) → u ≤ v → v ≤ u + l → unsigned_abs (pos v -ℤ pos u) ≤ l
+    size_right u v l low high = omega (arith, ints)
+axis_step (negsuc a) n count l some near =
+    rw (part_left a n count some, part_left a n (count + 1) some)
+    (size_left (ceiling (suc a) n count) (ceiling (suc a) n (count + 1)) l
+    (ceiling_step (suc a) n count l some near).0 (ceiling_step (suc a) n count l some near).1)
+  where
+    size_left : (u v l : ℕ) → u ≤ v → v ≤ u + l → unsigned_abs (neg_ℤ (pos v) -ℤ neg_ℤ (pos u)) ≤ l
+    size_left u v l low high = omega (arith, ints)
+
+-- the place after some parts lies between those before and after the whole
+pub axis_between : (x z : ℤ) (n count l : ℕ) → 0 < n → count ≤ n → unsigned_abs x ≤ l → unsigned_abs (x +ℤ z) ≤ l
+    → unsigned_abs (x +ℤ axis_part z n count) ≤ l
+axis_between x (pos a) n count l some less here there =
+    between_right x a (floor a n count) l (floor_most a n count some less) here there
+  where
+    between_right : (x : ℤ) (a u l : ℕ) → u ≤ a → unsigned_abs x ≤ l → unsigned_abs (x +ℤ pos a) ≤ l
+        → unsigned_abs (x +ℤ pos u) ≤ l
+    between_right x a u l less here there = omega (arith, ints)
+axis_between x (negsuc a) n count l some less here there =
+    rw (part_left a n count some)
+    (between_left x a (ceiling (suc a) n count) l (ceiling_most (suc a) n count some less) here there)
+  where
+    between_left : (x : ℤ) (a u l : ℕ) → u ≤ suc a → unsigned_abs x ≤ l → unsigned_abs (x +ℤ negsuc a) ≤ l
+        → unsigned_abs (x +ℤ neg_ℤ (pos u)) ≤ l
+    between_left x a u l less here there = omega (arith, ints)
