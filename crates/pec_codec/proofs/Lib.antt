@@ -1,3 +1,5 @@
 pub mod ExtentLemmas
 pub mod HeaderLemmas
+pub mod ReadingLemmas
 pub mod RecordLemmas
+pub mod SpellingLemmas

@@ -5,6 +5,12 @@
 mod block;
 mod coordinate;
 mod header;
+mod laws;
 mod pec_records;
+mod reading;
 mod record_cuts;
 mod spelling;
+
+pub use block::{HEADER_LENGTH, LABELS_LENGTH, LIMIT, MAX_STOPS, THUMBNAIL_LENGTH};
+pub use laws::the_limits_of_blocks;
+pub use reading::read_block;
