@@ -2,4 +2,5 @@ pub mod ExtentLemmas
 pub mod HeaderLemmas
 pub mod ReadingLemmas
 pub mod RecordLemmas
+pub mod RereadingLemmas
 pub mod SpellingLemmas

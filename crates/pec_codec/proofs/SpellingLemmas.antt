@@ -33,11 +33,11 @@ pub long_back : (z : ℤ) → unsigned_abs z ≤ LIMIT → signed 2048 (unsigned
 long_back (pos n) small = long_right n small
 long_back (negsuc n) small = long_left n (omega arith)
 
-unsigned_short : (z : ℤ) → unsigned 64 z < 128
+pub unsigned_short : (z : ℤ) → unsigned 64 z < 128
 unsigned_short (pos n) = omega arith
 unsigned_short (negsuc n) = omega arith
 
-unsigned_long : (z : ℤ) → unsigned 2048 z < 4096
+pub unsigned_long : (z : ℤ) → unsigned 2048 z < 4096
 unsigned_long (pos n) = omega arith
 unsigned_long (negsuc n) = omega arith
 
