@@ -47,6 +47,3 @@ moved-none place = same_point (none place.x) (none place.y)
   where
     none : (x : ℤ) → x +ℤ pos 0 ≡ x
     none x = omega (arith, ints)
-
-pub moved_nowhere : (place m : Point) → IsTrue (is_same_point m origin) → moved place m ≡ place
-moved_nowhere place m same = ap (moved place) (same_points m origin same) ∙ moved-none place

@@ -2,6 +2,7 @@ pub mod Limits
 pub mod Placing
 pub mod Rooms
 pub mod Refusals
+pub mod Accepted
 pub mod PlainDesigns
 pub mod LabelFields
 pub mod Readings

@@ -1,6 +1,6 @@
 -- That what is written reads again, in any format: what a reader has to make of the records that its
 -- writer spells, and what then follows of all acts.
-use Rattle.std.specs.Prelude.{◌≡◌, ℕ, suc, ◌+◌, ◌-◌, ◌<◌, ◌≤◌, Bool, true, false, ◌⊎◌, List, [], ◌∷◌, ◌++◌, length, Option, Some, None, option_map, Ok, IsTrue, ◌==◌, if◌then◌else◌}
+use Rattle.std.specs.Prelude.{◌≡◌, ℕ, suc, ◌+◌, ◌-◌, ◌<◌, ◌≤◌, Bool, true, false, ◌⊎◌, List, [], ◌∷◌, ◌++◌, length, Option, Some, None, option_map, Ok, IsTrue, if◌then◌else◌}
 use Rattle.std.specs.List.{concat, list_all}
 use Rattle.design_model.specs.declared.act.NumberedAct.{NumberedAct}
 use Rattle.design_model.specs.declared.command.Command.{Command}
@@ -16,28 +16,27 @@ use Rattle.format_traits.specs.Placing.{moved}
 use Rattle.format_traits.specs.PlainDesigns.{IsPlain}
 use Rattle.format_traits.specs.Records.{Records, over, next, moves_in, course_of, moves_of}
 use Rattle.format_traits.specs.Refusals.{passes, first_refusal}
-use Rattle.format_traits.specs.Spellings.{Spelling, records_of}
+use Rattle.format_traits.specs.Spellings.{Spelling, is_most, records_of}
 
--- what a reader takes spelled records for: after how many jump records in an unbroken run it takes the
--- next for a trim and a jump, where it does so; what the records of a trim ask for, and how many jump
--- records stand at their end; and what a stop asks for
+-- what a reader takes spelled records for: the most jump records of an unbroken run that it takes for
+-- jumps before it takes one for a trim and a jump, where there is a most; what the records of a trim ask
+-- for, and how long a run of jump records they leave; and what a stop asks for
 pub record Taken : Type 0 where
-  pub cut_after : Option ℕ
+  pub most_jumps : Option ℕ
   pub trim : List Event
   pub run : ℕ
   pub stop : Event
 
 -- what a jump record asks for after so many in an unbroken run
 abbrev pub jump_event : Option ℕ → ℕ → Point → Event
-jump_event None run m = event.Jump m
-jump_event (Some most) run m = if run == most then event.TrimmedJump m else event.Jump m
+jump_event most_jumps run m = if is_most most_jumps run then event.TrimmedJump m else event.Jump m
 
--- the reader that takes jumps so does it only after two or more
+-- two jump records are taken for jumps at least
 abbrev pub IsLate : Option ℕ → Type 0
 IsLate None = Unit {0}
 IsLate (Some most) = 2 ≤ most
 
--- no jump of that run, nor any after it, is taken for a trim besides; or the run is over
+-- a run is broken, or so long that no further jump record of it is taken for a trim
 abbrev pub IsPast : Option ℕ → ℕ → Type 0
 IsPast None run = Unit {0}
 IsPast (Some most) run = (run ≡ 0) ⊎ (most < run)
@@ -96,16 +95,16 @@ pub record RereadsSpelling (read : ℕ → ℕ → List ℕ → Records) (spelli
       → read run at (spelling.stitch m ++ rest) ≡ next at (event.Stitch m) (read 0 (at + length (spelling.stitch m)) rest)
   pub jump : (run at : ℕ) (m : Point) (rest : List ℕ) → IsTrue (is_within reach.limit m)
       → read run at (spelling.jump m ++ rest)
-      ≡ next at (jump_event taken.cut_after run m) (read (run + 1) (at + length (spelling.jump m)) rest)
+      ≡ next at (jump_event taken.most_jumps run m) (read (run + 1) (at + length (spelling.jump m)) rest)
   pub trim : (at : ℕ) (rest : List ℕ) → Ask taken.trim (read 0 at (concat spelling.trim ++ rest))
       (read taken.run (at + length (concat spelling.trim)) rest)
   pub stop : (run at before : ℕ) (rest : List ℕ) → read run at (spelling.stop before ++ rest)
       ≡ next at taken.stop (read 0 (at + length (spelling.stop before)) rest)
   pub is_trim : IsTrim reach.limit taken.trim
   pub is_stop : IsTrue (is_stop taken.stop)
-  pub late : IsLate taken.cut_after
-  pub past : IsPast taken.cut_after taken.run
-  pub hops : reach.float_hops ≡ option_map suc taken.cut_after
+  pub late : IsLate taken.most_jumps
+  pub past : IsPast taken.most_jumps taken.run
+  pub hops : reach.float_hops ≡ option_map suc taken.most_jumps
   pub limit : 0 < reach.limit
 
 -- records that come to an end, tell those acts whatever their numbers, and move within the limit

@@ -22,7 +22,10 @@ pub use fault::{ReadFault, WriteFault};
 pub use format_object::{Format, GREATEST_LIMIT, LEAST_LIMIT};
 pub use keeping::{keep, keep_both};
 pub use label_fields::{put_label, put_spaces, read_label};
-pub use laws::{a_plain_design_is_not_refused, spelled_acts_read_again, the_limits_of_formats};
+pub use laws::{
+    a_plain_design_is_not_refused, an_accepted_design_is_small, spelled_acts_read_again,
+    the_limits_of_formats,
+};
 pub use loaded::Loaded;
 pub use lookup::find;
 pub use placing::{GREATEST_MOVE, MOST_HOPS, hops, move_between, moved, part_move, size_of};

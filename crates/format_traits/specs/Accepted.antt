@@ -1,0 +1,22 @@
+-- What is known of the acts of a design that a format can write.
+use Rattle.std.specs.Prelude.{◌≡◌, ℕ, ◌≤◌, List, Some, None, IsTrue}
+use Rattle.std.specs.List.{list_all}
+use Rattle.design_model.specs.declared.act.NumberedAct.{NumberedAct}
+use Rattle.design_model.specs.declared.design.TheConstants.{MAX_COMMANDS}
+use Rattle.design_model.specs.ActPlaces.{is_act_in_range}
+use Rattle.design_model.specs.Acts.{acts_of}
+use Rattle.design_model.specs.Designs.{DesignValue, KeepsLimits}
+use Rattle.format_traits.specs.declared.standing.Reach.{Reach}
+use Rattle.format_traits.specs.Refusals.{stops_of, first_refusal}
+use Rattle.format_traits.specs.Rooms.{room_of}
+
+-- acts in range, with little room and no more stops than the format may have
+pub record IsSmall (reach : Reach) (acts : List NumberedAct) : Type 0 where
+  pub in_range : IsTrue (list_all (λ a. is_act_in_range a.act) acts)
+  pub room : room_of reach.limit acts ≤ MAX_COMMANDS
+  pub stops : (most : ℕ) → reach.stops ≡ Some most → stops_of acts ≤ most
+
+-- the acts of a design that are not refused are so
+abbrev pub AcceptedIsSmall : Type 0
+AcceptedIsSmall = (reach : Reach) (d : DesignValue) → KeepsLimits d → first_refusal reach (acts_of d) ≡ None
+    → IsSmall reach (acts_of d)
