@@ -4,3 +4,4 @@ pub mod ReadingLemmas
 pub mod RecordLemmas
 pub mod RereadingLemmas
 pub mod SpellingLemmas
+pub mod WritingLemmas

@@ -81,7 +81,7 @@ stitch_reads false at m rest is within = long_reads 0 at m rest (omega arith) wi
 
 -- what spelled records are taken for: a trim is a trim and a jump of nothing
 abbrev pub taken : Taken
-taken = record { cut_after = None; trim = event.TrimmedJump origin ∷ []; run = 0; stop = event.Stop }
+taken = record { most_jumps = None; trim = event.TrimmedJump origin ∷ []; run = 0; stop = event.Stop }
 
 -- each spelled record is taken for what it was spelled for
 pub rereads : RereadsSpelling (λ run. pec_records) spelling reach taken

@@ -28,7 +28,8 @@ pub fn new_header(
 ) -> Result<Bytes, Memory>
     requires stops { stops ≤ MAX_STOPS }
     requires distance { distance < 2 ^ 24 }
-    ensures { IfOk result (λ header. header ≡ header_of design.now stops distance) }
+    ensures value { IfOk result (λ header. header ≡ header_of design.now stops distance) }
+    ensures length { IfOk result (λ header. length header ≡ HEADER_LENGTH) }
 {
     let mut header = Bytes::new(alloc);
     put_labels(&mut header, design, stops)?;
@@ -41,7 +42,8 @@ pub fn new_header(
 
 fn put_labels(out: &mut Bytes, design: &Design, stops: u32) -> Result<(), Memory>
     requires { stops ≤ MAX_STOPS }
-    ensures { OnOk result (out.new ≡ out.old ++ labels_of design.now stops) }
+    ensures value { OnOk result (out.new ≡ out.old ++ labels_of design.now stops) }
+    ensures short { OnOk result (length (labels_of design.now stops) ≤ LABELS_LENGTH) }
 {
     out.append(b"LA:")?;
     put_label(out, design.label())?;

@@ -10,7 +10,9 @@ mod pec_records;
 mod reading;
 mod record_cuts;
 mod spelling;
+mod writing;
 
 pub use block::{HEADER_LENGTH, LABELS_LENGTH, LIMIT, MAX_STOPS, THUMBNAIL_LENGTH};
 pub use laws::the_limits_of_blocks;
 pub use reading::read_block;
+pub use writing::write_block;
