@@ -9,7 +9,6 @@ use Rattle.format_traits.specs.declared.fault.ReadFault.TheVariants as fault
 use Rattle.format_traits.specs.declared.record_reader.Cut.{Cut}
 use Rattle.format_traits.specs.declared.record_reader.Cut.TheVariants as cut
 use Rattle.format_traits.specs.declared.record_reader.TheConstants.{GREATEST_STEP}
-use Rattle.format_traits.specs.Readings.{Course}
 use Rattle.format_traits.specs.Records.{Records, over, refused, next, moves_in, course_of}
 
 -- the records of a reader before and after the cut: one of so many bytes stands at the offset, and

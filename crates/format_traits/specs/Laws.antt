@@ -1,16 +1,18 @@
 -- The laws that every format object keeps.
-use Rattle.std.specs.Prelude.{◌≡◌, ℕ, ◌<◌, ◌&&◌, Bool, true, List, length, nat_le, ◌||◌, Result, Ok, Err, IsTrue, IsOk, IsOkAnd, IfOk}
+use Rattle.std.specs.Prelude.{◌≡◌, ℕ, ◌<◌, ◌≤◌, ◌&&◌, Bool, true, false, List, length, nat_le, ◌||◌, None, Result, Ok, Err, IsTrue, IsOk, IsOkAnd, IfOk}
 use Rattle.std.specs.List.{list_all}
 use Rattle.design_model.specs.Acts.{acts_of, bare}
-use Rattle.design_model.specs.Designs.{DesignValue}
+use Rattle.design_model.specs.Designs.{DesignValue, KeepsLimits}
 use Rattle.design_model.specs.Points.{is_within}
 use Rattle.format_traits.specs.declared.fault.ReadFault.{ReadFault}
 use Rattle.format_traits.specs.declared.fault.ReadFault.TheVariants as read
 use Rattle.format_traits.specs.declared.fault.WriteFault.{WriteFault}
 use Rattle.format_traits.specs.declared.fault.WriteFault.TheVariants as fault
 use Rattle.format_traits.specs.declared.loaded.Loaded.{Loaded}
+use Rattle.format_traits.specs.declared.standing.Reach.{Reach}
 use Rattle.format_traits.specs.Meanings.{Meaning}
 use Rattle.format_traits.specs.PlainDesigns.{IsPlain}
+use Rattle.format_traits.specs.Refusals.{passes, first_refusal, unless_refused}
 
 -- a byte that an ending may hold: a small letter or a digit of ASCII
 abbrev pub is_ending_byte : ℕ → Bool
@@ -59,3 +61,20 @@ pub record KeepsLaws (m : Meaning) (d : DesignValue) : Type 0 where
   pub again : IfOk (m.writes d) (λ bytes. ReadsAgain m d bytes)
   pub within : IfOk (m.writes d) (λ bytes. MovesWithin m bytes)
   pub plain : IsPlain m.limit d → IsOk (m.writes d)
+
+-- they hold of every design within its limits
+abbrev pub KeepsAllLaws : Meaning → Type 0
+KeepsAllLaws m = (d : DesignValue) → KeepsLimits d → KeepsLaws m d
+
+-- the file of a design that is not refused is what is written, it reads again and moves within the
+-- limit, and 254 stops may be written
+pub record IsCodec (m : Meaning) (reach : Reach) (file : DesignValue → List ℕ) : Type 0 where
+  pub limit : m.limit ≡ reach.limit
+  pub stops : (count : ℕ) → count ≤ 254 → passes reach.stops count ≡ false
+  pub writes : (d : DesignValue) → m.writes d ≡ unless_refused (first_refusal reach (acts_of d)) (file d)
+  pub again : (d : DesignValue) → KeepsLimits d → first_refusal reach (acts_of d) ≡ None → ReadsAgain m d (file d)
+  pub within : (d : DesignValue) → KeepsLimits d → first_refusal reach (acts_of d) ≡ None → MovesWithin m (file d)
+
+-- a format that is so keeps the laws
+abbrev pub CodecsKeepLaws : Type 0
+CodecsKeepLaws = (m : Meaning) (reach : Reach) (file : DesignValue → List ℕ) → IsCodec m reach file → KeepsAllLaws m

@@ -13,9 +13,8 @@ use Rattle.format_traits.specs.declared.event.Event.{Event}
 use Rattle.format_traits.specs.declared.event.Event.TheVariants as event
 use Rattle.format_traits.specs.declared.standing.Reach.{Reach}
 use Rattle.format_traits.specs.Placing.{moved}
-use Rattle.format_traits.specs.PlainDesigns.{IsPlain}
 use Rattle.format_traits.specs.Records.{Records, over, next, moves_in, course_of, moves_of}
-use Rattle.format_traits.specs.Refusals.{passes, first_refusal}
+use Rattle.format_traits.specs.Refusals.{first_refusal}
 use Rattle.format_traits.specs.Spellings.{Spelling, is_most, records_of}
 
 -- what a reader takes spelled records for: the most jump records of an unbroken run that it takes for
@@ -121,8 +120,3 @@ SpelledActsReadAgain = (read : ℕ → ℕ → List ℕ → Records) (spelling :
     → (d : DesignValue) → KeepsLimits d → first_refusal reach (acts_of d) ≡ None
     → (at : ℕ) (rest : List ℕ) → ((run at : ℕ) → read run at rest ≡ over true)
     → TellActs (read 0 at (concat (records_of spelling reach (acts_of d)) ++ rest)) (acts_of d) reach.limit
-
--- a plain design is not refused, where the format may have 254 stops
-abbrev pub PlainIsNotRefused : Type 0
-PlainIsNotRefused = (reach : Reach) → ((count : ℕ) → count ≤ 254 → passes reach.stops count ≡ false)
-    → (d : DesignValue) → IsPlain reach.limit d → first_refusal reach (acts_of d) ≡ None

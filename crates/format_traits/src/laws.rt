@@ -1,6 +1,7 @@
 ghost use Rattle.format_traits.specs.Accepted.{AcceptedIsSmall};
+ghost use Rattle.format_traits.specs.Laws.{CodecsKeepLaws};
 ghost use Rattle.format_traits.specs.Limits.{FormatLimits};
-ghost use Rattle.format_traits.specs.Rereading.{PlainIsNotRefused, SpelledActsReadAgain};
+ghost use Rattle.format_traits.specs.Rereading.{SpelledActsReadAgain};
 
 /// The limits of formats are these numbers.
 pub fn the_limits_of_formats()
@@ -13,9 +14,10 @@ pub fn spelled_acts_read_again()
     ensures { SpelledActsReadAgain }
 {}
 
-/// A plain design is not refused.
-pub fn a_plain_design_is_not_refused()
-    ensures { PlainIsNotRefused }
+/// A format whose files read again and move within the limit keeps the laws: a plain design is not
+/// refused.
+pub fn codecs_keep_the_laws()
+    ensures { CodecsKeepLaws }
 {}
 
 /// The acts of a design that is not refused have little room and few stops.

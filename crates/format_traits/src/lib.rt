@@ -23,7 +23,7 @@ pub use format_object::{Format, GREATEST_LIMIT, LEAST_LIMIT};
 pub use keeping::{keep, keep_both};
 pub use label_fields::{put_label, put_spaces, read_label};
 pub use laws::{
-    a_plain_design_is_not_refused, an_accepted_design_is_small, spelled_acts_read_again,
+    an_accepted_design_is_small, codecs_keep_the_laws, spelled_acts_read_again,
     the_limits_of_formats,
 };
 pub use loaded::Loaded;

@@ -18,7 +18,7 @@ use Rattle.format_traits.specs.declared.fault.WriteFault.{WriteFault}
 use Rattle.format_traits.specs.declared.fault.WriteFault.TheVariants as fault
 use Rattle.format_traits.specs.declared.standing.Reach.{Reach}
 use Rattle.format_traits.specs.declared.standing.Standing.{Standing}
-use Rattle.format_traits.specs.Placing.{moved, hops, part_of}
+use Rattle.format_traits.specs.Placing.{moved, hops}
 use Rattle.format_traits.specs.Records.{Records, over, next}
 use Rattle.format_traits.specs.Refusals.{standing_after, passes, refused_where, needle_refusal, own_refusal, or_else, refusal_at, refusal_from}
 use Rattle.format_traits.specs.Rereading.{Taken, RereadsSpelling, IsLate, IsPast}

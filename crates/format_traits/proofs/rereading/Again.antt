@@ -1,13 +1,14 @@
 -- The laws of all formats.
-use Rattle.std.proofs.Common.{◌≡◌, ℕ, List, true, false, Some, None, ◌++◌, refl, arith}
-use Rattle.std.specs.List.{concat}
+use Rattle.std.proofs.Common.{◌≡◌, ℕ, List, true, false, Option, Some, None, IfOk, IsOk, refl, sym, subst, arith}
 use Rattle.design_model.specs.Acts.{acts_of}
-use Rattle.design_model.specs.Designs.{DesignValue, KeepsLimits}
+use Rattle.design_model.specs.Designs.{DesignValue}
 use Rattle.format_traits.specs.declared.standing.Reach.{Reach}
-use Rattle.format_traits.specs.Accepted.{IsSmall, AcceptedIsSmall}
-use Rattle.format_traits.specs.Refusals.{beginning, first_refusal}
-use Rattle.format_traits.specs.Rereading.{SpelledActsReadAgain, PlainIsNotRefused, IsPast}
-use Rattle.format_traits.specs.Spellings.{records_of}
+use Rattle.format_traits.specs.declared.fault.WriteFault.{WriteFault}
+use Rattle.format_traits.specs.Accepted.{AcceptedIsSmall}
+use Rattle.format_traits.specs.Laws.{ReadsAgain, MovesWithin, CodecsKeepLaws}
+use Rattle.format_traits.specs.PlainDesigns.{IsPlain}
+use Rattle.format_traits.specs.Refusals.{beginning, first_refusal, unless_refused}
+use Rattle.format_traits.specs.Rereading.{SpelledActsReadAgain}
 use Rattle.format_traits.proofs.rereading.Acts.{goes_acts, broken}
 use Rattle.format_traits.proofs.rereading.Rooms.{told, acts_in_range, plain_passes, few_stops, small_room}
 
@@ -19,10 +20,27 @@ spelled_acts_read_again read spelling reach taken b d limits passed at rest ends
     (acts_in_range 1 true false d.commands limits.in_range) passed (omega arith) in
     record { commands = goes.commands; course = goes.read; again = goes.told 1; within = goes.within }
 
--- a plain design is not refused
-pub plain_is_not_refused : PlainIsNotRefused
-plain_is_not_refused reach allows d plain =
-    plain_passes reach 254 allows (acts_of d) beginning plain.needles (omega (arith, plain.stops)) (omega (arith, plain.room))
+-- what holds of the file of a design that is not refused, holds of what is written
+of_written : (reach : Reach) (d : DesignValue) (file : List ℕ) (P : List ℕ → Type 0) → (r : Option WriteFault)
+    → first_refusal reach (acts_of d) ≡ r → (first_refusal reach (acts_of d) ≡ None → P file)
+    → IfOk (unless_refused r file) P
+of_written reach d file P None is holds = holds is
+of_written reach d file P (Some f) is holds = tt
+
+-- a format whose files read again and move within the limit keeps the laws
+pub codecs_keep_laws : CodecsKeepLaws
+codecs_keep_laws m reach file codec d limits = record {
+  again = subst (λ result. IfOk result (λ bytes. ReadsAgain m d bytes)) (sym (codec.writes d))
+      (of_written reach d (file d) (λ bytes. ReadsAgain m d bytes) (first_refusal reach (acts_of d)) refl (codec.again d limits));
+  within = subst (λ result. IfOk result (λ bytes. MovesWithin m bytes)) (sym (codec.writes d))
+      (of_written reach d (file d) (λ bytes. MovesWithin m bytes) (first_refusal reach (acts_of d)) refl (codec.within d limits));
+  plain = λ plain.
+      let of_reach = subst (λ limit. IsPlain limit d) codec.limit plain in
+      let passed = plain_passes reach 254 codec.stops (acts_of d) beginning of_reach.needles
+      (omega (arith, of_reach.stops)) (omega (arith, of_reach.room)) in
+      subst (λ result. IsOk result) (sym (codec.writes d))
+      (subst (λ r. IsOk (unless_refused r (file d))) (sym passed) refl);
+}
 
 -- acts that are not refused have little room and few stops
 pub accepted_is_small : AcceptedIsSmall

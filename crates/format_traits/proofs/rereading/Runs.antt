@@ -11,11 +11,11 @@ use Rattle.design_model.specs.declared.point.TheConstants.{NEEDLE_LIMIT, JUMP_LI
 use Rattle.design_model.specs.Points.{is_within, origin, move_between}
 use Rattle.format_traits.specs.declared.event.Event.TheVariants as event
 use Rattle.format_traits.specs.declared.standing.Reach.{Reach}
-use Rattle.format_traits.specs.Placing.{moved, part_of, parts, parts_from}
+use Rattle.format_traits.specs.Placing.{moved, part_of, parts_from}
 use Rattle.format_traits.specs.Records.{Records, next}
 use Rattle.format_traits.specs.Rereading.{Taken, RereadsSpelling}
 use Rattle.format_traits.specs.Spellings.{Spelling, is_most, hop_records, stitched_records}
-use Rattle.format_traits.proofs.PointLemmas.{within_from, within_more, moved-none}
+use Rattle.format_traits.proofs.PointLemmas.{within_from, moved-none}
 use Rattle.format_traits.proofs.rereading.Parts.{Lies, part_within, part_all, part_none, part_in_range, moved-on}
 use Rattle.format_traits.proofs.rereading.Steps.{GoesOn, goes_stitch, goes_jump, goes_trimmed_jump}
 

@@ -1,0 +1,4 @@
+mod UnitFacts
+pub mod UnitLemmas
+pub mod Rereading
+mod WritingFacts

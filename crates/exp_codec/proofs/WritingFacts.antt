@@ -1,0 +1,38 @@
+-- Worked values of writing.
+use Rattle.std.proofs.Common.{◌≡◌, ℤ, pos, negsuc, List, [], ◌∷◌, Ok, Err, refl}
+use Rattle.design_model.specs.declared.command.Command.{Command}
+use Rattle.design_model.specs.declared.command.Command.TheVariants.{Stitch, Jump, Trim, Stop}
+use Rattle.design_model.specs.declared.point.Point.{Point}
+use Rattle.design_model.specs.Designs.{DesignValue}
+use Rattle.format_traits.specs.declared.fault.WriteFault.TheVariants as fault
+use Rattle.exp_codec.specs.Writing.{writes}
+
+abbrev pub point : ℤ → ℤ → Point
+point x y = record { x = x; y = y }
+
+-- a design without label and threads
+abbrev pub sewn : List Command → DesignValue
+sewn commands = record { label = []; threads = []; commands = commands }
+
+-- a square of 30 and a trim
+pub known_square : writes (sewn (Stitch (point (pos 0) (pos 0)) ∷ Stitch (point (pos 30) (pos 0))
+    ∷ Stitch (point (pos 30) (pos 30)) ∷ Stitch (point (pos 0) (pos 30)) ∷ Stitch (point (pos 0) (pos 0)) ∷ Trim ∷ []))
+    ≡ Ok (0x00 ∷ 0x00 ∷ 0x1E ∷ 0x00 ∷ 0x00 ∷ 0xE2 ∷ 0xE2 ∷ 0x00 ∷ 0x00 ∷ 0x1E ∷ 0x80 ∷ 0x80 ∷ 0x07 ∷ 0x00 ∷ [])
+known_square = refl
+
+-- the greatest move to the left
+pub known_left : writes (sewn (Stitch (point (pos 0) (pos 0)) ∷ Stitch (point (negsuc 126) (pos 0)) ∷ []))
+    ≡ Ok (0x00 ∷ 0x00 ∷ 0x81 ∷ 0x00 ∷ [])
+known_left = refl
+
+-- a float of 400 takes four jumps and a stitch on the spot, and a stop has its unit
+pub known_float : writes (sewn (Stitch (point (pos 0) (pos 0)) ∷ Jump (point (pos 400) (pos 0))
+    ∷ Stitch (point (pos 400) (pos 0)) ∷ Stop ∷ []))
+    ≡ Ok (0x00 ∷ 0x00 ∷ 0x80 ∷ 0x04 ∷ 0x64 ∷ 0x00 ∷ 0x80 ∷ 0x04 ∷ 0x64 ∷ 0x00 ∷ 0x80 ∷ 0x04 ∷ 0x64 ∷ 0x00
+    ∷ 0x80 ∷ 0x04 ∷ 0x64 ∷ 0x00 ∷ 0x00 ∷ 0x00 ∷ 0x80 ∷ 0x01 ∷ 0x00 ∷ 0x00 ∷ [])
+known_float = refl
+
+-- a stitch of 128 is refused
+pub known_long : writes (sewn (Stitch (point (pos 0) (pos 0)) ∷ Stitch (point (negsuc 4) (pos 128)) ∷ []))
+    ≡ Err (fault.StitchTooLong 2)
+known_long = refl

@@ -1,0 +1,42 @@
+-- What a design is written as: the units of its acts in order. A number is spelled modulo 256; the
+-- greatest move is 127, so that no stitch begins with 80.
+use Rattle.std.specs.Prelude.{ℕ, ◌-◌, suc, ℤ, pos, negsuc, neg_ℤ, List, [], ◌∷◌, None, Result}
+use Rattle.std.specs.List.{concat}
+use Rattle.design_model.specs.declared.point.Point.{Point}
+use Rattle.design_model.specs.Acts.{acts_of}
+use Rattle.design_model.specs.Designs.{DesignValue}
+use Rattle.format_traits.specs.declared.fault.WriteFault.{WriteFault}
+use Rattle.format_traits.specs.declared.standing.Reach.{Reach}
+use Rattle.format_traits.specs.Refusals.{first_refusal, unless_refused}
+use Rattle.format_traits.specs.Spellings.{Spelling, records_of}
+use Rattle.exp_codec.specs.declared.exp.TheConstants.{LIMIT}
+
+-- a number from -127 to 127 as a byte
+abbrev pub byte_of : ℤ → ℕ
+byte_of (pos n) = n
+byte_of (negsuc n) = 255 - n
+
+-- the two bytes of a move
+abbrev pub step_bytes : Point → List ℕ
+step_bytes m = byte_of m.x ∷ byte_of (neg_ℤ m.y) ∷ []
+
+-- how units are spelled
+abbrev pub spelling : Spelling
+spelling = record {
+  stitch = step_bytes;
+  jump = λ m. 0x80 ∷ 0x04 ∷ step_bytes m;
+  trim = (0x80 ∷ 0x80 ∷ 0x07 ∷ 0x00 ∷ []) ∷ [];
+  stop = λ before. 0x80 ∷ 0x01 ∷ 0x00 ∷ 0x00 ∷ [];
+}
+
+-- what the format can write: stitches within the limit, and floats and stops without a most
+abbrev pub reach : Reach
+reach = record { limit = LIMIT; float_hops = None; stops = None }
+
+-- the file of a design
+abbrev pub file_of : DesignValue → List ℕ
+file_of d = concat (records_of spelling reach (acts_of d))
+
+-- what a design is written as, or the refusal that its acts meet first
+abbrev pub writes : DesignValue → Result (List ℕ) WriteFault
+writes d = unless_refused (first_refusal reach (acts_of d)) (file_of d)

@@ -1,0 +1,15 @@
+//! The Melco EXP format: units of two or four bytes, without a header and without an end. The file's
+//! y points upwards, a design's downwards.
+#![tactic(auto)]
+
+mod exp;
+mod promises;
+mod reading;
+mod spelling;
+#[cfg(test)]
+mod tests;
+mod units;
+mod writing;
+
+pub use exp::{Exp, LIMIT};
+pub use promises::{the_limits_of_exp, written_reads_again};

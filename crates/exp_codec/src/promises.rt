@@ -1,0 +1,19 @@
+ghost use Rattle.format_traits.specs.Laws.{KeepsAllLaws};
+ghost use Rattle.exp_codec.specs.Format.{exp};
+ghost use Rattle.exp_codec.specs.Limits.{ExpLimits};
+
+use format_traits::{codecs_keep_the_laws, spelled_acts_read_again};
+
+/// What any design is written as reads as the same acts, to its end, and moves within the limit, and
+/// any plain design is written.
+pub fn written_reads_again()
+    ensures { KeepsAllLaws exp }
+{
+    spelled_acts_read_again();
+    codecs_keep_the_laws();
+}
+
+/// The limit of the format is this number.
+pub fn the_limits_of_exp()
+    ensures { ExpLimits }
+{}

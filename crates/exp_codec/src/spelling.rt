@@ -1,0 +1,74 @@
+ghost use Rattle.std.specs.Prelude.{◌≡◌, ◌≤◌, ◌++◌, IsTrue, OnOk, neg_ℤ, unsigned_abs};
+ghost use Rattle.design_model.specs.Points.{is_within};
+ghost use Rattle.exp_codec.specs.declared.exp.TheConstants.{LIMIT};
+ghost use Rattle.exp_codec.specs.Writing.{byte_of as byte_of_number, step_bytes as bytes_of_step};
+
+use crate::exp::LIMIT;
+use crate::units::{CONTROL, JUMP, STOP, TRIM};
+use design_model::{Bytes, Memory, Point};
+use format_traits::{Reach, RecordWriter};
+
+/// Writes the units of a file.
+#[derive(Clone, Copy, Debug, PartialEq, Eq)]
+pub struct UnitWriter;
+
+impl RecordWriter for UnitWriter {
+    ghost use Rattle.exp_codec.specs.Writing.{spelling as spelling_of_units, reach as reach_of_units};
+
+    ghost spelling = { λ _. spelling_of_units };
+
+    ghost reach = { λ _. reach_of_units };
+
+    fn reach(&self) -> Reach {
+        Reach {
+            limit: LIMIT,
+            float_hops: None,
+            stops: None,
+        }
+    }
+
+    fn put_stitch(&self, out: &mut Bytes, step: Point) -> Result<(), Memory> {
+        out.append(&step_bytes(step))
+    }
+
+    fn put_jump(&self, out: &mut Bytes, step: Point) -> Result<(), Memory> {
+        let [x, y] = step_bytes(step);
+        out.append(&[CONTROL, JUMP, x, y])
+    }
+
+    fn put_trim(&self, out: &mut Bytes) -> Result<(), Memory> {
+        out.append(&[CONTROL, TRIM, 0x07, 0x00])
+    }
+
+    fn put_stop(&self, out: &mut Bytes, _before: u32) -> Result<(), Memory> {
+        out.append(&[CONTROL, STOP, 0x00, 0x00])
+    }
+}
+
+/// The two bytes of a move.
+fn step_bytes(step: Point) -> [u8; 2]
+    requires { IsTrue (is_within LIMIT step) }
+    ensures { result ≡ bytes_of_step step }
+{
+    [byte_of(step.x), byte_of(opposite(step.y))]
+}
+
+/// A number as a byte, modulo 256.
+fn byte_of(number: i32) -> u8
+    requires { unsigned_abs number ≤ LIMIT }
+    ensures { result ≡ byte_of_number number }
+{
+    if number < 0 {
+        (number + 256) as u8
+    } else {
+        number as u8
+    }
+}
+
+fn opposite(number: i32) -> i32
+    requires { unsigned_abs number ≤ LIMIT }
+    ensures value { result ≡ neg_ℤ number }
+    ensures size { unsigned_abs result ≤ LIMIT }
+{
+    -number
+}

@@ -1,0 +1,100 @@
+ghost use Rattle.std.specs.Prelude.{◌≡◌, ◌≤◌, neg_ℤ, unsigned_abs, IsTrue, IfSome};
+ghost use Rattle.std.specs.List.{list_all};
+ghost use Rattle.design_model.specs.Points.{is_within};
+ghost use Rattle.format_traits.specs.declared.record_reader.TheConstants.{GREATEST_STEP};
+ghost use Rattle.format_traits.specs.Records.{moves_in};
+ghost use Rattle.exp_codec.specs.Units.{control_event as event_of_control, signed as signed_of, move_of as move_of_bytes};
+
+use design_model::Point;
+use format_traits::{Cut, Event, ReadFault, RecordReader};
+
+/// The first byte of a unit of four bytes.
+pub const CONTROL: u8 = 0x80;
+
+/// The second byte of a stop.
+pub const STOP: u8 = 0x01;
+
+/// The second byte of a stitch in a unit of four bytes.
+const LONG_STITCH: u8 = 0x02;
+
+/// The second byte of a jump.
+pub const JUMP: u8 = 0x04;
+
+/// The second byte of a trim.
+pub const TRIM: u8 = 0x80;
+
+/// The units of a file.
+#[derive(Clone, Copy, Debug, PartialEq, Eq)]
+pub struct Units;
+
+impl RecordReader for Units {
+    ghost use Rattle.exp_codec.specs.Units.{units_from};
+
+    ghost records = { λ _. units_from };
+
+    fn next(&mut self, at: u64, bytes: &[u8]) -> Cut {
+        let [first, second, behind @ ..] = bytes else {
+            return Cut::Over {
+                ended: bytes.is_empty(),
+            };
+        };
+        if *first != CONTROL {
+            return Cut::Record {
+                size: 2,
+                event: Event::Stitch(move_of(*first, *second)),
+            };
+        }
+        let [x, y, ..] = behind else {
+            return Cut::Over { ended: false };
+        };
+        match control_event(*second, move_of(*x, *y)) {
+            Some(event) => Cut::Record { size: 4, event },
+            None => Cut::Refused(ReadFault::Control { at }),
+        }
+    }
+}
+
+/// What a unit of four bytes asks for, by its control byte and its move.
+fn control_event(control: u8, step: Point) -> Option<Event>
+    requires { IsTrue (is_within GREATEST_STEP step) }
+    ensures value { result ≡ event_of_control control step }
+    ensures small { IfSome result (λ event. IsTrue (list_all (λ move. is_within GREATEST_STEP move) (moves_in event))) }
+{
+    match control {
+        STOP => Some(Event::StopBy(step)),
+        LONG_STITCH => Some(Event::Stitch(step)),
+        JUMP => Some(Event::Jump(step)),
+        TRIM => Some(Event::Trim),
+        _ => None,
+    }
+}
+
+/// The move of two bytes; `y` counts downwards.
+fn move_of(x: u8, y: u8) -> Point
+    ensures value { result ≡ move_of_bytes x y }
+    ensures small { IsTrue (is_within GREATEST_STEP result) }
+{
+    Point {
+        x: signed(x),
+        y: opposite(signed(y)),
+    }
+}
+
+/// A byte as a signed number.
+fn signed(byte: u8) -> i32
+    ensures value { result ≡ signed_of byte }
+    ensures small { unsigned_abs result ≤ 128 }
+{
+    if byte < 0x80 {
+        byte as i32
+    } else {
+        byte as i32 - 256
+    }
+}
+
+fn opposite(number: i32) -> i32
+    requires { unsigned_abs number ≤ 128 }
+    ensures { result ≡ neg_ℤ number }
+{
+    -number
+}
