@@ -1,5 +1,8 @@
+pub mod BackLemmas
 pub mod ExtentLemmas
+pub mod FieldLemmas
 pub mod HeaderLemmas
+pub mod LabelLemmas
 pub mod ReadingLemmas
 pub mod RecordLemmas
 pub mod RereadingLemmas

@@ -2,7 +2,7 @@
 use Rattle.std.specs.Prelude.{◌≡◌, ℕ, ◌≤◌, List, ◌++◌, length, IfOk, IsOk, IsOkAnd, IsTrue}
 use Rattle.std.specs.List.{list_all}
 use Rattle.design_model.specs.Acts.{acts_of}
-use Rattle.design_model.specs.Designs.{DesignValue, thread_of}
+use Rattle.design_model.specs.Designs.{DesignValue, KeepsLimits, thread_of}
 use Rattle.design_model.specs.Points.{is_within}
 use Rattle.format_traits.specs.declared.loaded.Loaded.{Loaded}
 use Rattle.format_traits.specs.Laws.{IsAgain}
@@ -27,3 +27,7 @@ pub record ReadsBack (d : DesignValue) (block before : List ℕ) : Type 0 where
 pub record KeepsBlockLaws (d : DesignValue) : Type 0 where
   pub back : IfOk (writes d) (λ block. (before : List ℕ) → ReadsBack d block before)
   pub plain : IsPlain LIMIT d → IsOk (writes d)
+
+-- this holds of every design within its limits
+abbrev pub BlocksKeepLaws : Type 0
+BlocksKeepLaws = (d : DesignValue) → KeepsLimits d → KeepsBlockLaws d

@@ -13,6 +13,6 @@ mod spelling;
 mod writing;
 
 pub use block::{HEADER_LENGTH, LABELS_LENGTH, LIMIT, MAX_STOPS, THUMBNAIL_LENGTH};
-pub use laws::the_limits_of_blocks;
+pub use laws::{blocks_read_back, the_limits_of_blocks};
 pub use reading::read_block;
 pub use writing::write_block;

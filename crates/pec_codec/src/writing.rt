@@ -3,10 +3,12 @@ ghost use Rattle.design_model.specs.declared.design.TheConstants.{MAX_COMMANDS};
 ghost use Rattle.format_traits.specs.Laws.{Writes};
 ghost use Rattle.pec_codec.specs.declared.block.TheConstants.{HEADER_LENGTH, LABELS_LENGTH, MAX_STOPS};
 ghost use Rattle.pec_codec.specs.Header.{header_of};
+ghost use Rattle.pec_codec.specs.Laws.{KeepsBlockLaws};
 ghost use Rattle.pec_codec.specs.Writing.{PutsBody, body_of, thumbnails_of, writes};
 
 use crate::block::{HEADER_LENGTH, LABELS_LENGTH, THUMBNAIL_LENGTH};
 use crate::header::new_header;
+use crate::laws::blocks_read_back;
 use crate::pec_records::PecRecords;
 use design_model::{Bytes, Design, Memory};
 use format_traits::{WriteFault, an_accepted_design_is_small, put_acts, put_spaces};
@@ -18,10 +20,20 @@ const END: u8 = 0xFF;
 /// A blank thumbnail.
 const BLANK: [u8; THUMBNAIL_LENGTH] = [0; THUMBNAIL_LENGTH];
 
-/// The block of a design. The place of its header is filled last, since the header tells how long the
-/// records are.
+/// The block of a design. The acts are judged in order, and at one act the refusals come in the order
+/// of `WriteFault`. What is written reads back, wherever in a file it stands.
 pub fn write_block(alloc: Global, design: &Design) -> Result<Bytes, WriteFault>
     ensures value { Writes (writes design.now) result }
+    ensures laws { KeepsBlockLaws design.now }
+{
+    blocks_read_back();
+    let _commands = design.commands();
+    new_block(alloc, design)
+}
+
+/// The place of the header is filled last, since it tells how long the records are.
+fn new_block(alloc: Global, design: &Design) -> Result<Bytes, WriteFault>
+    ensures { Writes (writes design.now) result }
 {
     let mut body = Bytes::new(alloc);
     put_spaces(&mut body, HEADER_LENGTH)?;
