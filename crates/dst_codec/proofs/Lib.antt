@@ -1,8 +1,7 @@
-pub mod FileLemmas
 pub mod HeaderLemmas
 mod ReadingFacts
 pub mod ReadingLemmas
-pub mod RecordLemmas
+pub mod RunLemmas
 mod SpellingFacts
 pub mod SpellingLemmas
 pub mod SurveyLemmas

@@ -1,11 +1,9 @@
 -- The record of a move has that move, and its kind is that of its flags.
 use Rattle.std.proofs.Common.{◌≡◌, ℕ, ◌+◌, ◌-◌, ◌*◌, ◌/◌, ◌%◌, ◌<◌, ◌≤◌, ℤ, pos, negsuc, ◌-ℤ◌, unsigned_abs, IsTrue, nat_le, refl, arith}
 use Rattle.std.proofs.lemmas.Bool.{and_parts, leb-true, eq-eqb, ne_eqb}
-use Rattle.std.proofs.lemmas.Bool.Decides.{Decides-int_eq}
 use Rattle.std.proofs.lemmas.Int.{ints}
-use Rattle.std.specs.Ordering.{int_eq}
 use Rattle.design_model.specs.declared.point.Point.{Point}
-use Rattle.design_model.specs.Points.{is_within, is_same_point}
+use Rattle.design_model.specs.Points.{is_within}
 use Rattle.dst_codec.specs.declared.dst.TheConstants.{LIMIT}
 use Rattle.dst_codec.specs.declared.record_kind.RecordKind.TheVariants as kind
 use Rattle.dst_codec.specs.Bits.{bit, move_of, kind_of, rightwards, leftwards, upwards, downwards}
@@ -134,14 +132,6 @@ within_parts limit m within =
 pub same_point : {x x' y y' : ℤ} → x ≡ x' → y ≡ y'
     → (let p : Point = record { x = x; y = y } in p) ≡ (let q : Point = record { x = x'; y = y' } in q)
 same_point x y = cc
-
--- points whose coordinates are equal are equal
-pub same_points : (p q : Point) → IsTrue (is_same_point p q) → p ≡ q
-same_points p q same =
-    let both = and_parts (int_eq p.x q.x) (int_eq p.y q.y) same in
-    let x : p.x ≡ q.x = (Decides-int_eq p.x q.x).0 both.0 in
-    let y : p.y ≡ q.y = (Decides-int_eq p.y q.y).0 both.1 in
-    same_point x y
 
 -- the bytes of a record have its move
 pub move_of-record : (flags k : ℕ) (m : Point) → flags ≡ 64 * k → IsTrue (is_within LIMIT m)

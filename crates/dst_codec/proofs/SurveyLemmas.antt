@@ -1,22 +1,23 @@
 -- A survey of acts, one after the other, comes to the numbers of all of them.
-use Rattle.std.proofs.Common.{◌≡◌, ℕ, zero, suc, ◌+◌, ◌<◌, ◌≤◌, get_or, max, Option, Some, None, option_to_list, sym, Bool, true, false, List, [], ◌∷◌, ◌++◌, length, map, IsTrue, ◌==◌, refl, ap, ◌∙◌, arith, length-append, zero-add, if◌then◌else◌, nat_le}
+use Rattle.std.proofs.Common.{◌≡◌, ℕ, zero, suc, ◌+◌, ◌-◌, ◌<◌, ◌≤◌, get_or, take, drop, subst, max, Option, Some, None, option_to_list, sym, Bool, true, false, List, [], ◌∷◌, ◌++◌, length, map, IsTrue, ◌==◌, refl, ap, ◌∙◌, arith, length-append, zero-add, if◌then◌else◌, nat_le}
 use Rattle.std.proofs.Math.Nat.{zero-max, max-zero}
-use Rattle.std.proofs.lemmas.Bool.{and_parts, and_from, eqb-true}
+use Rattle.std.proofs.Math.Seq.{take-length}
+use Rattle.std.proofs.lemmas.Bool.{and_parts, eqb-true}
 use Rattle.std.proofs.lemmas.List.{length-map}
 use Rattle.std.specs.List.{list_all}
 use Rattle.design_model.specs.declared.act.Act.{Act}
 use Rattle.design_model.specs.declared.act.Act.TheVariants as act
 use Rattle.design_model.specs.declared.act.NumberedAct.{NumberedAct}
 use Rattle.design_model.specs.declared.command.Command.{Command}
-use Rattle.design_model.specs.declared.command.Command.TheVariants.{Stitch, Jump, Trim, Stop}
 use Rattle.design_model.specs.declared.point.Point.{Point}
-use Rattle.design_model.specs.Acts.{acts_from}
 use Rattle.design_model.specs.Commands.{is_in_range}
 use Rattle.design_model.specs.Points.{origin, move_between}
 use Rattle.format_traits.specs.declared.fault.WriteFault.{WriteFault}
-use Rattle.design_model.specs.ActPlaces.{is_act_in_range, place_along, place_after, is_loose_after}
+use Rattle.format_traits.specs.declared.standing.Standing.{Standing}
+use Rattle.design_model.specs.ActPlaces.{is_act_in_range, place_along}
 use Rattle.format_traits.specs.Placing.{hops, parts, parts_from}
-use Rattle.format_traits.specs.Refusals.{stops_of, refusal_at, refusal_from, first_refusal}
+use Rattle.format_traits.specs.Refusals.{stops_of, standing_after, refusal_at, refusal_from, first_refusal}
+use Rattle.format_traits.specs.Spellings.{records_from, records_of_act, needle_records, hop_records, stitched_records}
 use Rattle.format_traits.specs.Rooms.{act_room, needle_room, room_from}
 use Rattle.design_model.specs.declared.act_walk.ActWalk.{ActWalk}
 use Rattle.design_model.specs.ActWalks.{acts_after}
@@ -27,7 +28,7 @@ use Rattle.dst_codec.specs.declared.survey.Survey.{Survey}
 use Rattle.dst_codec.specs.Header.{above, below, greatest, measured, numbers_of}
 use Rattle.dst_codec.specs.Spelling.{jump_record, stitch_record}
 use Rattle.dst_codec.specs.Surveys.{empty_survey, noted, record_count, needle_count, stretched_by}
-use Rattle.dst_codec.specs.Writing.{reach, records_of, records_from, records_of_act, needle_records, hop_records, third_stitched}
+use Rattle.dst_codec.specs.Writing.{reach, records_of, spelling}
 
 -- a survey with further acts
 abbrev pub surveyed : Survey → List NumberedAct → Survey
@@ -38,56 +39,42 @@ surveyed s (a ∷ rest) = surveyed (noted s a.act) rest
 abbrev pub are_in_range : List NumberedAct → Bool
 are_in_range acts = list_all (λ a. is_act_in_range a.act) acts
 
--- the acts of commands in range are in range
-pub acts_in_range : (n : ℕ) (loose jumped : Bool) (commands : List Command)
-    → IsTrue (list_all is_in_range commands) → IsTrue (are_in_range (acts_from n loose jumped commands))
-acts_in_range n loose jumped [] all = all
-acts_in_range n loose jumped (Stitch p ∷ rest) all =
-    let both = and_parts (is_in_range (Stitch p)) (list_all is_in_range rest) all in
-    and_from (is_in_range (Stitch p)) (are_in_range (acts_from (n + 1) false false rest)) both.0
-    (acts_in_range (n + 1) false false rest both.1)
-acts_in_range n loose jumped (Jump p ∷ rest) all = acts_in_range (n + 1) loose true rest
-    (and_parts (is_in_range (Jump p)) (list_all is_in_range rest) all).1
-acts_in_range n true jumped (Trim ∷ rest) all = acts_in_range (n + 1) true jumped rest all
-acts_in_range n false jumped (Trim ∷ rest) all = acts_in_range (n + 1) true false rest all
-acts_in_range n loose jumped (Stop ∷ rest) all = acts_in_range (n + 1) true false rest all
-
 pub length-parts_from : (m : Point) (n done count : ℕ) → length (parts_from m n done count) ≡ count
 length-parts_from m n done zero = refl
 length-parts_from m n done (suc count) = ap suc (length-parts_from m n (done + 1) count)
 
-pub length-hop_records : (count : ℕ) (m : Point) → length (hop_records count m) ≡ count + 1
+pub length-hop_records : (count : ℕ) (m : Point) → length (hop_records spelling count m) ≡ count + 1
 length-hop_records count m = length-append (map jump_record (parts m count)) (stitch_record origin ∷ [])
     ∙ ap (λ n. n + 1) (length-map (parts m count) jump_record ∙ length-parts_from m count 0 count)
 
 -- the records of a float, whether its jumps are three or not
-float_length : (three : Bool) (count : ℕ) (m : Point)
-    → length (if three then third_stitched m else hop_records count m) ≡ (if three then 3 else count + 1)
-float_length true count m = refl
-float_length false count m = length-hop_records count m
+float_length : (three : Bool) (count : ℕ) (m : Point) → (count == 3) ≡ three
+    → length (if three then stitched_records spelling count m else hop_records spelling count m)
+    ≡ (if three then 3 else count + 1)
+float_length true count m is =
+    ap (λ n. length (stitched_records spelling n m)) (eqb-true count 3 is)
+float_length false count m is = length-hop_records count m
 
 needle_length : (loose float : Bool) (m : Point)
-    → length (needle_records loose float m) ≡ needle_count loose float m
+    → length (needle_records spelling reach loose float m) ≡ needle_count loose float m
 needle_length true float m = length-hop_records (hops LIMIT m) m
-needle_length false true m = float_length (max 1 (hops LIMIT m) == 3) (max 1 (hops LIMIT m)) m
+needle_length false true m = float_length (max 1 (hops LIMIT m) == 3) (max 1 (hops LIMIT m)) m refl
 needle_length false false m = refl
 
-pub length-records_of_act : (loose : Bool) (place : Point) (a : Act)
-    → length (records_of_act loose place a) ≡ record_count loose place a
-length-records_of_act loose place (act.Needle p float) = needle_length loose float (move_between place p)
-length-records_of_act loose place act.Trim = refl
-length-records_of_act loose place act.Stop = refl
+pub length-records_of_act : (s : Standing) (a : Act)
+    → length (records_of_act spelling reach s a) ≡ record_count s.loose s.place a
+length-records_of_act s (act.Needle p float) = needle_length s.loose float (move_between s.place p)
+length-records_of_act s act.Trim = refl
+length-records_of_act s act.Stop = refl
 
 records-surveyed : (s : Survey) (acts : List NumberedAct)
-    → (surveyed s acts).records ≡ s.records + length (records_from s.standing.loose s.standing.place acts)
+    → (surveyed s acts).records ≡ s.records + length (records_from spelling reach s.standing acts)
 records-surveyed s [] = omega arith
 records-surveyed s (a ∷ rest) =
-    let loose = s.standing.loose in
-    let place = s.standing.place in
-    let one = length-records_of_act loose place a.act in
+    let one = length-records_of_act s.standing a.act in
     let more = records-surveyed (noted s a.act) rest in
-    let joined = length-append (records_of_act loose place a.act)
-    (records_from (is_loose_after a.act) (place_after place a.act) rest) in
+    let joined = length-append (records_of_act spelling reach s.standing a.act)
+    (records_from spelling reach (standing_after LIMIT s.standing a.act) rest) in
     omega (arith, one, more, joined)
 
 stops-surveyed : (s : Survey) (acts : List NumberedAct)
@@ -191,13 +178,39 @@ record_count_small loose place act.Trim = omega arith
 record_count_small loose place act.Stop = omega arith
 
 -- acts have at most as many records as their room
-pub records_small : (loose : Bool) (place : Point) (acts : List NumberedAct)
-    → length (records_from loose place acts) ≤ room_from LIMIT loose place acts
-records_small loose place [] = omega arith
-records_small loose place (a ∷ rest) =
-    let one = record_count_small loose place a.act in
-    let is = length-records_of_act loose place a.act in
-    let more = records_small (is_loose_after a.act) (place_after place a.act) rest in
-    let joined = length-append (records_of_act loose place a.act)
-    (records_from (is_loose_after a.act) (place_after place a.act) rest) in
+pub records_small : (s : Standing) (acts : List NumberedAct)
+    → length (records_from spelling reach s acts) ≤ room_from LIMIT s.loose s.place acts
+records_small s [] = omega arith
+records_small s (a ∷ rest) =
+    let after = standing_after LIMIT s a.act in
+    let one = record_count_small s.loose s.place a.act in
+    let is = length-records_of_act s a.act in
+    let more = records_small after rest in
+    let joined = length-append (records_of_act spelling reach s a.act) (records_from spelling reach after rest) in
     omega (arith, one, is, more, joined)
+
+-- the commands after the first
+abbrev pub rest_of : List Command → List Command
+rest_of cs = take (length cs - 1) (drop 1 cs)
+
+rest_of-cons : (c : Command) (cs : List Command) → rest_of (c ∷ cs) ≡ cs
+rest_of-cons c cs =
+    let left : length (c ∷ cs) - 1 ≡ length cs = omega arith in
+    ap (λ n. take n cs) left ∙ take-length cs
+
+pub length-rest_of : (cs : List Command) → 1 ≤ length cs → length (rest_of cs) + 1 ≡ length cs
+length-rest_of [] some = absurd (let no : ⊥ = omega (arith, some) in no)
+length-rest_of (c ∷ cs) some = ap (λ rest. length rest + 1) (rest_of-cons c cs) ∙ omega arith
+
+pub rest_in_range : (cs : List Command) → IsTrue (list_all is_in_range cs) → IsTrue (list_all is_in_range (rest_of cs))
+rest_in_range [] all = refl
+rest_in_range (c ∷ cs) all = subst (λ rest. IsTrue (list_all is_in_range rest)) (sym (rest_of-cons c cs))
+    (and_parts (is_in_range c) (list_all is_in_range cs) all).1
+
+-- the acts of the first command and of the rest
+pub acts_split : (cs : List Command) (d : Command) (w w' : ActWalk) (r : Option NumberedAct) → 1 ≤ length cs
+    → ((after : List Command) → acts_after w (get_or cs 0 d ∷ after) ≡ option_to_list r ++ acts_after w' after)
+    → acts_after w cs ≡ option_to_list r ++ acts_after w' (rest_of cs)
+acts_split [] d w w' r some steps = absurd (let no : ⊥ = omega (arith, some) in no)
+acts_split (c ∷ cs) d w w' r some steps =
+    steps cs ∙ ap (λ rest. option_to_list r ++ acts_after w' rest) (sym (rest_of-cons c cs))

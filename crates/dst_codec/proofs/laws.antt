@@ -1,9 +1,4 @@
-pub mod Hops
-pub mod Parts
-pub mod Steps
-pub mod Runs
-pub mod Acts
-pub mod Rooms
+pub mod Taken
 pub mod Again
 pub mod Label
 pub mod Reach

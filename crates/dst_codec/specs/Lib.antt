@@ -5,8 +5,8 @@ pub mod Header
 -- read these first: what a file reads as, and what a design is written as
 pub mod Reading
 pub mod Writing
+pub mod Cuts
 pub mod Surveys
-pub mod Steps
 pub mod Format
 pub mod Laws
 pub mod Samples

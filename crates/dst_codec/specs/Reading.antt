@@ -1,64 +1,51 @@
--- What a file reads as: a fold over its records, which keeps the place and the number of jump
--- records in the unbroken run that came just before.
-use Rattle.std.specs.Prelude.{ℕ, ◌+◌, ◌-◌, ◌/◌, true, false, nat_eq, nat_lt, List, [], ◌∷◌, length, take, drop, Result, Ok, Err, ◌==◌, codes, if◌then◌else◌}
+-- What a file reads as: its records behind the header. A fold over them keeps the number of jump
+-- records in the unbroken run that came just before, counted up to three.
+use Rattle.std.specs.Prelude.{ℕ, ◌+◌, min, true, false, nat_eq, nat_lt, List, [], ◌∷◌, length, take, drop, Result, Err, ◌==◌, codes, if◌then◌else◌}
 use Rattle.std.specs.List.{starts_with}
-use Rattle.design_model.specs.declared.command.Command.{Command}
-use Rattle.design_model.specs.declared.command.Command.TheVariants.{Stitch, Jump, Trim, Stop}
 use Rattle.design_model.specs.declared.design.TheConstants.{MAX_LABEL}
 use Rattle.design_model.specs.declared.point.Point.{Point}
-use Rattle.design_model.specs.Points.{origin, is_same_point}
+use Rattle.format_traits.specs.declared.event.Event.{Event}
+use Rattle.format_traits.specs.declared.event.Event.TheVariants as event
 use Rattle.format_traits.specs.declared.fault.ReadFault.{ReadFault}
 use Rattle.format_traits.specs.declared.fault.ReadFault.TheVariants as fault
 use Rattle.format_traits.specs.declared.loaded.Loaded.{Loaded}
 use Rattle.format_traits.specs.LabelFields.{label_in}
-use Rattle.format_traits.specs.Placing.{moved}
-use Rattle.format_traits.specs.Readings.{Course, over, tries, loaded_with, offset_of}
+use Rattle.format_traits.specs.Readings.{loaded_with}
+use Rattle.format_traits.specs.Records.{Records, over, refused, next, course_of, moves_of}
 use Rattle.dst_codec.specs.declared.header.TheConstants.{HEADER_LENGTH}
 use Rattle.dst_codec.specs.declared.record_kind.RecordKind.{RecordKind}
 use Rattle.dst_codec.specs.declared.record_kind.RecordKind.TheVariants as kind
 use Rattle.dst_codec.specs.Bits.{move_of, kind_of}
 
 -- the third jump record of a run reads as a trim and the jump
-abbrev pub jumps_of : ℕ → Point → List Command
-jumps_of run there = if run == 2 then Trim ∷ Jump there ∷ [] else Jump there ∷ []
+abbrev pub jump_after : ℕ → Point → Event
+jump_after run m = if run == 2 then event.TrimmedJump m else event.Jump m
 
--- a stop whose move is not (0, 0) reads as a stop and a jump
-abbrev pub stops_with : Point → Point → List Command
-stops_with m there = if is_same_point m origin then Stop ∷ [] else Stop ∷ Jump there ∷ []
-
--- the commands of a record: by its kind, the run before it, its move and the place after it
-abbrev pub commands_of : RecordKind → ℕ → Point → Point → List Command
-commands_of kind.Stitch run m there = Stitch there ∷ []
-commands_of kind.Jump run m there = jumps_of run there
-commands_of kind.Stop run m there = stops_with m there
-commands_of kind.Sequin run m there = []
-commands_of kind.End run m there = []
+-- a record of that kind at that offset, after that run, with its move, and what stands behind it
+abbrev pub record_as : RecordKind → ℕ → ℕ → Point → Records → Records
+record_as kind.Stitch at run m rest = next at (event.Stitch m) rest
+record_as kind.Jump at run m rest = next at (jump_after run m) rest
+record_as kind.Stop at run m rest = next at (event.StopBy m) rest
+record_as kind.Sequin at run m rest = refused (fault.Sequin at)
+record_as kind.End at run m rest = over true
 
 -- the run after a record
 abbrev pub run_after : RecordKind → ℕ → ℕ
 run_after kind.Stitch run = 0
-run_after kind.Jump run = run + 1
+run_after kind.Jump run = min (run + 1) 3
 run_after kind.Stop run = 0
 run_after kind.Sequin run = 0
 run_after kind.End run = 0
 
--- a record of that kind at that offset, its commands, and what comes of the rest
-abbrev pub read_record : RecordKind → ℕ → ℕ → List Command → Result Course ReadFault → Result Course ReadFault
-read_record kind.Stitch at count commands rest = tries at count commands rest
-read_record kind.Jump at count commands rest = tries at count commands rest
-read_record kind.Stop at count commands rest = tries at count commands rest
-read_record kind.Sequin at count commands rest = Err (fault.Sequin at)
-read_record kind.End at count commands rest = over true
+-- the records from that offset on, after that run; one or two bytes that are left over are no record
+abbrev pub records_from : ℕ → ℕ → List ℕ → Records
+records_from run at (a ∷ b ∷ c ∷ rest) =
+    record_as (kind_of c) at run (move_of a b c) (records_from (run_after (kind_of c) run) (at + 3) rest)
+records_from run at _ = over false
 
--- what the records from that offset on read as; one or two bytes that are left over are no record
-abbrev pub reads_from : ℕ → ℕ → ℕ → Point → List ℕ → Result Course ReadFault
-reads_from at count run place (a ∷ b ∷ c ∷ rest) =
-    let kind = kind_of c in
-    let there = moved place (move_of a b c) in
-    let commands = commands_of kind run (move_of a b c) there in
-    read_record kind at count commands
-    (reads_from (at + 3) (count + length commands) (run_after kind run) there rest)
-reads_from at count run place _ = over false
+-- the records behind a file's header
+abbrev pub records_in : List ℕ → Records
+records_in bytes = records_from 0 HEADER_LENGTH (drop HEADER_LENGTH bytes)
 
 -- the label, where the file begins with `LA:`
 abbrev pub label_of : List ℕ → List ℕ
@@ -69,26 +56,8 @@ label_of bytes =
 abbrev pub reads : List ℕ → Result Loaded ReadFault
 reads bytes =
     if nat_lt (length bytes) HEADER_LENGTH then Err (fault.Short (length bytes))
-    else loaded_with (label_of bytes) [] (reads_from HEADER_LENGTH 0 0 origin (drop HEADER_LENGTH bytes))
-
--- a move, unless its record is the end, and those after it
-abbrev pub unless_end : RecordKind → Point → List Point → List Point
-unless_end kind.Stitch m rest = m ∷ rest
-unless_end kind.Jump m rest = m ∷ rest
-unless_end kind.Stop m rest = m ∷ rest
-unless_end kind.Sequin m rest = m ∷ rest
-unless_end kind.End m rest = []
-
--- the moves of the records before the end
-abbrev pub record_moves : List ℕ → List Point
-record_moves (a ∷ b ∷ c ∷ rest) = unless_end (kind_of c) (move_of a b c) (record_moves rest)
-record_moves _ = []
-
--- those of the records before a refusal
-abbrev pub before_refusal : Result Loaded ReadFault → List Point → List Point
-before_refusal (Ok loaded) ms = ms
-before_refusal (Err f) ms = take ((offset_of f - HEADER_LENGTH) / 3) ms
+    else loaded_with (label_of bytes) [] (course_of (records_in bytes))
 
 -- the moves of a file's records, before its end or its first refusal
 abbrev pub moves : List ℕ → List Point
-moves bytes = before_refusal (reads bytes) (record_moves (drop HEADER_LENGTH bytes))
+moves bytes = moves_of (records_in bytes)

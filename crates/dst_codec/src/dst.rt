@@ -1,7 +1,7 @@
 use crate::reading::read_file;
 use crate::writing::write_file;
 use design_model::{Bytes, Design};
-use format_traits::{Format, Loaded, ReadFault, WriteFault};
+use format_traits::{Format, Loaded, Reach, ReadFault, WriteFault};
 use std::alloc::Global;
 
 /// The greatest move of a record on each axis, in tenths of a millimetre.
@@ -12,6 +12,13 @@ pub const MAX_FLOAT_HOPS: u32 = 3;
 
 /// The most stops of a file.
 pub const MAX_STOPS: u32 = 999;
+
+/// What the format can write.
+pub const REACH: Reach = Reach {
+    limit: LIMIT,
+    float_hops: Some(MAX_FLOAT_HOPS),
+    stops: Some(MAX_STOPS),
+};
 
 /// The DST format.
 #[derive(Clone, Copy, Debug, PartialEq, Eq)]

@@ -9,6 +9,7 @@ mod promises;
 mod reading;
 mod record_kind;
 mod records;
+mod runs;
 mod spelling;
 mod survey;
 #[cfg(test)]

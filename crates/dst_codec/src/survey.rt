@@ -10,17 +10,10 @@ ghost use Rattle.design_model.specs.ActPlaces.{is_act_in_range};
 ghost use Rattle.dst_codec.specs.Header.{above as above_of, below as below_of};
 ghost use Rattle.dst_codec.specs.Surveys.{empty_survey, float_count as float_count_of, needle_count as needle_count_of, record_count as record_count_of, stretched, stretched_by, Notes, SurveysActs};
 
-use crate::dst::{LIMIT, MAX_FLOAT_HOPS, MAX_STOPS};
+use crate::dst::{LIMIT, REACH};
 use crate::header::{Extents, HeaderNumbers};
 use design_model::{Act, ActWalk, Command, MAX_COMMANDS, NEEDLE_LIMIT, NumberedAct, Point};
-use format_traits::{GREATEST_MOVE, Reach, Standing, WriteFault, hops, move_between};
-
-/// What the format can write.
-const REACH: Reach = Reach {
-    limit: LIMIT,
-    float_hops: Some(MAX_FLOAT_HOPS),
-    stops: Some(MAX_STOPS),
-};
+use format_traits::{GREATEST_MOVE, Standing, WriteFault, hops, move_between};
 
 /// What is known of the acts so far.
 #[derive(Clone, Copy, Debug, PartialEq, Eq)]

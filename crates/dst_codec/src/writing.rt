@@ -3,10 +3,11 @@ ghost use Rattle.dst_codec.specs.Format.{dst};
 ghost use Rattle.dst_codec.specs.Writing.{writes};
 
 use crate::header::new_header;
-use crate::records::put_records;
+use crate::promises::written_reads_again;
+use crate::records::DstWriter;
 use crate::survey::header_numbers;
 use design_model::{Bytes, Design};
-use format_traits::WriteFault;
+use format_traits::{WriteFault, put_acts};
 use std::alloc::Global;
 
 /// The record of the end.
@@ -17,12 +18,15 @@ pub fn write_file(alloc: Global, design: &Design) -> Result<Bytes, WriteFault>
     ensures value { Writes (writes design.now) result }
     ensures laws { KeepsLaws dst design.now }
 {
+    written_reads_again();
     let numbers = match header_numbers(design.commands()) {
         Ok(numbers) => numbers,
         Err(fault) => return Err(fault),
     };
     let mut file = new_header(alloc, design.label(), &numbers)?;
-    put_records(&mut file, design.commands())?;
+    if let Err(fault) = put_acts(&DstWriter, &mut file, design.commands()) {
+        return Err(fault);
+    }
     file.append(&END)?;
     Ok(file)
 }

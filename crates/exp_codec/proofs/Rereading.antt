@@ -1,23 +1,21 @@
 -- What is written reads again.
-use Rattle.std.proofs.Common.{◌≡◌, ℕ, zero, suc, ◌+◌, ◌-◌, ◌<◌, ◌≤◌, ◌≢◌, ℤ, pos, negsuc, neg_ℤ, unsigned_abs, nat_lt, nat_le, true, false, IsTrue, IsOkAnd, List, [], ◌∷◌, ◌++◌, length, None, Ok, refl, ap, sym, ◌∙◌, subst, arith, if◌then◌else◌}
+use Rattle.std.proofs.Common.{◌≡◌, ℕ, suc, ◌+◌, ◌-◌, ◌<◌, ◌≤◌, ◌≢◌, ℤ, pos, negsuc, neg_ℤ, unsigned_abs, nat_le, true, IsTrue, IsOkAnd, List, [], ◌∷◌, ◌++◌, None, refl, ap, sym, ◌∙◌, subst, arith}
 use Rattle.std.proofs.lemmas.Bool.{and_parts, leb-true, lt-ltb, le-ltb, ne_eqb}
 use Rattle.std.proofs.lemmas.Int.{ints}
 use Rattle.std.proofs.lemmas.List.{append-nil}
-use Rattle.std.specs.List.{list_all, concat}
 use Rattle.design_model.specs.declared.point.Point.{Point}
 use Rattle.design_model.specs.Acts.{acts_of}
 use Rattle.design_model.specs.Designs.{DesignValue, KeepsLimits}
 use Rattle.design_model.specs.Points.{is_within, origin}
 use Rattle.format_traits.specs.declared.event.Event.TheVariants as event
 use Rattle.format_traits.specs.declared.loaded.Loaded.{Loaded}
-use Rattle.format_traits.specs.Laws.{IsAgain, ReadsAgain, MovesWithin, IsCodec}
+use Rattle.format_traits.specs.Laws.{IsAgain, IsCodec}
 use Rattle.format_traits.specs.Readings.{loaded_with}
-use Rattle.format_traits.specs.Records.{Records, over, next, moves_of}
+use Rattle.format_traits.specs.Records.{next}
 use Rattle.format_traits.specs.Refusals.{first_refusal}
 use Rattle.format_traits.specs.Rereading.{Taken, RereadsSpelling, TellActs, SpelledActsReadAgain}
 use Rattle.exp_codec.specs.declared.exp.TheConstants.{LIMIT}
 use Rattle.exp_codec.specs.Format.{exp}
-use Rattle.exp_codec.specs.Reading.{reads, moves}
 use Rattle.exp_codec.specs.Units.{signed, move_of, units_from}
 use Rattle.exp_codec.specs.Writing.{byte_of, step_bytes, spelling, reach, file_of}
 

@@ -1,10 +1,9 @@
 -- The first unit of the bytes that are left.
-use Rattle.std.proofs.Common.{◌≡◌, ◌≢◌, ℕ, ◌+◌, ◌-◌, ◌<◌, ◌≤◌, true, false, Option, Some, None, List, [], ◌∷◌, length, get_or, take, drop, IsTrue, refl, ap, sym, ◌∙◌, subst, arith}
+use Rattle.std.proofs.Common.{◌≡◌, ◌≢◌, ℕ, ◌+◌, ◌-◌, ◌≤◌, List, [], ◌∷◌, length, get_or, take, drop, refl, sym, subst, arith}
 use Rattle.std.proofs.lemmas.Bool.{ne_eqb, eq-eqb}
 use Rattle.std.proofs.lemmas.List.{take_all, length-drop}
-use Rattle.format_traits.specs.declared.event.Event.{Event}
 use Rattle.format_traits.specs.declared.event.Event.TheVariants as event
-use Rattle.format_traits.specs.Records.{Records, over, next, moves_in}
+use Rattle.format_traits.specs.Records.{next}
 use Rattle.exp_codec.specs.Units.{units_from, asked, control_event, move_of}
 
 -- a unit of two bytes

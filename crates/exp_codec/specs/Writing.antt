@@ -1,6 +1,6 @@
 -- What a design is written as: the units of its acts in order. A number is spelled modulo 256; the
 -- greatest move is 127, so that no stitch begins with 80.
-use Rattle.std.specs.Prelude.{ℕ, ◌-◌, suc, ℤ, pos, negsuc, neg_ℤ, List, [], ◌∷◌, None, Result}
+use Rattle.std.specs.Prelude.{ℕ, ◌-◌, ℤ, pos, negsuc, neg_ℤ, List, [], ◌∷◌, None, Result}
 use Rattle.std.specs.List.{concat}
 use Rattle.design_model.specs.declared.point.Point.{Point}
 use Rattle.design_model.specs.Acts.{acts_of}

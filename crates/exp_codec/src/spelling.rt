@@ -1,10 +1,10 @@
-ghost use Rattle.std.specs.Prelude.{◌≡◌, ◌≤◌, ◌++◌, IsTrue, OnOk, neg_ℤ, unsigned_abs};
+ghost use Rattle.std.specs.Prelude.{◌≡◌, ◌≤◌, IsTrue, unsigned_abs};
 ghost use Rattle.design_model.specs.Points.{is_within};
 ghost use Rattle.exp_codec.specs.declared.exp.TheConstants.{LIMIT};
 ghost use Rattle.exp_codec.specs.Writing.{byte_of as byte_of_number, step_bytes as bytes_of_step};
 
 use crate::exp::LIMIT;
-use crate::units::{CONTROL, JUMP, STOP, TRIM};
+use crate::units::{CONTROL, JUMP, STOP, TRIM, opposite};
 use design_model::{Bytes, Memory, Point};
 use format_traits::{Reach, RecordWriter};
 
@@ -63,12 +63,4 @@ fn byte_of(number: i32) -> u8
     } else {
         number as u8
     }
-}
-
-fn opposite(number: i32) -> i32
-    requires { unsigned_abs number ≤ LIMIT }
-    ensures value { result ≡ neg_ℤ number }
-    ensures size { unsigned_abs result ≤ LIMIT }
-{
-    -number
 }

@@ -1,0 +1,106 @@
+use crate::Exp;
+use design_model::{Command, Design, ModelFault, Point};
+use format_traits::{Format, ReadFault, WriteFault};
+use std::alloc::Global;
+use std::test::Fail;
+
+fn at(x: i32, y: i32) -> Point {
+    Point { x, y }
+}
+
+fn design_of(alloc: Global, commands: &[Command]) -> Result<Design, ModelFault> {
+    let mut design = Design::new(alloc);
+    for command in commands {
+        design.push(*command)?;
+    }
+    Ok(design)
+}
+
+#[test]
+fn a_square_has_its_14_bytes_and_reads_again(rt: HostRuntime) -> Result<(), Fail> {
+    let alloc = rt.alloc();
+    let commands = [
+        Command::Stitch(at(0, 0)),
+        Command::Stitch(at(30, 0)),
+        Command::Stitch(at(30, 30)),
+        Command::Stitch(at(0, 30)),
+        Command::Stitch(at(0, 0)),
+        Command::Trim,
+    ];
+    let design = design_of(alloc, &commands).ok().ok_or("no design")?;
+    let file = Exp.encode(alloc, &design).ok().ok_or("not written")?;
+    let expected = [
+        0x00, 0x00, 0x1E, 0x00, 0x00, 0xE2, 0xE2, 0x00, 0x00, 0x1E, 0x80, 0x80, 0x07, 0x00,
+    ];
+    assert_eq!(rt; file.as_slice(), expected.as_slice());
+    let loaded = Exp.decode(alloc, file.as_slice()).ok().ok_or("not read")?;
+    assert_eq!(rt; loaded.ended, true);
+    assert_eq!(rt; loaded.design.commands(), commands.as_slice());
+    Ok(())
+}
+
+#[test]
+fn an_uncut_jump_of_400_is_read(rt: HostRuntime) -> Result<(), Fail> {
+    let alloc = rt.alloc();
+    let file = [
+        0x00, 0x00, 0x80, 0x04, 0x64, 0x00, 0x80, 0x04, 0x64, 0x00, 0x80, 0x04, 0x64, 0x00, 0x80,
+        0x04, 0x64, 0x00, 0x00, 0x00,
+    ];
+    let expected = [
+        Command::Stitch(at(0, 0)),
+        Command::Jump(at(100, 0)),
+        Command::Jump(at(200, 0)),
+        Command::Jump(at(300, 0)),
+        Command::Jump(at(400, 0)),
+        Command::Stitch(at(400, 0)),
+    ];
+    let loaded = Exp.decode(alloc, &file).ok().ok_or("not read")?;
+    assert_eq!(rt; loaded.design.commands(), expected.as_slice());
+    Ok(())
+}
+
+#[test]
+fn a_file_has_ended_where_no_byte_is_left_over(rt: HostRuntime) -> Result<(), Fail> {
+    let alloc = rt.alloc();
+    let square = [
+        0x00, 0x00, 0x1E, 0x00, 0x00, 0xE2, 0xE2, 0x00, 0x00, 0x1E, 0x80, 0x80, 0x07, 0x00,
+    ];
+    for length in 0..square.len() + 1 {
+        let loaded = Exp.decode(alloc, &square[..length]).ok().ok_or("not read")?;
+        let whole = length % 2 == 0 && length != 12;
+        assert_eq!(rt; loaded.ended, whole, "{length} bytes");
+    }
+    Ok(())
+}
+
+#[test]
+fn minus_128_is_read_and_never_written(rt: HostRuntime) -> Result<(), Fail> {
+    let alloc = rt.alloc();
+    let file = [0x00, 0x00, 0xFB, 0x80];
+    let loaded = Exp.decode(alloc, &file).ok().ok_or("not read")?;
+    let expected = [Command::Stitch(at(0, 0)), Command::Stitch(at(-5, 128))];
+    assert_eq!(rt; loaded.design.commands(), expected.as_slice());
+    assert_eq!(rt;
+        Exp.encode(alloc, &loaded.design).err(),
+        Some(WriteFault::StitchTooLong { number: 2 })
+    );
+    let left = [Command::Stitch(at(0, 0)), Command::Stitch(at(-127, 0))];
+    let design = design_of(alloc, &left).ok().ok_or("no design")?;
+    let written = Exp.encode(alloc, &design).ok().ok_or("not written")?;
+    assert_eq!(rt; written.as_slice(), [0x00, 0x00, 0x81, 0x00].as_slice());
+    Ok(())
+}
+
+#[test]
+fn an_unknown_control_byte_is_refused_at_its_unit(rt: HostRuntime) -> Result<(), Fail> {
+    let alloc = rt.alloc();
+    for control in [0x00, 0x03, 0x05, 0x08, 0x81, 0xFF] {
+        let file = [0x00, 0x00, 0x80, control, 0x00, 0x00];
+        assert_eq!(rt;
+            Exp.decode(alloc, &file).err(),
+            Some(ReadFault::Control { at: 2 }),
+            "{control}"
+        );
+    }
+    Ok(())
+}

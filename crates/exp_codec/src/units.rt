@@ -92,9 +92,11 @@ fn signed(byte: u8) -> i32
     }
 }
 
-fn opposite(number: i32) -> i32
+/// A number with the other sign.
+pub fn opposite(number: i32) -> i32
     requires { unsigned_abs number ≤ 128 }
-    ensures { result ≡ neg_ℤ number }
+    ensures value { result ≡ neg_ℤ number }
+    ensures size { unsigned_abs result ≡ unsigned_abs number }
 {
     -number
 }

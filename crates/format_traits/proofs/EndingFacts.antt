@@ -2,14 +2,15 @@
 use Rattle.std.proofs.Common.{◌≡◌, ℕ, true, List, [], ◌∷◌, Some, None, Ok, refl, codes}
 use Rattle.format_traits.specs.Endings.{ending_in, found_in}
 use Rattle.format_traits.specs.Meanings.{Meaning}
-use Rattle.format_traits.specs.Readings.{over, loaded_with}
+use Rattle.format_traits.specs.Readings.{loaded_with}
+use Rattle.format_traits.specs.Records.{over, course_of}
 
 -- a format with that ending, of no further interest
 abbrev pub named : List ℕ → Meaning
 named ending = record {
   ending = ending;
   limit = 121;
-  reads = λ bytes. loaded_with [] [] (over true);
+  reads = λ bytes. loaded_with [] [] (course_of (over true));
   writes = λ d. Ok [];
   moves = λ bytes. [];
 }

@@ -1,8 +1,9 @@
 mod EndingFacts
 pub mod LabelLemmas
 pub mod EndingLemmas
-pub mod PartLemmas
 pub mod PointLemmas
 mod PlacingFacts
+mod RecordFacts
+mod RereadingFacts
 pub mod WriterLemmas
 pub mod rereading

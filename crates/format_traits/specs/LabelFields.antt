@@ -1,6 +1,7 @@
 -- The label in the header of a file: sixteen places, filled with spaces.
-use Rattle.std.specs.Prelude.{ℕ, ◌-◌, ◌&&◌, List, [], ◌∷◌, ◌++◌, length, replicate, map, nat_le, ◌==◌, if◌then◌else◌}
+use Rattle.std.specs.Prelude.{◌≡◌, ℕ, ◌-◌, ◌&&◌, List, [], ◌∷◌, ◌++◌, length, replicate, map, nat_le, ◌==◌, if◌then◌else◌}
 use Rattle.design_model.specs.declared.design.TheConstants.{MAX_LABEL}
+use Rattle.design_model.specs.Labels.{IsLabel}
 
 -- a text in so many places, at the left
 abbrev pub filled_right : ℕ → List ℕ → List ℕ
@@ -31,3 +32,12 @@ trimmed (byte ∷ rest) = before_trimmed byte (trimmed rest)
 -- the label that a field holds
 abbrev pub label_in : List ℕ → List ℕ
 label_in field = trimmed (map shown field)
+
+-- the field of a label has its places, and the label is read back from it
+pub record IsReadBack (label : List ℕ) : Type 0 where
+  pub places : length (label_field label) ≡ MAX_LABEL
+  pub back : label_in (label_field label) ≡ label
+
+-- the field of every label is so
+abbrev pub LabelFieldsReadBack : Type 0
+LabelFieldsReadBack = (label : List ℕ) → IsLabel label → IsReadBack label

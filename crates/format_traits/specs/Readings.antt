@@ -14,10 +14,6 @@ pub record Course : Type 0 where
   pub commands : List Command
   pub ended : Bool
 
--- no further command
-abbrev pub over : Bool → Result Course ReadFault
-over ended = Ok (record { commands = []; ended = ended })
-
 -- commands before those of a course; a refusal stays
 abbrev pub after_commands : List Command → Result Course ReadFault → Result Course ReadFault
 after_commands before (Ok course) =
@@ -43,13 +39,3 @@ loaded_with label threads (Ok course) = Ok (record {
   ended = course.ended;
 })
 loaded_with label threads (Err f) = Err f
-
--- the offset that a refusal names
-abbrev pub offset_of : ReadFault → ℕ
-offset_of (fault.Short at) = at
-offset_of (fault.Signature at) = at
-offset_of (fault.Sequin at) = at
-offset_of (fault.Control at) = at
-offset_of (fault.Range at) = at
-offset_of (fault.TooMany at) = at
-offset_of fault.Memory = 0

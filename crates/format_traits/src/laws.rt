@@ -1,4 +1,5 @@
 ghost use Rattle.format_traits.specs.Accepted.{AcceptedIsSmall};
+ghost use Rattle.format_traits.specs.LabelFields.{LabelFieldsReadBack};
 ghost use Rattle.format_traits.specs.Laws.{CodecsKeepLaws};
 ghost use Rattle.format_traits.specs.Limits.{FormatLimits};
 ghost use Rattle.format_traits.specs.Rereading.{SpelledActsReadAgain};
@@ -23,4 +24,9 @@ pub fn codecs_keep_the_laws()
 /// The acts of a design that is not refused have little room and few stops.
 pub fn an_accepted_design_is_small()
     ensures { AcceptedIsSmall }
+{}
+
+/// A label is read back from its field.
+pub fn label_fields_read_back()
+    ensures { LabelFieldsReadBack }
 {}

@@ -1,5 +1,5 @@
 //! The trait of stitch formats: what a format object reads and writes, and the laws that each of
-//! them keeps.
+//! them keeps; and what all of them do alike with records and acts.
 #![tactic(auto)]
 
 mod boxed;
@@ -23,8 +23,8 @@ pub use format_object::{Format, GREATEST_LIMIT, LEAST_LIMIT};
 pub use keeping::{keep, keep_both};
 pub use label_fields::{put_label, put_spaces, read_label};
 pub use laws::{
-    an_accepted_design_is_small, codecs_keep_the_laws, spelled_acts_read_again,
-    the_limits_of_formats,
+    an_accepted_design_is_small, codecs_keep_the_laws, label_fields_read_back,
+    spelled_acts_read_again, the_limits_of_formats,
 };
 pub use loaded::Loaded;
 pub use lookup::find;

@@ -1,6 +1,6 @@
 -- No stitch and no float that was read is too long to be written: a stitch is one record's move,
 -- and between a needle and a float's needle at most two jumps are read, since a third is a trim.
-use Rattle.std.proofs.Common.{◌≡◌, ◌≢◌, ℕ, ◌+◌, ◌-◌, ◌*◌, ◌/◌, ◌%◌, ◌≤◌, ℤ, pos, ◌+ℤ◌, ◌-ℤ◌, unsigned_abs, Bool, true, false, not, ◌&&◌, List, [], ◌∷◌, length, drop, Option, Some, None, Result, Ok, Err, IfOk, nat_lt, nat_le, ◌==◌, if◌then◌else◌, refl, sym, subst, arith}
+use Rattle.std.proofs.Common.{◌≡◌, ◌≢◌, ℕ, ◌+◌, ◌-◌, ◌*◌, ◌/◌, ◌%◌, min, ◌≤◌, ℤ, pos, ◌+ℤ◌, ◌-ℤ◌, unsigned_abs, Bool, true, false, not, ◌&&◌, List, [], ◌∷◌, length, drop, Option, Some, None, Result, Ok, Err, IfOk, nat_lt, nat_le, ◌==◌, if◌then◌else◌, refl, sym, subst, arith}
 use Rattle.std.proofs.lemmas.Bool.{eqb-false, le-ltb}
 use Rattle.std.proofs.lemmas.Int.{ints}
 use Rattle.design_model.specs.declared.act.Act.TheVariants as act
@@ -12,6 +12,7 @@ use Rattle.design_model.specs.declared.point.Point.{Point}
 use Rattle.design_model.specs.Acts.{acts_from, acts_along, numbered}
 use Rattle.design_model.specs.Commands.{is_in_range}
 use Rattle.design_model.specs.Points.{origin, move_between, size_of, is_same_point}
+use Rattle.format_traits.specs.declared.event.Event.TheVariants as event
 use Rattle.format_traits.specs.declared.fault.ReadFault.{ReadFault}
 use Rattle.format_traits.specs.declared.fault.ReadFault.TheVariants as read
 use Rattle.format_traits.specs.declared.fault.WriteFault.{WriteFault}
@@ -19,6 +20,7 @@ use Rattle.format_traits.specs.declared.fault.WriteFault.TheVariants as fault
 use Rattle.format_traits.specs.declared.standing.Standing.{Standing}
 use Rattle.format_traits.specs.Placing.{moved, hops}
 use Rattle.format_traits.specs.Readings.{Course, after_commands, tried, tries, loaded_with}
+use Rattle.format_traits.specs.Records.{Records, next, reads_from, course_of}
 use Rattle.format_traits.specs.Refusals.{beginning, standing_after, passes, refused_where, needle_refusal, own_refusal, or_else, refusal_at, refusal_from, first_refusal, unless_refused}
 use Rattle.dst_codec.specs.declared.dst.TheConstants.{LIMIT}
 use Rattle.dst_codec.specs.declared.header.TheConstants.{HEADER_LENGTH}
@@ -26,7 +28,7 @@ use Rattle.dst_codec.specs.declared.record_kind.RecordKind.{RecordKind}
 use Rattle.dst_codec.specs.declared.record_kind.RecordKind.TheVariants as kind
 use Rattle.dst_codec.specs.Bits.{move_of, kind_of, rightwards, leftwards, upwards, downwards}
 use Rattle.dst_codec.specs.Laws.{ReadIsWithinReach}
-use Rattle.dst_codec.specs.Reading.{commands_of, run_after, read_record, reads_from, label_of}
+use Rattle.dst_codec.specs.Reading.{record_as, run_after, records_from, records_in, label_of}
 use Rattle.dst_codec.specs.Writing.{reach, file_of, writes}
 
 -- the refusal of a long stitch or a long float
@@ -198,25 +200,26 @@ stitch_ok s jumped run place m (Ok course) small near on =
 
 jump_ok : (s : Standing) (jumped : Bool) (run : ℕ) (place m : Point) (rest : Result Course ReadFault)
     → (unsigned_abs m.x ≤ LIMIT) × (unsigned_abs m.y ≤ LIMIT) → run ≢ 2
-    → (s.loose ≡ false → IsNear s.place run place jumped) → RestIsWithin (run + 1) (moved place m) rest
+    → (s.loose ≡ false → IsNear s.place run place jumped) → RestIsWithin (min (run + 1) 3) (moved place m) rest
     → IfOk rest (λ course. IsWithin jumped s (Jump (moved place m) ∷ course.commands))
 jump_ok s jumped run place m (Err f) small other near on = tt
 jump_ok s jumped run place m (Ok course) small other near on =
     within-jump s jumped (moved place m) course.commands (on s true (λ tied.
     let is = near tied in
-    record {
+    let longer : run + 1 ≡ min (run + 1) 3 = omega (arith, is.few) in
+    subst (λ n. IsNear s.place n (moved place m) true) longer (record {
       few = omega (arith, is.few, other);
       still = λ same. absurd (let no : ⊥ = cc in no);
       x = farther place.x m.x s.place.x run is.x small.0;
       y = farther place.y m.y s.place.y run is.y small.1;
-    }))
+    })))
 
 third_ok : (s : Standing) (jumped : Bool) (run : ℕ) (there : Point) (rest : Result Course ReadFault)
-    → RestIsWithin (run + 1) there rest
+    → RestIsWithin run there rest
     → IfOk rest (λ course. IsWithin jumped s (Trim ∷ Jump there ∷ course.commands))
 third_ok s jumped run there (Err f) on = tt
 third_ok s jumped run there (Ok course) on = within-third s.loose s jumped there course.commands refl
-    (λ s' loose. on s' true (loose_free (IsNear s'.place (run + 1) there true) s' loose))
+    (λ s' loose. on s' true (loose_free (IsNear s'.place run there true) s' loose))
 
 stop_ok : (s : Standing) (jumped : Bool) (there : Point) (rest : Result Course ReadFault) → RestIsWithin 0 there rest
     → IfOk rest (λ course. IsWithin jumped s (Stop ∷ course.commands))
@@ -231,40 +234,51 @@ stop_jump_ok s jumped there (Ok course) on = within-stop s jumped (Jump there �
     (λ s' loose. within-jump s' false there course.commands
     (on s' true (loose_free (IsNear s'.place 0 there true) s' loose)))
 
+-- what comes of records, whatever stands before them
+abbrev RecordsAreWithin : ℕ → Point → Records → Type 0
+RecordsAreWithin run place records = (count : ℕ) → RestIsWithin run place (reads_from count place records)
+
 -- a jump record, by whether it is the third of its run
-jumps_ok : (third : Bool) (at count run : ℕ) (place m : Point) (s : Standing) (jumped : Bool) (rest : Result Course ReadFault)
+jumps_ok : (third : Bool) (at count run : ℕ) (place m : Point) (s : Standing) (jumped : Bool) (rest : Records)
     → (run == 2) ≡ third → (unsigned_abs m.x ≤ LIMIT) × (unsigned_abs m.y ≤ LIMIT)
-    → (s.loose ≡ false → IsNear s.place run place jumped) → RestIsWithin (run + 1) (moved place m) rest
-    → IfOk (tries at count (if third then Trim ∷ Jump (moved place m) ∷ [] else Jump (moved place m) ∷ []) rest)
+    → (s.loose ≡ false → IsNear s.place run place jumped) → RecordsAreWithin (min (run + 1) 3) (moved place m) rest
+    → IfOk (reads_from count place (next at (if third then event.TrimmedJump m else event.Jump m) rest))
     (λ course. IsWithin jumped s course.commands)
 jumps_ok true at count run place m s jumped rest is small near on =
-    tried_ok at count Trim (tried at (count + 1) (Jump (moved place m)) rest) (IsWithin jumped s)
-    (tried_ok at (count + 1) (Jump (moved place m)) rest (λ commands. IsWithin jumped s (Trim ∷ commands))
-    (third_ok s jumped run (moved place m) rest on))
+    let after = reads_from (count + 2) (moved place m) rest in
+    tried_ok at count Trim (tried at (count + 1) (Jump (moved place m)) after) (IsWithin jumped s)
+    (tried_ok at (count + 1) (Jump (moved place m)) after (λ commands. IsWithin jumped s (Trim ∷ commands))
+    (third_ok s jumped (min (run + 1) 3) (moved place m) after (on (count + 2))))
 jumps_ok false at count run place m s jumped rest is small near on =
-    tried_ok at count (Jump (moved place m)) rest (IsWithin jumped s)
-    (jump_ok s jumped run place m rest small (eqb-false run 2 is) near on)
+    let after = reads_from (count + 1) (moved place m) rest in
+    tried_ok at count (Jump (moved place m)) after (IsWithin jumped s)
+    (jump_ok s jumped run place m after small (eqb-false run 2 is) near (on (count + 1)))
 
 -- a stop record, by whether it moves
-stops_ok : (still : Bool) (at count : ℕ) (there : Point) (s : Standing) (jumped : Bool) (rest : Result Course ReadFault)
-    → RestIsWithin 0 there rest
-    → IfOk (tries at count (if still then Stop ∷ [] else Stop ∷ Jump there ∷ []) rest)
+stops_ok : (still : Bool) (at count : ℕ) (there : Point) (s : Standing) (jumped : Bool) (rest : Records)
+    → RecordsAreWithin 0 there rest
+    → IfOk (tries at count (if still then Stop ∷ [] else Stop ∷ Jump there ∷ [])
+    (reads_from (count + length (if still then Stop ∷ [] else Stop ∷ Jump there ∷ [])) there rest))
     (λ course. IsWithin jumped s course.commands)
 stops_ok true at count there s jumped rest on =
-    tried_ok at count Stop rest (IsWithin jumped s) (stop_ok s jumped there rest on)
+    let after = reads_from (count + 1) there rest in
+    tried_ok at count Stop after (IsWithin jumped s) (stop_ok s jumped there after (on (count + 1)))
 stops_ok false at count there s jumped rest on =
-    tried_ok at count Stop (tried at (count + 1) (Jump there) rest) (IsWithin jumped s)
-    (tried_ok at (count + 1) (Jump there) rest (λ commands. IsWithin jumped s (Stop ∷ commands))
-    (stop_jump_ok s jumped there rest on))
+    let after = reads_from (count + 2) there rest in
+    tried_ok at count Stop (tried at (count + 1) (Jump there) after) (IsWithin jumped s)
+    (tried_ok at (count + 1) (Jump there) after (λ commands. IsWithin jumped s (Stop ∷ commands))
+    (stop_jump_ok s jumped there after (on (count + 2))))
 
 -- a record of each kind
 record_ok : (k : RecordKind) (at count run : ℕ) (place m : Point) (s : Standing) (jumped : Bool)
     → (unsigned_abs m.x ≤ LIMIT) × (unsigned_abs m.y ≤ LIMIT)
     → (s.loose ≡ false → IsNear s.place run place jumped)
-    → (rest : Result Course ReadFault) → RestIsWithin (run_after k run) (moved place m) rest
-    → IfOk (read_record k at count (commands_of k run m (moved place m)) rest) (λ course. IsWithin jumped s course.commands)
+    → (rest : Records) → RecordsAreWithin (run_after k run) (moved place m) rest
+    → IfOk (reads_from count place (record_as k at run m rest)) (λ course. IsWithin jumped s course.commands)
 record_ok kind.Stitch at count run place m s jumped small near rest on =
-    tried_ok at count (Stitch (moved place m)) rest (IsWithin jumped s) (stitch_ok s jumped run place m rest small near on)
+    let after = reads_from (count + 1) (moved place m) rest in
+    tried_ok at count (Stitch (moved place m)) after (IsWithin jumped s)
+    (stitch_ok s jumped run place m after small near (on (count + 1)))
 record_ok kind.Jump at count run place m s jumped small near rest on =
     jumps_ok (run == 2) at count run place m s jumped rest refl small near on
 record_ok kind.Stop at count run place m s jumped small near rest on =
@@ -273,18 +287,14 @@ record_ok kind.Sequin at count run place m s jumped small near rest on = tt
 record_ok kind.End at count run place m s jumped small near rest on = λ n. refl
 
 -- the records from a place on
-records_ok : (bytes : List ℕ) (at count run : ℕ) (place : Point)
-    → RestIsWithin run place (reads_from at count run place bytes)
-records_ok [] at count run place = λ s jumped near. λ n. refl
-records_ok (a ∷ []) at count run place = λ s jumped near. λ n. refl
-records_ok (a ∷ b ∷ []) at count run place = λ s jumped near. λ n. refl
-records_ok (a ∷ b ∷ c ∷ rest) at count run place = λ s jumped near.
-    let m = move_of a b c in
-    let k = kind_of c in
-    let there = moved place m in
-    record_ok k at count run place m s jumped (move_small a b c) near
-    (reads_from (at + 3) (count + length (commands_of k run m there)) (run_after k run) there rest)
-    (records_ok rest (at + 3) (count + length (commands_of k run m there)) (run_after k run) there)
+records_ok : (bytes : List ℕ) (at run : ℕ) (place : Point) → RecordsAreWithin run place (records_from run at bytes)
+records_ok [] at run place = λ count s jumped near. λ n. refl
+records_ok (a ∷ []) at run place = λ count s jumped near. λ n. refl
+records_ok (a ∷ b ∷ []) at run place = λ count s jumped near. λ n. refl
+records_ok (a ∷ b ∷ c ∷ rest) at run place = λ count s jumped near.
+    record_ok (kind_of c) at count run place (move_of a b c) s jumped (move_small a b c) near
+    (records_from (run_after (kind_of c) run) (at + 3) rest)
+    (records_ok rest (at + 3) (run_after (kind_of c) run) (moved place (move_of a b c)))
 
 -- a refusal that is not long
 not_long : (r : Option WriteFault) (bytes : List ℕ) (number : ℕ) → is_long r ≡ false
@@ -299,8 +309,8 @@ not_long (Some fault.Memory) bytes number short = (λ same. cc, λ same. cc)
 -- what was read is not refused for a long stitch or a long float
 pub read_is_within_reach : ReadIsWithinReach
 read_is_within_reach bytes = by_length (nat_lt (length bytes) HEADER_LENGTH)
-    (reads_from HEADER_LENGTH 0 0 origin (drop HEADER_LENGTH bytes))
-    (records_ok (drop HEADER_LENGTH bytes) HEADER_LENGTH 0 0 origin beginning false
+    (course_of (records_in bytes))
+    (records_ok (drop HEADER_LENGTH bytes) HEADER_LENGTH 0 origin 0 beginning false
     (loose_free (IsNear origin 0 origin false) beginning refl))
   where
     by_length : (b : Bool) (course : Result Course ReadFault) → IfOk course (λ c. IsWithin false beginning c.commands)

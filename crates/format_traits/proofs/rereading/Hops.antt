@@ -137,3 +137,12 @@ axis_between x (negsuc a) n count l some less here there =
     between_left : (x : ℤ) (a u l : ℕ) → u ≤ suc a → unsigned_abs x ≤ l → unsigned_abs (x +ℤ negsuc a) ≤ l
         → unsigned_abs (x +ℤ neg_ℤ (pos u)) ≤ l
     between_left x a u l less here there = omega (arith, ints)
+
+-- the end of some parts is no farther than the end of the whole
+pub axis_small : (z : ℤ) (n count : ℕ) → 0 < n → count ≤ n → unsigned_abs (axis_part z n count) ≤ unsigned_abs z
+axis_small (pos a) n count some less = floor_most a n count some less
+axis_small (negsuc a) n count some less =
+    rw (part_left a n count some) (size_left (ceiling (suc a) n count) (ceiling_most (suc a) n count some less))
+  where
+    size_left : (u : ℕ) → u ≤ suc a → unsigned_abs (neg_ℤ (pos u)) ≤ suc a
+    size_left u small = omega (arith, ints)

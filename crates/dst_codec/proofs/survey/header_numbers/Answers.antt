@@ -3,8 +3,7 @@ use Rattle.design_model.specs.Acts.{acts_along}
 use Rattle.format_traits.specs.Refusals.{refusal_from}
 use Rattle.design_model.specs.ActWalks.{acts_after}
 use Rattle.dst_codec.specs.Writing.{reach}
-use Rattle.dst_codec.proofs.RecordLemmas.{rest_of, length-rest_of, rest_in_range, acts_split}
-use Rattle.dst_codec.proofs.SurveyLemmas.{surveyed, finished, refused}
+use Rattle.dst_codec.proofs.SurveyLemmas.{surveyed, finished, refused, rest_of, length-rest_of, rest_in_range, acts_split}
 use Rattle.dst_codec.proofs.survey.header_numbers.Goals as goal
 
 pub loop-rest-preserved : goal.loop-rest-preserved

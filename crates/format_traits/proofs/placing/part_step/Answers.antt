@@ -1,8 +1,9 @@
 use Rattle.std.proofs.Common.{◌≡◌, ◌≤◌, ◌+◌, ◌-ℤ◌, ◌*ℤ◌, pos, unsigned_abs, subst, sym, ap, ◌∙◌, arith, rules}
+use Rattle.std.proofs.Math.Nat.{mul_comm}
 use Rattle.std.proofs.lemmas.Int.{to_z-of_z}
 use Rattle.std.specs.Int.{w32, int_div_euclid}
 use mir.Val.{to_z, of_z, SFits}
-use Rattle.format_traits.proofs.PartLemmas.{part_near}
+use Rattle.format_traits.proofs.rereading.Hops.{axis_step}
 use Rattle.format_traits.proofs.placing.part_step.Goals as goal
 
 pub returns-clause-near : goal.returns-clause-near
@@ -23,4 +24,5 @@ returns-clause-near c =
     ∙ ap (λ z. z -ℤ to_z w32 (of_z w32 c.part-start.result)) end
     ∙ ap (λ z. int_div_euclid (pos (c.args.done + 1) *ℤ c.args.step) (pos c.args.count) -ℤ z) start in
     λ limit near. subst (λ z. unsigned_abs z ≤ limit) (sym is)
-    (part_near c.args.step limit c.args.count c.args.done (omega arith) near)
+    (axis_step c.args.step c.args.count c.args.done limit (omega arith)
+    (subst (λ most. unsigned_abs c.args.step ≤ most) (mul_comm limit c.args.count) near))

@@ -4,7 +4,6 @@ use Rattle.std.proofs.lemmas.List.{length-drop}
 use Rattle.design_model.specs.Points.{is_within}
 use Rattle.format_traits.specs.declared.event.Event.TheVariants as event
 use Rattle.format_traits.specs.declared.record_reader.TheConstants.{GREATEST_STEP}
-use Rattle.format_traits.specs.Cutting.{IsCut}
 use Rattle.format_traits.specs.Records.{next}
 use Rattle.exp_codec.specs.Units.{units_from, asked, control_event}
 use Rattle.exp_codec.proofs.UnitLemmas.{two_bytes, four_bytes, behind_two}

@@ -1,0 +1,40 @@
+-- The first record of the bytes that are left.
+use Rattle.std.proofs.Common.{◌≡◌, ℕ, ◌+◌, ◌≤◌, List, [], ◌∷◌, length, get_or, drop, ap, sym, ◌∙◌, arith}
+use Rattle.design_model.specs.declared.point.Point.{Point}
+use Rattle.format_traits.specs.declared.record_reader.Cut.{Cut}
+use Rattle.format_traits.specs.declared.record_reader.Cut.TheVariants as cut
+use Rattle.format_traits.specs.Cutting.{Cuts}
+use Rattle.format_traits.specs.Records.{next}
+use Rattle.dst_codec.specs.declared.record_kind.RecordKind.{RecordKind}
+use Rattle.dst_codec.specs.Bits.{move_of, kind_of}
+use Rattle.dst_codec.specs.Cuts.{CutsAs}
+use Rattle.dst_codec.specs.Reading.{record_as, run_after, records_from}
+
+-- a record of that kind and that move, and the rest
+pub record_reads : (run at a b c : ℕ) (rest : List ℕ) (k : RecordKind) (m : Point) → kind_of c ≡ k → move_of a b c ≡ m
+    → records_from run at (a ∷ b ∷ c ∷ rest) ≡ record_as k at run m (records_from (run_after k run) (at + 3) rest)
+record_reads run at a b c rest k m of_kind of_move =
+    ap (λ k. record_as k at run (move_of a b c) (records_from (run_after k run) (at + 3) rest)) of_kind
+    ∙ ap (λ m. record_as k at run m (records_from (run_after k run) (at + 3) rest)) of_move
+
+-- the cut of three bytes is that of their kind and their move
+pub cut_three : (run after at : ℕ) (bytes : List ℕ) (k : RecordKind) (m : Point) (result : Cut) → 3 ≤ length bytes
+    → kind_of (get_or bytes 2 0) ≡ k → move_of (get_or bytes 0 0) (get_or bytes 1 0) (get_or bytes 2 0) ≡ m
+    → after ≡ run_after k run → CutsAs k at run m result → Cuts (records_from run) (records_from after) at bytes result
+cut_three run after at [] k m result long of_kind of_move of_run cuts = absurd (let no : ⊥ = omega (arith, long) in no)
+cut_three run after at (a ∷ []) k m result long of_kind of_move of_run cuts = absurd (let no : ⊥ = omega (arith, long) in no)
+cut_three run after at (a ∷ b ∷ []) k m result long of_kind of_move of_run cuts = absurd (let no : ⊥ = omega (arith, long) in no)
+cut_three run after at (a ∷ b ∷ c ∷ rest) k m result long of_kind of_move of_run cuts = by_cut result cuts
+  where
+    by_cut : (result : Cut) → CutsAs k at run m result
+        → Cuts (records_from run) (records_from after) at (a ∷ b ∷ c ∷ rest) result
+    by_cut (cut.Over ended) cuts = record_reads run at a b c rest k m of_kind of_move ∙ cuts _
+    by_cut (cut.Refused f) cuts = record_reads run at a b c rest k m of_kind of_move ∙ cuts _
+    by_cut (cut.Record size event) cuts = record {
+      some = omega (arith, cuts.0);
+      there = omega (arith, cuts.0, long);
+      is = record_reads run at a b c rest k m of_kind of_move ∙ cuts.2 (records_from (run_after k run) (at + 3) rest)
+          ∙ ap (λ n. next at event (records_from n (at + 3) rest)) (sym of_run)
+          ∙ ap (λ n. next at event (records_from after (at + n) (drop n (a ∷ b ∷ c ∷ rest)))) (sym cuts.0);
+      small = cuts.1;
+    }

@@ -1,0 +1,19 @@
+-- What it means to cut off a record of three bytes, once its kind and its move are known.
+use Rattle.std.specs.Prelude.{◌≡◌, ℕ, IsTrue}
+use Rattle.std.specs.List.{list_all}
+use Rattle.design_model.specs.declared.point.Point.{Point}
+use Rattle.design_model.specs.Points.{is_within}
+use Rattle.format_traits.specs.declared.record_reader.Cut.{Cut}
+use Rattle.format_traits.specs.declared.record_reader.Cut.TheVariants as cut
+use Rattle.format_traits.specs.declared.record_reader.TheConstants.{GREATEST_STEP}
+use Rattle.format_traits.specs.Records.{Records, over, refused, next, moves_in}
+use Rattle.dst_codec.specs.declared.record_kind.RecordKind.{RecordKind}
+use Rattle.dst_codec.specs.Reading.{record_as}
+
+-- what the cut of a record of that kind means, whatever stands behind it
+abbrev pub CutsAs : RecordKind → ℕ → ℕ → Point → Cut → Type 0
+CutsAs k at run m (cut.Over ended) = (rest : Records) → record_as k at run m rest ≡ over ended
+CutsAs k at run m (cut.Refused f) = (rest : Records) → record_as k at run m rest ≡ refused f
+CutsAs k at run m (cut.Record size event) = (size ≡ 3)
+    × IsTrue (list_all (λ move. is_within GREATEST_STEP move) (moves_in event))
+    × ((rest : Records) → record_as k at run m rest ≡ next at event rest)

@@ -1,0 +1,73 @@
+-- Worked values of records, and of how acts are spelled.
+use Rattle.std.proofs.Common.{◌≡◌, ℕ, ℤ, pos, negsuc, true, false, [], ◌∷◌, Some, None, Ok, Err, refl}
+use Rattle.design_model.specs.declared.act.Act.TheVariants.{Needle, Trim as TrimAct, Stop as StopAct}
+use Rattle.design_model.specs.declared.command.Command.TheVariants.{Stitch, Jump, Trim, Stop}
+use Rattle.design_model.specs.declared.point.Point.{Point}
+use Rattle.design_model.specs.Acts.{numbered}
+use Rattle.format_traits.specs.declared.event.Event.TheVariants as event
+use Rattle.format_traits.specs.declared.fault.ReadFault.TheVariants as fault
+use Rattle.format_traits.specs.declared.standing.Reach.{Reach}
+use Rattle.format_traits.specs.Records.{Records, over, refused, next, course_of, moves_of}
+use Rattle.format_traits.specs.Spellings.{Spelling, records_of}
+
+abbrev pub point : ℤ → ℤ → Point
+point x y = record { x = x; y = y }
+
+-- one record of each kind, and the end
+abbrev pub all_kinds : Records
+all_kinds = next 0 (event.Stitch (point (pos 1) (pos 0))) (next 2 (event.Jump (point (pos 0) (pos 2)))
+    (next 4 (event.TrimmedJump (point (pos 1) (pos 1))) (next 6 event.Trim (next 8 event.Stop
+    (next 10 (event.StopBy (point (pos 0) (pos 0))) (next 12 (event.StopBy (point (negsuc 1) (pos 0))) (over true)))))))
+
+pub known_course : course_of all_kinds ≡ Ok (record {
+  commands = Stitch (point (pos 1) (pos 0)) ∷ Jump (point (pos 1) (pos 2)) ∷ Trim ∷ Jump (point (pos 2) (pos 3))
+      ∷ Trim ∷ Stop ∷ Stop ∷ Stop ∷ Jump (point (pos 0) (pos 3)) ∷ [];
+  ended = true;
+})
+known_course = refl
+
+-- a trim and a stop have no move
+pub known_moves : moves_of all_kinds ≡ point (pos 1) (pos 0) ∷ point (pos 0) (pos 2) ∷ point (pos 1) (pos 1)
+    ∷ point (pos 0) (pos 0) ∷ point (negsuc 1) (pos 0) ∷ []
+known_moves = refl
+
+-- a needle out of range is refused at its record, whose move is none of those before the refusal
+abbrev pub too_far : Records
+too_far = next 7 (event.Jump (point (pos 30001) (pos 0))) (next 9 (event.Stitch (point (pos 0) (pos 0))) (refused (fault.Sequin 11)))
+
+pub known_range : course_of too_far ≡ Err (fault.Range 9)
+known_range = refl
+
+pub known_moves_before : moves_of too_far ≡ point (pos 30001) (pos 0) ∷ []
+known_moves_before = refl
+
+-- a refusal that a format tells
+pub known_refusal : course_of (next 0 event.Trim (refused (fault.Control 4))) ≡ Err (fault.Control 4)
+known_refusal = refl
+
+-- records that are spelled by their kind, and numbers of stops by themselves
+abbrev pub plain_spelling : Spelling
+plain_spelling = record {
+  stitch = λ m. 1 ∷ [];
+  jump = λ m. 2 ∷ [];
+  trim = (3 ∷ []) ∷ (3 ∷ []) ∷ [];
+  stop = λ before. 4 ∷ before ∷ [];
+}
+
+-- a format with the limit 121 and at most so many jumps to a float
+abbrev pub with_most : ℕ → Reach
+with_most most = record { limit = 121; float_hops = Some most; stops = None }
+
+-- two hops to a loose needle, a trim, a stop, another, a loose needle on the spot, a float of 300 and one of no length
+pub known_records : records_of plain_spelling (with_most 4) (numbered 1 (Needle (point (pos 200) (pos 0)) false)
+    ∷ numbered 2 TrimAct ∷ numbered 3 StopAct ∷ numbered 4 StopAct ∷ numbered 5 (Needle (point (pos 200) (pos 0)) false)
+    ∷ numbered 7 (Needle (point (pos 500) (pos 0)) true) ∷ numbered 9 (Needle (point (pos 500) (pos 0)) true) ∷ [])
+    ≡ (2 ∷ []) ∷ (2 ∷ []) ∷ (1 ∷ []) ∷ (3 ∷ []) ∷ (3 ∷ []) ∷ (4 ∷ 0 ∷ []) ∷ (4 ∷ 1 ∷ []) ∷ (1 ∷ [])
+    ∷ (2 ∷ []) ∷ (2 ∷ []) ∷ (2 ∷ []) ∷ (1 ∷ []) ∷ (2 ∷ []) ∷ (1 ∷ []) ∷ []
+known_records = refl
+
+-- the longest float that is allowed ends in a stitch in the place of its last jump
+pub known_longest_float : records_of plain_spelling (with_most 3) (numbered 1 (Needle (point (pos 0) (pos 0)) false)
+    ∷ numbered 3 (Needle (point (pos 300) (pos 0)) true) ∷ [])
+    ≡ (1 ∷ []) ∷ (2 ∷ []) ∷ (2 ∷ []) ∷ (1 ∷ []) ∷ []
+known_longest_float = refl
