@@ -6,13 +6,12 @@ use Rattle.std.specs.List.{concat, list_all}
 use Rattle.design_model.specs.Acts.{acts_of}
 use Rattle.design_model.specs.Designs.{DesignValue, KeepsLimits}
 use Rattle.design_model.specs.Extents.{extent_of}
-use Rattle.design_model.specs.Labels.{IsLabel}
 use Rattle.design_model.specs.Points.{is_within}
 use Rattle.format_traits.specs.declared.fault.ReadFault.{ReadFault}
 use Rattle.format_traits.specs.declared.fault.WriteFault.{WriteFault}
 use Rattle.format_traits.specs.declared.loaded.Loaded.{Loaded}
 use Rattle.format_traits.specs.Accepted.{AcceptedIsSmall}
-use Rattle.format_traits.specs.LabelFields.{label_field, label_in}
+use Rattle.format_traits.specs.LabelFields.{LabelFieldsReadBack}
 use Rattle.format_traits.specs.Laws.{CodecsKeepLaws, IsAgain, IsCodec}
 use Rattle.format_traits.specs.Meanings.{Meaning}
 use Rattle.format_traits.specs.Readings.{loaded_with}
@@ -22,7 +21,7 @@ use Rattle.format_traits.specs.Rereading.{SpelledActsReadAgain, TellActs}
 use Rattle.format_traits.specs.Spellings.{records_of}
 use Rattle.pec_codec.specs.declared.block.TheConstants.{HEADER_LENGTH, LABELS_LENGTH, LIMIT, MAX_STOPS}
 use Rattle.pec_codec.specs.Header.{header_of, label_of, labels_of, threads_in, threads_of}
-use Rattle.pec_codec.specs.Laws.{BlocksKeepLaws, IsReadBack, KeepsBlockLaws, ReadsBack}
+use Rattle.pec_codec.specs.Laws.{BlocksKeepLaws, Restores, KeepsBlockLaws, ReadsBack}
 use Rattle.pec_codec.specs.Reading.{moves_at, reads_at, records_at}
 use Rattle.pec_codec.specs.Records.{pec_records}
 use Rattle.pec_codec.specs.Writing.{block_of, body_of, distance_over, reach, spelling, thumbnails_of, writes}
@@ -30,10 +29,6 @@ use Rattle.pec_codec.proofs.HeaderLemmas.{labels_fit, length-header_of}
 use Rattle.pec_codec.proofs.LabelLemmas.{label_of-block, thread_of-threads, threads_in-block}
 use Rattle.pec_codec.proofs.ReadingLemmas.{reads-long}
 use Rattle.pec_codec.proofs.RereadingLemmas.{rereads, taken}
-
--- the label of a field is read back
-abbrev pub LabelBack : Type 0
-LabelBack = (label : List ℕ) → IsLabel label → label_in (label_field label) ≡ label
 
 -- the end, and what follows it
 abbrev tail_of : DesignValue → List ℕ
@@ -82,9 +77,9 @@ block_long before header body thumbnails long = omega (
   length-append header body,
 )
 
-pub block_back : SpelledActsReadAgain → AcceptedIsSmall → LabelBack → (d : DesignValue) → KeepsLimits d
+pub block_back : SpelledActsReadAgain → AcceptedIsSmall → LabelFieldsReadBack → (d : DesignValue) → KeepsLimits d
     → first_refusal reach (acts_of d) ≡ None → (before : List ℕ) → ReadsBack d (block_of d) before
-block_back spelled accepted label_back d limits passed before =
+block_back spelled accepted fields d limits passed before =
     let known = header_long accepted d limits passed in
     let at = length before in
     let bytes = before ++ block_of d in
@@ -95,7 +90,7 @@ block_back spelled accepted label_back d limits passed before =
     ap course_of records ∙ told.course in
     let block : drop at bytes ≡ block_of d = drop_at before (block_of d) at refl in
     let label : label_of (drop at bytes) ≡ d.label =
-    ap label_of block ∙ label_of-block d limits.label.short ∙ label_back d.label limits.label in
+    ap label_of block ∙ label_of-block d limits.label.short ∙ (fields d.label limits.label).back in
     let threads : threads_in (drop at bytes) ≡ threads_of d (stops_of (acts_of d) + 1) =
     ap threads_in block ∙ threads_in-block d limits.label.short known.0 in
     let loaded : Loaded = record {
@@ -112,13 +107,13 @@ block_back spelled accepted label_back d limits passed before =
     ∙ ap (λ text. loaded_with text (threads_in (drop at bytes)) (course_of (records_at at bytes))) label
     ∙ ap (λ numbers. loaded_with d.label numbers (course_of (records_at at bytes))) threads
     ∙ ap (loaded_with d.label (threads_of d (stops_of (acts_of d) + 1))) course in
-    let back : IsReadBack d loaded = record {
+    let back : Restores d loaded = record {
       again = record { acts = told.again; ended = refl };
       label = refl;
       threads = λ k few. thread_of-threads d (stops_of (acts_of d)) k few;
     } in
     record {
-      read = subst (λ result. IsOkAnd result (λ loaded. IsReadBack d loaded)) (sym read) back;
+      read = subst (λ result. IsOkAnd result (λ loaded. Restores d loaded)) (sym read) back;
       within = subst (λ rs. IsTrue (list_all (λ move. is_within LIMIT move) (moves_of rs))) (sym records) told.within;
     }
 
@@ -135,25 +130,25 @@ alone = record { ending = []; limit = LIMIT; reads = reads_at 0; writes = writes
 fewer_stops : (count : ℕ) → count ≤ 254 → nat_lt MAX_STOPS count ≡ false
 fewer_stops count few = le-ltb MAX_STOPS count few
 
-again_from : (d : DesignValue) (result : Result Loaded ReadFault) → IsOkAnd result (λ loaded. IsReadBack d loaded)
+again_from : (d : DesignValue) (result : Result Loaded ReadFault) → IsOkAnd result (λ loaded. Restores d loaded)
     → IsOkAnd result (λ loaded. IsAgain d loaded)
 again_from d (Ok loaded) back = back.again
 again_from d (Err f) back = back
 
-is_codec : SpelledActsReadAgain → AcceptedIsSmall → LabelBack → IsCodec alone reach block_of
-is_codec spelled accepted label_back = record {
+is_codec : SpelledActsReadAgain → AcceptedIsSmall → LabelFieldsReadBack → IsCodec alone reach block_of
+is_codec spelled accepted fields = record {
   limit = refl;
   stops = fewer_stops;
   writes = λ d. refl;
   again = λ d limits passed. again_from d (reads_at 0 (block_of d))
-      (block_back spelled accepted label_back d limits passed []).read;
-  within = λ d limits passed. (block_back spelled accepted label_back d limits passed []).within;
+      (block_back spelled accepted fields d limits passed []).read;
+  within = λ d limits passed. (block_back spelled accepted fields d limits passed []).within;
 }
 
 -- all blocks keep the laws
-pub blocks_keep_laws : SpelledActsReadAgain → AcceptedIsSmall → CodecsKeepLaws → LabelBack → BlocksKeepLaws
-blocks_keep_laws spelled accepted codecs label_back d limits = record {
+pub blocks_keep_laws : SpelledActsReadAgain → AcceptedIsSmall → CodecsKeepLaws → LabelFieldsReadBack → BlocksKeepLaws
+blocks_keep_laws spelled accepted codecs fields d limits = record {
   back = of_written d (λ block. (before : List ℕ) → ReadsBack d block before) (first_refusal reach (acts_of d)) refl
-      (λ passed. block_back spelled accepted label_back d limits passed);
-  plain = (codecs alone reach block_of (is_codec spelled accepted label_back) d limits).plain;
+      (λ passed. block_back spelled accepted fields d limits passed);
+  plain = (codecs alone reach block_of (is_codec spelled accepted fields) d limits).plain;
 }

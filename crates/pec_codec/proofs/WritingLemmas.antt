@@ -81,7 +81,7 @@ records_length before [] = omega arith
 records_length before (a ∷ rest) = omega (
   arith,
   length-concat-append (records_of_act spelling reach before a.act)
-  (records_from spelling reach (standing_after LIMIT before a.act) rest),
+      (records_from spelling reach (standing_after LIMIT before a.act) rest),
   act_length before a.act,
   records_length (standing_after LIMIT before a.act) rest,
 )

@@ -13,14 +13,14 @@ use Rattle.pec_codec.specs.Reading.{moves_at, reads_at}
 use Rattle.pec_codec.specs.Writing.{writes}
 
 -- what was loaded has the acts, the label and the thread of each block of the design, and an end
-pub record IsReadBack (d : DesignValue) (loaded : Loaded) : Type 0 where
+pub record Restores (d : DesignValue) (loaded : Loaded) : Type 0 where
   pub again : IsAgain d loaded
   pub label : loaded.design.label ≡ d.label
   pub threads : (block : ℕ) → block ≤ stops_of (acts_of d) → thread_of loaded.design block ≡ thread_of d block
 
 -- a block behind other bytes reads as the design, each move within the limit
 pub record ReadsBack (d : DesignValue) (block before : List ℕ) : Type 0 where
-  pub read : IsOkAnd (reads_at (length before) (before ++ block)) (λ loaded. IsReadBack d loaded)
+  pub read : IsOkAnd (reads_at (length before) (before ++ block)) (λ loaded. Restores d loaded)
   pub within : IsTrue (list_all (λ move. is_within LIMIT move) (moves_at (length before) (before ++ block)))
 
 -- what is written reads back, and a plain design is written

@@ -16,6 +16,7 @@ use std::alloc::Global;
 
 /// The hoop that a header names, in tenths of a millimetre.
 const HOOP_WIDTH: u16 = 480;
+
 const HOOP_HEIGHT: u16 = 432;
 
 /// The header of a design with so many stops. The distance is that from the sizes to the thumbnails,

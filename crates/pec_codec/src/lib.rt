@@ -10,6 +10,8 @@ mod pec_records;
 mod reading;
 mod record_cuts;
 mod spelling;
+#[cfg(test)]
+mod tests;
 mod writing;
 
 pub use block::{HEADER_LENGTH, LABELS_LENGTH, LIMIT, MAX_STOPS, THUMBNAIL_LENGTH};

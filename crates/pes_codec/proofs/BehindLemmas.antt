@@ -12,13 +12,13 @@ use Rattle.format_traits.specs.Laws.{IsAgain, KeepsLaws, MovesWithin, ReadsAgain
 use Rattle.format_traits.specs.Meanings.{Meaning}
 use Rattle.format_traits.specs.PlainDesigns.{IsPlain}
 use Rattle.pec_codec.specs.declared.block.TheConstants.{LIMIT}
-use Rattle.pec_codec.specs.Laws.{IsReadBack, KeepsBlockLaws, ReadsBack}
+use Rattle.pec_codec.specs.Laws.{Restores, KeepsBlockLaws, ReadsBack}
 use Rattle.pec_codec.specs.Reading.{moves_at, reads_at}
 use Rattle.pec_codec.specs.Writing.{writes}
 use Rattle.pes_codec.specs.declared.front.TheConstants.{OFFSET_END}
 use Rattle.pes_codec.specs.Files.{pec_front, pes_front}
 use Rattle.pes_codec.specs.Formats.{pec, pes}
-use Rattle.pes_codec.specs.Laws.{ReadsBackFrom}
+use Rattle.pes_codec.specs.Laws.{ReadsWhole}
 use Rattle.pes_codec.specs.Writing.{behind}
 
 -- the files of a format are a front and a block, and read as the block
@@ -38,7 +38,7 @@ ok_behind : (front : List ℕ) (r : Result (List ℕ) WriteFault) → IsOk r →
 ok_behind front (Ok block) ok = ok
 ok_behind front (Err f) ok = ok
 
-again_from : (d : DesignValue) (result : Result Loaded ReadFault) → IsOkAnd result (λ loaded. IsReadBack d loaded)
+again_from : (d : DesignValue) (result : Result Loaded ReadFault) → IsOkAnd result (λ loaded. Restores d loaded)
     → IsOkAnd result (λ loaded. IsAgain d loaded)
 again_from d (Ok loaded) back = back.again
 again_from d (Err f) back = back
@@ -46,9 +46,9 @@ again_from d (Err f) back = back
 -- what a block reads as, its file does
 whole_file : (m : Meaning) (front : List ℕ) → IsBehind m front → (d : DesignValue) (block : List ℕ)
     → ((before : List ℕ) → ReadsBack d block before)
-    → ReadsBackFrom m d (front ++ block)
+    → ReadsWhole m d (front ++ block)
 whole_file m front is d block back =
-    subst (λ result. IsOkAnd result (λ loaded. IsReadBack d loaded)) (sym (is.reads block)) (back front).read
+    subst (λ result. IsOkAnd result (λ loaded. Restores d loaded)) (sym (is.reads block)) (back front).read
 
 pub keeps_laws : (m : Meaning) (front : List ℕ) → IsBehind m front → (d : DesignValue) → KeepsBlockLaws d → KeepsLaws m d
 keeps_laws m front is d laws = record {
@@ -66,10 +66,10 @@ keeps_laws m front is d laws = record {
 }
 
 pub reads_whole : (m : Meaning) (front : List ℕ) → IsBehind m front → (d : DesignValue) → KeepsBlockLaws d
-    → IfOk (m.writes d) (λ bytes. ReadsBackFrom m d bytes)
+    → IfOk (m.writes d) (λ bytes. ReadsWhole m d bytes)
 reads_whole m front is d laws =
-    subst (λ r. IfOk r (λ bytes. ReadsBackFrom m d bytes)) (sym (is.writes d))
-    (if_behind front (λ bytes. ReadsBackFrom m d bytes)
+    subst (λ r. IfOk r (λ bytes. ReadsWhole m d bytes)) (sym (is.writes d))
+    (if_behind front (λ bytes. ReadsWhole m d bytes)
     (λ block. (before : List ℕ) → ReadsBack d block before) (whole_file m front is d) (writes d) laws.back)
 
 pub pec_is_behind : IsBehind pec pec_front

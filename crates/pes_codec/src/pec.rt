@@ -1,7 +1,7 @@
 ghost use Rattle.std.specs.Prelude.{IfOk};
 ghost use Rattle.format_traits.specs.Laws.{Reads, KeepsLaws, Writes};
 ghost use Rattle.pes_codec.specs.Formats.{pec};
-ghost use Rattle.pes_codec.specs.Laws.{ReadsBackFrom};
+ghost use Rattle.pes_codec.specs.Laws.{ReadsWhole};
 ghost use Rattle.pes_codec.specs.Reading.{pec_reads};
 
 use crate::front::{PEC_BLOCK, write_behind};
@@ -19,7 +19,7 @@ impl Format for Pec {
     ghost use Rattle.format_traits.specs.Laws.{MovesWithin, ReadsAgain, Writes};
     ghost use Rattle.format_traits.specs.PlainDesigns.{IsPlain};
     ghost use Rattle.pes_codec.specs.Formats.{pec as pec_meaning};
-    ghost use Rattle.pes_codec.specs.Laws.{ReadsBackFrom};
+    ghost use Rattle.pes_codec.specs.Laws.{ReadsWhole};
 
     ghost meaning = { λ _. pec_meaning };
 
@@ -42,7 +42,7 @@ impl Format for Pec {
         ensures plain { IsPlain pec_meaning.limit design.now → IsOk (pec_meaning.writes design.now) }
 
         // The label and the thread of each block of colour are read back too.
-        ensures whole { IfOk result (λ bytes. ReadsBackFrom pec_meaning design.now bytes) }
+        ensures whole { IfOk result (λ bytes. ReadsWhole pec_meaning design.now bytes) }
     {
         write_file(alloc, design)
     }
@@ -60,7 +60,7 @@ fn read_file(alloc: Global, bytes: &[u8]) -> Result<Loaded, ReadFault>
 fn write_file(alloc: Global, design: &Design) -> Result<Bytes, WriteFault>
     ensures value { Writes (pec.writes design.now) result }
     ensures laws { KeepsLaws pec design.now }
-    ensures whole { IfOk (pec.writes design.now) (λ bytes. ReadsBackFrom pec design.now bytes) }
+    ensures whole { IfOk (pec.writes design.now) (λ bytes. ReadsWhole pec design.now bytes) }
 {
     write_behind(alloc, b"#PEC0001", design)
 }

@@ -3,7 +3,7 @@ ghost use Rattle.format_traits.specs.Laws.{Reads, KeepsLaws, Writes};
 ghost use Rattle.pes_codec.specs.declared.front.TheConstants.{OFFSET_END};
 ghost use Rattle.pes_codec.specs.Files.{block_offset as block_offset_of};
 ghost use Rattle.pes_codec.specs.Formats.{pes};
-ghost use Rattle.pes_codec.specs.Laws.{ReadsBackFrom};
+ghost use Rattle.pes_codec.specs.Laws.{ReadsWhole};
 ghost use Rattle.pes_codec.specs.Reading.{pes_reads};
 
 use crate::front::{OFFSET_END, write_behind};
@@ -22,7 +22,7 @@ impl Format for Pes {
     ghost use Rattle.format_traits.specs.Laws.{MovesWithin, ReadsAgain, Writes};
     ghost use Rattle.format_traits.specs.PlainDesigns.{IsPlain};
     ghost use Rattle.pes_codec.specs.Formats.{pes as pes_meaning};
-    ghost use Rattle.pes_codec.specs.Laws.{ReadsBackFrom};
+    ghost use Rattle.pes_codec.specs.Laws.{ReadsWhole};
 
     ghost meaning = { λ _. pes_meaning };
 
@@ -45,7 +45,7 @@ impl Format for Pes {
         ensures plain { IsPlain pes_meaning.limit design.now → IsOk (pes_meaning.writes design.now) }
 
         // The label and the thread of each block of colour are read back too.
-        ensures whole { IfOk result (λ bytes. ReadsBackFrom pes_meaning design.now bytes) }
+        ensures whole { IfOk result (λ bytes. ReadsWhole pes_meaning design.now bytes) }
     {
         write_file(alloc, design)
     }
@@ -76,7 +76,7 @@ fn block_offset(bytes: &[u8]) -> u32
 fn write_file(alloc: Global, design: &Design) -> Result<Bytes, WriteFault>
     ensures value { Writes (pes.writes design.now) result }
     ensures laws { KeepsLaws pes design.now }
-    ensures whole { IfOk (pes.writes design.now) (λ bytes. ReadsBackFrom pes design.now bytes) }
+    ensures whole { IfOk (pes.writes design.now) (λ bytes. ReadsWhole pes design.now bytes) }
 {
     write_behind(
         alloc,
