@@ -1,0 +1,154 @@
+-- The block of a design reads back, wherever in a file it stands.
+use Rattle.std.proofs.Common.{◌≡◌, ℕ, ◌+◌, ◌≤◌, true, IsTrue, false, nat_lt, List, [], ◌∷◌, ◌++◌, length, drop, Option, Some, None, Result, Ok, Err, IfOk, IsOkAnd, refl, ap, sym, ◌∙◌, subst, arith, length-append}
+use Rattle.std.proofs.lemmas.Bool.{le-ltb}
+use Rattle.std.proofs.lemmas.List.{append_assoc, drop_at}
+use Rattle.std.specs.List.{concat, list_all}
+use Rattle.design_model.specs.Acts.{acts_of}
+use Rattle.design_model.specs.Designs.{DesignValue, KeepsLimits}
+use Rattle.design_model.specs.Extents.{extent_of}
+use Rattle.design_model.specs.Points.{is_within}
+use Rattle.format_traits.specs.declared.fault.ReadFault.{ReadFault}
+use Rattle.format_traits.specs.declared.fault.WriteFault.{WriteFault}
+use Rattle.format_traits.specs.declared.loaded.Loaded.{Loaded}
+use Rattle.format_traits.specs.Accepted.{AcceptedIsSmall}
+use Rattle.format_traits.specs.LabelFields.{LabelFieldsReadBack}
+use Rattle.format_traits.specs.Laws.{CodecsKeepLaws, IsAgain, IsCodec}
+use Rattle.format_traits.specs.Meanings.{Meaning}
+use Rattle.format_traits.specs.Readings.{loaded_with}
+use Rattle.format_traits.specs.Records.{course_of, moves_of}
+use Rattle.format_traits.specs.Refusals.{first_refusal, stops_of, unless_refused}
+use Rattle.format_traits.specs.Rereading.{SpelledActsReadAgain, TellActs}
+use Rattle.format_traits.specs.Spellings.{records_of}
+use Rattle.pec_codec.specs.declared.block.TheConstants.{HEADER_LENGTH, LABELS_LENGTH, LIMIT, MAX_STOPS}
+use Rattle.pec_codec.specs.Header.{header_of, label_of, labels_of, threads_in, threads_of}
+use Rattle.pec_codec.specs.Laws.{BlocksKeepLaws, Restores, KeepsBlockLaws, ReadsBack}
+use Rattle.pec_codec.specs.Reading.{moves_at, reads_at, records_at}
+use Rattle.pec_codec.specs.Records.{pec_records}
+use Rattle.pec_codec.specs.Writing.{block_of, body_of, distance_over, reach, spelling, thumbnails_of, writes}
+use Rattle.pec_codec.proofs.HeaderLemmas.{labels_fit, length-header_of}
+use Rattle.pec_codec.proofs.LabelLemmas.{label_of-block, thread_of-threads, threads_in-block}
+use Rattle.pec_codec.proofs.ReadingLemmas.{reads-long}
+use Rattle.pec_codec.proofs.RereadingLemmas.{rereads, taken}
+
+-- the end, and what follows it
+abbrev tail_of : DesignValue → List ℕ
+tail_of d = 255 ∷ thumbnails_of (stops_of (acts_of d))
+
+-- what stands behind a header
+block_body : (d : DesignValue) → body_of d ++ thumbnails_of (stops_of (acts_of d))
+    ≡ concat (records_of spelling reach (acts_of d)) ++ tail_of d
+block_body d = append_assoc (concat (records_of spelling reach (acts_of d))) (255 ∷ []) (thumbnails_of (stops_of (acts_of d)))
+
+-- the records of a block that stands behind other bytes
+records_at-block : (d : DesignValue) (before : List ℕ)
+    → length (header_of d (stops_of (acts_of d)) (distance_over (body_of d))) ≡ HEADER_LENGTH
+    → records_at (length before) (before ++ block_of d)
+    ≡ pec_records (length before + HEADER_LENGTH) (concat (records_of spelling reach (acts_of d)) ++ tail_of d)
+records_at-block d before long =
+    let header = header_of d (stops_of (acts_of d)) (distance_over (body_of d)) in
+    let rest = body_of d ++ thumbnails_of (stops_of (acts_of d)) in
+    let parts : before ++ block_of d ≡ (before ++ header) ++ rest =
+    ap (λ block. before ++ block) (append_assoc header (body_of d) (thumbnails_of (stops_of (acts_of d))))
+    ∙ sym (append_assoc before header rest) in
+    let all : length (before ++ header) ≡ length before + HEADER_LENGTH = length-append before header ∙ ap (λ n. length before + n) long in
+    ap (λ bytes. records_at (length before) bytes) parts
+    ∙ ap (pec_records (length before + HEADER_LENGTH))
+    (drop_at (before ++ header) rest (length before + HEADER_LENGTH) all ∙ block_body d)
+
+-- what is known of the header of a design that is not refused
+header_long : AcceptedIsSmall → (d : DesignValue) → KeepsLimits d → first_refusal reach (acts_of d) ≡ None
+    → (stops_of (acts_of d) ≤ MAX_STOPS)
+    × (length (header_of d (stops_of (acts_of d)) (distance_over (body_of d))) ≡ HEADER_LENGTH)
+header_long accepted d limits passed =
+    let few = (accepted reach d limits passed).stops MAX_STOPS refl in (
+      few,
+      length-header_of d (stops_of (acts_of d)) (distance_over (body_of d))
+          (labels_fit d (stops_of (acts_of d)) limits.label.short few),
+    )
+
+-- a block reaches to its records
+block_long : (before header body thumbnails : List ℕ) → length header ≡ HEADER_LENGTH
+    → length before + HEADER_LENGTH ≤ length (before ++ (header ++ body ++ thumbnails))
+block_long before header body thumbnails long = omega (
+  arith,
+  long,
+  length-append before (header ++ body ++ thumbnails),
+  length-append (header ++ body) thumbnails,
+  length-append header body,
+)
+
+pub block_back : SpelledActsReadAgain → AcceptedIsSmall → LabelFieldsReadBack → (d : DesignValue) → KeepsLimits d
+    → first_refusal reach (acts_of d) ≡ None → (before : List ℕ) → ReadsBack d (block_of d) before
+block_back spelled accepted fields d limits passed before =
+    let known = header_long accepted d limits passed in
+    let at = length before in
+    let bytes = before ++ block_of d in
+    let records = records_at-block d before known.1 in
+    let told = spelled (λ run. pec_records) spelling reach taken rereads d limits passed (at + HEADER_LENGTH) (tail_of d)
+    (λ run at. refl) in
+    let course : course_of (records_at at bytes) ≡ Ok (record { commands = told.commands; ended = true }) =
+    ap course_of records ∙ told.course in
+    let block : drop at bytes ≡ block_of d = drop_at before (block_of d) at refl in
+    let label : label_of (drop at bytes) ≡ d.label =
+    ap label_of block ∙ label_of-block d limits.label.short ∙ (fields d.label limits.label).back in
+    let threads : threads_in (drop at bytes) ≡ threads_of d (stops_of (acts_of d) + 1) =
+    ap threads_in block ∙ threads_in-block d limits.label.short known.0 in
+    let loaded : Loaded = record {
+      design = record {
+        label = d.label;
+        threads = threads_of d (stops_of (acts_of d) + 1);
+        commands = told.commands;
+      };
+      ended = true;
+    } in
+    let read : reads_at at bytes ≡ Ok loaded =
+    reads-long at bytes (block_long before (header_of d (stops_of (acts_of d)) (distance_over (body_of d))) (body_of d)
+    (thumbnails_of (stops_of (acts_of d))) known.1)
+    ∙ ap (λ text. loaded_with text (threads_in (drop at bytes)) (course_of (records_at at bytes))) label
+    ∙ ap (λ numbers. loaded_with d.label numbers (course_of (records_at at bytes))) threads
+    ∙ ap (loaded_with d.label (threads_of d (stops_of (acts_of d) + 1))) course in
+    let back : Restores d loaded = record {
+      again = record { acts = told.again; ended = refl };
+      label = refl;
+      threads = λ k few. thread_of-threads d (stops_of (acts_of d)) k few;
+    } in
+    record {
+      read = subst (λ result. IsOkAnd result (λ loaded. Restores d loaded)) (sym read) back;
+      within = subst (λ rs. IsTrue (list_all (λ move. is_within LIMIT move) (moves_of rs))) (sym records) told.within;
+    }
+
+-- what holds of the block of a design that is not refused, holds of what is written
+of_written : (d : DesignValue) (P : List ℕ → Type 0) → (r : Option WriteFault) → first_refusal reach (acts_of d) ≡ r
+    → (first_refusal reach (acts_of d) ≡ None → P (block_of d)) → IfOk (unless_refused r (block_of d)) P
+of_written d P None is holds = holds is
+of_written d P (Some f) is holds = tt
+
+-- a file that is a block alone, as a format
+abbrev alone : Meaning
+alone = record { ending = []; limit = LIMIT; reads = reads_at 0; writes = writes; moves = moves_at 0 }
+
+fewer_stops : (count : ℕ) → count ≤ 254 → nat_lt MAX_STOPS count ≡ false
+fewer_stops count few = le-ltb MAX_STOPS count few
+
+again_from : (d : DesignValue) (result : Result Loaded ReadFault) → IsOkAnd result (λ loaded. Restores d loaded)
+    → IsOkAnd result (λ loaded. IsAgain d loaded)
+again_from d (Ok loaded) back = back.again
+again_from d (Err f) back = back
+
+is_codec : SpelledActsReadAgain → AcceptedIsSmall → LabelFieldsReadBack → IsCodec alone reach block_of
+is_codec spelled accepted fields = record {
+  limit = refl;
+  stops = fewer_stops;
+  writes = λ d. refl;
+  again = λ d limits passed. again_from d (reads_at 0 (block_of d))
+      (block_back spelled accepted fields d limits passed []).read;
+  within = λ d limits passed. (block_back spelled accepted fields d limits passed []).within;
+}
+
+-- all blocks keep the laws
+pub blocks_keep_laws : SpelledActsReadAgain → AcceptedIsSmall → CodecsKeepLaws → LabelFieldsReadBack → BlocksKeepLaws
+blocks_keep_laws spelled accepted codecs fields d limits = record {
+  back = of_written d (λ block. (before : List ℕ) → ReadsBack d block before) (first_refusal reach (acts_of d)) refl
+      (λ passed. block_back spelled accepted fields d limits passed);
+  plain = (codecs alone reach block_of (is_codec spelled accepted fields) d limits).plain;
+}

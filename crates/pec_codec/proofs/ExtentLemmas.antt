@@ -1,0 +1,67 @@
+-- A design is less than 2 ^ 16 wide and high.
+use Rattle.std.proofs.Common.{ℕ, ◌+◌, ◌<◌, ◌≤◌, ◌^◌, ℤ, ◌-ℤ◌, unsigned_abs, Bool, true, false, IsTrue, List, [], ◌∷◌, All, Contains, map, Option, Some, None, nat_le, subst, sym, ap, arith}
+use Rattle.std.proofs.lemmas.Bool.{and_parts, leb-true}
+use Rattle.std.proofs.lemmas.Int.{ints}
+use Rattle.std.proofs.lemmas.List.Elements.{All-nil, All-cons}
+use Rattle.std.specs.List.{list_all}
+use Rattle.design_model.specs.declared.bounds.Extent.{Extent}
+use Rattle.design_model.specs.declared.command.Command.{Command}
+use Rattle.design_model.specs.declared.command.Command.TheVariants.{Stitch, Jump, Trim, Stop}
+use Rattle.design_model.specs.declared.point.Point.{Point}
+use Rattle.design_model.specs.declared.point.TheConstants.{NEEDLE_LIMIT}
+use Rattle.design_model.specs.Acts.{acts_from}
+use Rattle.design_model.specs.Commands.{is_in_range}
+use Rattle.design_model.specs.Extents.{Bounds, columns, needle_points, rows}
+use Rattle.design_model.specs.Points.{is_within}
+use Rattle.pec_codec.specs.Header.{height_of, width_of}
+
+-- a coordinate of a needle
+abbrev IsNear : ℤ → Type 0
+IsNear z = unsigned_abs z ≤ NEEDLE_LIMIT
+
+-- the coordinates of all needles are near
+pub record AreNear (points : List Point) : Type 0 where
+  pub columns : All IsNear (columns points)
+  pub rows : All IsNear (rows points)
+
+near-cons : (p : Point) (points : List Point) → IsTrue (is_within NEEDLE_LIMIT p) → AreNear points → AreNear (p ∷ points)
+near-cons p points within rest =
+    let both = and_parts (nat_le (unsigned_abs p.x) NEEDLE_LIMIT) (nat_le (unsigned_abs p.y) NEEDLE_LIMIT) within in
+    record {
+      columns = All-cons IsNear p.x (columns points) (leb-true _ _ both.0) rest.columns;
+      rows = All-cons IsNear p.y (rows points) (leb-true _ _ both.1) rest.rows;
+    }
+
+-- the needles of commands in range are near
+pub needles_near : (n : ℕ) (loose jumped : Bool) (commands : List Command)
+    → IsTrue (list_all is_in_range commands) → AreNear (needle_points (acts_from n loose jumped commands))
+needles_near n loose jumped [] all = record { columns = All-nil IsNear; rows = All-nil IsNear }
+needles_near n loose jumped (Stitch p ∷ rest) all =
+    let both = and_parts (is_in_range (Stitch p)) (list_all is_in_range rest) all in
+    near-cons p (needle_points (acts_from (n + 1) false false rest)) both.0 (needles_near (n + 1) false false rest both.1)
+needles_near n loose jumped (Jump p ∷ rest) all = needles_near (n + 1) loose true rest
+    (and_parts (is_in_range (Jump p)) (list_all is_in_range rest) all).1
+needles_near n true jumped (Trim ∷ rest) all = needles_near (n + 1) true jumped rest all
+needles_near n false jumped (Trim ∷ rest) all = needles_near (n + 1) true false rest all
+needles_near n loose jumped (Stop ∷ rest) all = needles_near (n + 1) true false rest all
+
+-- one of them
+near_one : (z : ℤ) (zs : List ℤ) → All IsNear zs → Contains zs z → IsNear z
+near_one z zs all (k, below, is) = subst IsNear is (all k z below)
+
+difference : (y z : ℤ) → IsNear y → IsNear z → unsigned_abs (y -ℤ z) < 2 ^ 16
+difference y z near_y near_z = omega (arith, ints, near_y, near_z)
+
+pub narrow : (points : List Point) (extent : Option Extent) → AreNear points → Bounds points extent
+    → width_of extent < 2 ^ 16
+narrow points None near bounds = omega arith
+narrow points (Some e) near bounds = difference e.max.x e.min.x
+    (near_one e.max.x (columns points) near.columns bounds.right.reached)
+    (near_one e.min.x (columns points) near.columns bounds.left.reached)
+
+pub low : (points : List Point) (extent : Option Extent) → AreNear points → Bounds points extent
+    → height_of extent < 2 ^ 16
+low points None near bounds = omega arith
+low points (Some e) near bounds = difference e.max.y e.min.y
+    (near_one e.max.y (rows points) near.rows bounds.bottom.reached)
+    (near_one e.min.y (rows points) near.rows bounds.top.reached)

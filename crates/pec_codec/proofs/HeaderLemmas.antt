@@ -1,0 +1,55 @@
+-- The parts of a header.
+use Rattle.std.proofs.Common.{◌≡◌, ℕ, ◌+◌, ◌-◌, ◌≤◌, List, [], ◌∷◌, ◌++◌, length, map, replicate, codes, ap, sym, ◌∙◌, subst, arith, length-append}
+use Rattle.std.proofs.lemmas.List.{append_assoc, length-replicate}
+use Rattle.std.proofs.lemmas.List.FromFn.{length-map-range_with_len, map-range_with_len_more}
+use Rattle.std.specs.List.{range_with_len}
+use Rattle.design_model.specs.declared.bounds.Extent.{Extent}
+use Rattle.design_model.specs.declared.design.TheConstants.{MAX_LABEL}
+use Rattle.design_model.specs.Designs.{DesignValue, thread_of}
+use Rattle.design_model.specs.Extents.{extent_of}
+use Rattle.format_traits.specs.LabelFields.{filled_right, label_field}
+use Rattle.pec_codec.specs.declared.block.TheConstants.{HEADER_LENGTH, LABELS_LENGTH, MAX_STOPS}
+use Rattle.pec_codec.specs.Header.{distance_field, header_of, labels_of, size_fields, threads_of}
+
+-- the threads of one block more
+pub threads_more : (d : DesignValue) (count thread : ℕ) (start out more : List ℕ) → thread ≡ thread_of d count
+    → out ≡ start ++ threads_of d count → more ≡ out ++ thread ∷ [] → more ≡ start ++ threads_of d (count + 1)
+threads_more d count thread start out more of_thread of_out of_more =
+    let one = map-range_with_len_more (thread_of d) 0 count count (omega arith) in
+    of_more ∙ ap (λ bytes. bytes ++ thread ∷ []) of_out ∙ append_assoc start (threads_of d count) (thread ∷ [])
+    ∙ ap (λ byte. start ++ (threads_of d count ++ byte ∷ [])) of_thread
+    ∙ ap (λ bytes. start ++ bytes) (sym one)
+
+pub length-filled_right : (places : ℕ) (text : List ℕ) → length text ≤ places → length (filled_right places text) ≡ places
+length-filled_right places text short = omega (
+  arith,
+  length-append text (replicate (places - length text) 32),
+  length-replicate {A = ℕ} (places - length text) 32,
+)
+
+-- the label and the threads of as many blocks as there may be have room
+pub labels_fit : (d : DesignValue) (stops : ℕ) → length d.label ≤ MAX_LABEL → stops ≤ MAX_STOPS
+    → length (labels_of d stops) ≤ LABELS_LENGTH
+labels_fit d stops short few = omega (
+  arith,
+  parts (label_field d.label) (threads_of d (stops + 1)) stops,
+  length-filled_right MAX_LABEL d.label short,
+  length-map-range_with_len (thread_of d) 0 (stops + 1),
+)
+  where
+    parts : (label threads : List ℕ) (stops : ℕ)
+        → length (codes "LA:" ++ label ++ 13 ∷ replicate 12 32 ++ 255 ∷ 0 ∷ 6 ∷ 38 ∷ replicate 12 32 ++ stops ∷ threads)
+        ≡ 33 + length label + length threads
+    parts label threads stops = simp length-append (omega arith)
+
+-- a header has all its bytes
+pub length-header_of : (d : DesignValue) (stops distance : ℕ) → length (labels_of d stops) ≤ LABELS_LENGTH
+    → length (header_of d stops distance) ≡ HEADER_LENGTH
+length-header_of d stops distance room =
+    let labels = filled_right LABELS_LENGTH (labels_of d stops) in
+    omega (
+      arith,
+      length-append (labels ++ distance_field distance) (size_fields (extent_of d)),
+      length-append labels (distance_field distance),
+      length-filled_right LABELS_LENGTH (labels_of d stops) room,
+    )

@@ -1,0 +1,100 @@
+-- The label and the threads of a block are read back.
+use Rattle.std.proofs.Common.{◌≡◌, ℕ, zero, suc, ◌+◌, ◌-◌, ◌<◌, ◌≤◌, ◌%◌, List, [], ◌∷◌, ◌++◌, length, get_or, map, take, drop, replicate, codes, Option, Some, unwrap_or, slice_get, slice_index, refl, ap, sym, ◌∙◌, subst, arith, length-append}
+use Rattle.std.proofs.lemmas.Bool.{ne_eqb}
+use Rattle.std.proofs.lemmas.List.{append_assoc, drop_at, get_or_at, take_at}
+use Rattle.std.proofs.lemmas.List.FromFn.{length-map-range_with_len}
+use Rattle.std.specs.List.{range_with_len}
+use Rattle.design_model.specs.declared.design.TheConstants.{MAX_LABEL}
+use Rattle.design_model.specs.Acts.{acts_of}
+use Rattle.design_model.specs.Designs.{DesignValue, thread_of}
+use Rattle.design_model.specs.Extents.{extent_of}
+use Rattle.format_traits.specs.LabelFields.{filled_right, label_field, label_in}
+use Rattle.format_traits.specs.Refusals.{stops_of}
+use Rattle.pec_codec.specs.declared.block.TheConstants.{LABELS_LENGTH, MAX_STOPS}
+use Rattle.pec_codec.specs.Header.{distance_field, header_of, label_of, labels_of, size_fields, threads_after, threads_in, threads_of}
+use Rattle.pec_codec.specs.Writing.{block_of, body_of, distance_over, thumbnails_of}
+use Rattle.pec_codec.proofs.HeaderLemmas.{length-filled_right}
+
+-- the bytes between the label and the number of blocks
+abbrev between : List ℕ
+between = 13 ∷ replicate 12 32 ++ 255 ∷ 0 ∷ 6 ∷ 38 ∷ replicate 12 32
+
+-- what stands behind the threads
+abbrev behind : DesignValue → List ℕ
+behind d = let stops = stops_of (acts_of d) in
+    replicate (LABELS_LENGTH - length (labels_of d stops)) 32
+    ++ (distance_field (distance_over (body_of d)) ++ (size_fields (extent_of d)
+    ++ (body_of d ++ thumbnails_of stops)))
+
+-- a block by its label and its threads
+pub block_parts : (d : DesignValue) → block_of d
+    ≡ (codes "LA:" ++ (label_field d.label ++ between))
+    ++ stops_of (acts_of d) ∷ (threads_of d (stops_of (acts_of d) + 1) ++ behind d)
+block_parts d =
+    let stops = stops_of (acts_of d) in
+    parts (label_field d.label) (threads_of d (stops + 1))
+    (replicate (LABELS_LENGTH - length (labels_of d stops)) 32) (distance_field (distance_over (body_of d)))
+    (size_fields (extent_of d)) (body_of d) (thumbnails_of stops) stops
+  where
+    parts : (label threads pad distance sizes body thumbnails : List ℕ) (stops : ℕ)
+        → codes "LA:" ++ label ++ 13 ∷ replicate 12 32 ++ 255 ∷ 0 ∷ 6 ∷ 38 ∷ replicate 12 32 ++ stops ∷ threads
+        ++ pad ++ distance ++ sizes ++ body ++ thumbnails
+        ≡ (codes "LA:" ++ (label ++ between)) ++ stops ∷ (threads ++ (pad ++ (distance ++ (sizes ++ (body ++ thumbnails)))))
+    parts label threads pad distance sizes body thumbnails stops = simp append_assoc
+
+-- the label that a block holds
+label_of-parts : (label rest : List ℕ) → length label ≡ MAX_LABEL
+    → label_of ((codes "LA:" ++ (label ++ between)) ++ rest) ≡ label_in label
+label_of-parts label rest is =
+    ap label_in (ap (take MAX_LABEL) (append_assoc label between rest) ∙ take_at label (between ++ rest) MAX_LABEL is)
+
+-- the threads that it names
+threads_in-parts : (front threads rest : List ℕ) (stops : ℕ) → length front ≡ 48 → stops ≤ MAX_STOPS
+    → length threads ≡ stops + 1 → threads_in (front ++ stops ∷ (threads ++ rest)) ≡ threads
+threads_in-parts front threads rest stops of_front few of_threads =
+    let number : slice_index (front ++ stops ∷ (threads ++ rest)) 48 ≡ stops =
+    get_or_at front stops (threads ++ rest) 0 48 of_front in
+    let long : length (front ++ stops ∷ []) ≡ 49 = omega (arith, length-append front (stops ∷ [])) in
+    let left : drop 49 (front ++ stops ∷ (threads ++ rest)) ≡ threads ++ rest =
+    ap (drop 49) (sym (append_assoc front (stops ∷ []) (threads ++ rest)))
+    ∙ drop_at (front ++ stops ∷ []) (threads ++ rest) 49 long in
+    let other : stops ≡ 255 → ⊥ = λ is. omega (arith, is, few) in
+    ap (λ n. threads_after n (drop 49 (front ++ stops ∷ (threads ++ rest)))) number
+    ∙ ap (threads_after stops) left
+    ∙ rw (ne_eqb stops 255 other) (take_at threads rest (stops + 1) of_threads)
+
+length-label_field : (label : List ℕ) → length label ≤ MAX_LABEL → length (label_field label) ≡ MAX_LABEL
+length-label_field label short = length-filled_right MAX_LABEL label short
+
+pub label_of-block : (d : DesignValue) → length d.label ≤ MAX_LABEL
+    → label_of (block_of d) ≡ label_in (label_field d.label)
+label_of-block d short = ap label_of (block_parts d)
+    ∙ label_of-parts (label_field d.label) _ (length-label_field d.label short)
+
+pub threads_in-block : (d : DesignValue) → length d.label ≤ MAX_LABEL → stops_of (acts_of d) ≤ MAX_STOPS
+    → threads_in (block_of d) ≡ threads_of d (stops_of (acts_of d) + 1)
+threads_in-block d short few =
+    let stops = stops_of (acts_of d) in
+    let front = codes "LA:" ++ (label_field d.label ++ between) in
+    let long : length front ≡ 48 = omega (
+      arith,
+      length-append (label_field d.label) between,
+      length-label_field d.label short,
+    ) in
+    ap threads_in (block_parts d)
+    ∙ threads_in-parts front (threads_of d (stops + 1)) (behind d) stops long few
+    (length-map-range_with_len (thread_of d) 0 (stops + 1))
+
+-- the thread of a block is that which was told
+slice_get-threads : (f : ℕ → ℕ) (a n k : ℕ) → k < n → slice_get (map f (range_with_len a n)) k ≡ Some (f (a + k))
+slice_get-threads f a zero k few = absurd (omega arith)
+slice_get-threads f a (suc n) zero few = let same : a ≡ a + 0 = omega arith in ap (λ b. Some (f b)) same
+slice_get-threads f a (suc n) (suc k) few =
+    let same : a + 1 + k ≡ a + suc k = omega arith in
+    slice_get-threads f (a + 1) n k (omega arith) ∙ ap (λ b. Some (f b)) same
+
+pub thread_of-threads : (d : DesignValue) (stops block : ℕ) → block ≤ stops
+    → unwrap_or (slice_get (threads_of d (stops + 1)) block) (1 + block % 64) ≡ thread_of d block
+thread_of-threads d stops block few =
+    ap (λ kept. unwrap_or kept (1 + block % 64)) (slice_get-threads (thread_of d) 0 (stops + 1) block (omega arith))
+    ∙ ap (thread_of d) (omega arith)

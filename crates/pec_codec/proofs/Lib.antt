@@ -1,0 +1,12 @@
+pub mod BackLemmas
+mod CoordinateFacts
+pub mod ExtentLemmas
+pub mod HeaderLemmas
+pub mod LabelLemmas
+pub mod ReadingLemmas
+mod RecordFacts
+pub mod RecordLemmas
+pub mod RereadingLemmas
+pub mod SpellingLemmas
+mod WritingFacts
+pub mod WritingLemmas

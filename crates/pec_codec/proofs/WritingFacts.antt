@@ -1,0 +1,85 @@
+-- Worked values of what designs are written as.
+use Rattle.std.proofs.Common.{◌≡◌, ℕ, ◌+◌, ◌*◌, ℤ, pos, negsuc, Bool, true, false, List, [], ◌∷◌, ◌++◌, length, take, drop, slice_index, codes, Err, IsOkAnd, refl}
+use Rattle.design_model.specs.declared.command.Command.{Command}
+use Rattle.design_model.specs.declared.command.Command.TheVariants.{Jump, Stitch, Stop, Trim}
+use Rattle.design_model.specs.declared.point.Point.{Point}
+use Rattle.design_model.specs.Designs.{DesignValue}
+use Rattle.design_model.specs.Extents.{extent_of}
+use Rattle.format_traits.specs.declared.fault.WriteFault.TheVariants as fault
+use Rattle.pec_codec.specs.Header.{distance_field, label_of, labels_of, size_fields, threads_in}
+use Rattle.pec_codec.specs.Writing.{block_of, body_of, distance_over, writes}
+
+abbrev point : ℤ → ℤ → Point
+point x y = record { x = x; y = y }
+
+-- a design without label and threads
+abbrev sewn : List Command → DesignValue
+sewn commands = record { label = []; threads = []; commands = commands }
+
+-- a square of 30, sewn once and cut
+abbrev square : DesignValue
+square = sewn (Stitch (point (pos 0) (pos 0)) ∷ Stitch (point (pos 30) (pos 0)) ∷ Stitch (point (pos 30) (pos 30))
+    ∷ Stitch (point (pos 0) (pos 30)) ∷ Stitch (point (pos 0) (pos 0)) ∷ Trim ∷ [])
+
+-- three blocks, with a stitch that needs two bytes
+abbrev blocks : DesignValue
+blocks = sewn (Stitch (point (pos 0) (pos 0)) ∷ Stitch (point (pos 62) (negsuc 62)) ∷ Stitch (point (pos 125) (negsuc 62))
+    ∷ Stop ∷ Stitch (point (pos 125) (negsuc 62)) ∷ Stop ∷ Stitch (point (pos 125) (negsuc 62)) ∷ [])
+
+pub known_square_body : body_of square ≡ 0x00 ∷ 0x00 ∷ 0x1E ∷ 0x00 ∷ 0x00 ∷ 0x1E ∷ 0x62 ∷ 0x00 ∷ 0x00 ∷ 0x62
+    ∷ 0xA0 ∷ 0x00 ∷ 0xA0 ∷ 0x00 ∷ 0xFF ∷ []
+known_square_body = refl
+
+pub known_square_distance : distance_field (distance_over (body_of square))
+    ≡ 0x00 ∷ 0x00 ∷ 0x1F ∷ 0x00 ∷ 0x00 ∷ 0x31 ∷ 0xFF ∷ 0xF0 ∷ []
+known_square_distance = refl
+
+pub known_square_sizes : size_fields (extent_of square) ≡ 0x1E ∷ 0x00 ∷ 0x1E ∷ 0x00 ∷ 0xE0 ∷ 0x01 ∷ 0xB0 ∷ 0x01 ∷ []
+known_square_sizes = refl
+
+pub known_no_sizes : size_fields (extent_of (sewn [])) ≡ 0x00 ∷ 0x00 ∷ 0x00 ∷ 0x00 ∷ 0xE0 ∷ 0x01 ∷ 0xB0 ∷ 0x01 ∷ []
+known_no_sizes = refl
+
+pub known_blocks_body : body_of blocks ≡ 0x00 ∷ 0x00 ∷ 0x3E ∷ 0x41 ∷ 0x80 ∷ 0x3F ∷ 0x80 ∷ 0x00 ∷ 0xFE ∷ 0xB0 ∷ 0x02
+    ∷ 0x00 ∷ 0x00 ∷ 0xFE ∷ 0xB0 ∷ 0x01 ∷ 0x00 ∷ 0x00 ∷ 0xFF ∷ []
+known_blocks_body = refl
+
+pub known_blocks_distance : distance_over (body_of blocks) ≡ 0x23
+known_blocks_distance = refl
+
+-- the number of blocks less one, and the thread of each
+pub known_labels : labels_of (record { label = codes "Rose"; threads = 22 ∷ 5 ∷ []; commands = [] }) 2
+    ≡ codes "LA:Rose            " ++ 13 ∷ codes "            " ++ 0xFF ∷ 0x00 ∷ 0x06 ∷ 0x26 ∷ codes "            "
+    ++ 2 ∷ 22 ∷ 5 ∷ 3 ∷ []
+known_labels = refl
+
+-- 255 stands for no thread, another number for one thread more
+pub known_no_threads : threads_in (codes "                                                " ++ 255 ∷ 7 ∷ 8 ∷ []) ≡ []
+known_no_threads = refl
+
+pub known_threads : threads_in (codes "                                                " ++ 1 ∷ 7 ∷ 8 ∷ 9 ∷ []) ≡ 7 ∷ 8 ∷ []
+known_threads = refl
+
+pub known_label : label_of (codes "LA:Rose " ++ 1 ∷ codes "           ") ≡ codes "Rose ?"
+known_label = refl
+
+pub known_no_label : label_of (codes "LB:Rose            ") ≡ []
+known_no_label = refl
+
+-- a whole block: its header, its records and three thumbnails
+pub known_length : length (block_of blocks) ≡ 528 + 19 + 4 * 228
+known_length = refl
+
+pub known_square_length : length (block_of square) ≡ 999
+known_square_length = refl
+
+-- a stitch of 2048 is refused
+pub known_long_stitch : writes (sewn (Stitch (point (pos 0) (pos 0)) ∷ Stitch (point (pos 2048) (pos 0)) ∷ []))
+    ≡ Err (fault.StitchTooLong 2)
+known_long_stitch = refl
+
+-- a float of 4000 is two jumps and a stitch on the spot
+pub known_float : body_of (sewn (Stitch (point (pos 0) (pos 0)) ∷ Jump (point (pos 0) (pos 4000))
+    ∷ Stitch (point (pos 0) (pos 4000)) ∷ []))
+    ≡ 0x00 ∷ 0x00 ∷ 0x90 ∷ 0x00 ∷ 0x97 ∷ 0xD0 ∷ 0x90 ∷ 0x00 ∷ 0x97 ∷ 0xD0 ∷ 0x00 ∷ 0x00 ∷ 0xFF ∷ []
+known_float = refl

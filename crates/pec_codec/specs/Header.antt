@@ -1,0 +1,56 @@
+-- The header of a block: its label and the threads of its blocks of colour in 512 bytes, then 16
+-- bytes with the distance to the thumbnails and the size of the design. Words have the low byte first.
+use Rattle.std.specs.Prelude.{ℕ, ◌+◌, ◌-ℤ◌, unsigned_abs, Bool, nat_eq, List, [], ◌∷◌, ◌++◌, take, drop, map, replicate, Option, Some, None, slice_index, ◌==◌, codes, if◌then◌else◌}
+use Rattle.std.specs.List.{range_with_len, starts_with}
+use Rattle.byteorder.specs.Endian.{little_bytes}
+use Rattle.design_model.specs.declared.bounds.Extent.{Extent}
+use Rattle.design_model.specs.declared.design.TheConstants.{MAX_LABEL}
+use Rattle.design_model.specs.Designs.{DesignValue, thread_of}
+use Rattle.design_model.specs.Extents.{extent_of}
+use Rattle.format_traits.specs.LabelFields.{filled_right, label_field, label_in}
+use Rattle.pec_codec.specs.declared.block.TheConstants.{LABELS_LENGTH}
+
+-- the threads of the first blocks of colour
+abbrev pub threads_of : DesignValue → ℕ → List ℕ
+threads_of d count = map (thread_of d) (range_with_len 0 count)
+
+-- the label and the threads of a design with so many stops; the number of its blocks is told less one
+abbrev pub labels_of : DesignValue → ℕ → List ℕ
+labels_of d stops = codes "LA:" ++ label_field d.label ++ 13 ∷ replicate 12 32
+    ++ 255 ∷ 0 ∷ 6 ∷ 38 ∷ replicate 12 32 ++ stops ∷ threads_of d (stops + 1)
+
+-- the width and the height of an extent, 0 without one
+abbrev pub width_of : Option Extent → ℕ
+width_of None = 0
+width_of (Some extent) = unsigned_abs (extent.max.x -ℤ extent.min.x)
+
+abbrev pub height_of : Option Extent → ℕ
+height_of None = 0
+height_of (Some extent) = unsigned_abs (extent.max.y -ℤ extent.min.y)
+
+-- the distance to the thumbnails, which counts from the beginning of this field
+abbrev pub distance_field : ℕ → List ℕ
+distance_field distance = 0 ∷ 0 ∷ little_bytes 3 distance ++ 49 ∷ 255 ∷ 240 ∷ []
+
+-- the size of the design and that of the hoop
+abbrev pub size_fields : Option Extent → List ℕ
+size_fields extent = little_bytes 2 (width_of extent) ++ little_bytes 2 (height_of extent)
+    ++ little_bytes 2 480 ++ little_bytes 2 432
+
+-- the header of a design with so many stops
+abbrev pub header_of : DesignValue → ℕ → ℕ → List ℕ
+header_of d stops distance =
+    filled_right LABELS_LENGTH (labels_of d stops) ++ distance_field distance ++ size_fields (extent_of d)
+
+-- the label, where the block begins with `LA:`
+abbrev pub label_of : List ℕ → List ℕ
+label_of block =
+    if starts_with nat_eq block (codes "LA:") then label_in (take MAX_LABEL (drop 3 block)) else []
+
+-- so many threads and one more; 255 stands for none
+abbrev pub threads_after : ℕ → List ℕ → List ℕ
+threads_after number bytes = if number == 255 then [] else take (number + 1) bytes
+
+-- the threads that a block names
+abbrev pub threads_in : List ℕ → List ℕ
+threads_in block = threads_after (slice_index block 48) (drop 49 block)

@@ -1,0 +1,9 @@
+pub mod Limits
+pub mod Coordinates
+pub mod Spelling
+pub mod Records
+pub mod Header
+-- read these first: what a block reads as, and what a design is written as
+pub mod Reading
+pub mod Writing
+pub mod Laws

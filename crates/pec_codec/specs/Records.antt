@@ -1,0 +1,87 @@
+-- The records of a block: the end, stops, and moves of two coordinates. An incomplete one at the end of
+-- the bytes is none.
+use Rattle.std.specs.Prelude.{ℕ, zero, suc, ◌+◌, ◌-◌, ◌<◌, ◌≤◌, Bool, true, false, ◌&&◌, ◌||◌, List, [], ◌∷◌, length, drop, Option, Some, None, IsTrue, ◌==◌, if◌then◌else◌}
+use Rattle.std.specs.List.{list_all}
+use Rattle.design_model.specs.declared.point.Point.{Point}
+use Rattle.design_model.specs.Points.{is_within}
+use Rattle.format_traits.specs.declared.event.Event.{Event}
+use Rattle.format_traits.specs.declared.event.Event.TheVariants as event
+use Rattle.format_traits.specs.declared.record_reader.Cut.{Cut}
+use Rattle.format_traits.specs.declared.record_reader.Cut.TheVariants as cut
+use Rattle.format_traits.specs.declared.record_reader.TheConstants.{GREATEST_STEP}
+use Rattle.format_traits.specs.Records.{Records, over, refused, next, moves_in}
+use Rattle.pec_codec.specs.declared.coordinate.Coordinate.{Coordinate}
+use Rattle.pec_codec.specs.Coordinates.{coordinate_in}
+
+-- the move of two coordinates
+abbrev pub move_of : Coordinate → Coordinate → Point
+move_of x y = record { x = x.number; y = y.number }
+
+-- what a move asks for: a mark of either coordinate counts, that of a jump before that of a trim
+abbrev pub event_of : Coordinate → Coordinate → Event
+event_of x y =
+    if x.jumps || y.jumps then event.Jump (move_of x y)
+    else (if x.trims || y.trims then event.TrimmedJump (move_of x y)
+    else event.Stitch (move_of x y))
+
+-- a record of two coordinates, where both are there
+abbrev pub cut_pair : Coordinate → Option Coordinate → Cut
+cut_pair x None = cut.Over false
+cut_pair x (Some y) = cut.Record (x.size + y.size) (event_of x y)
+
+abbrev pub cut_move : Option Coordinate → List ℕ → Cut
+cut_move None bytes = cut.Over false
+cut_move (Some x) bytes = cut_pair x (coordinate_in (drop x.size bytes))
+
+-- a stop takes a third byte, whatever it is
+abbrev pub cut_stop : List ℕ → Cut
+cut_stop (first ∷ second ∷ third ∷ rest) = cut.Record 3 event.Stop
+cut_stop _ = cut.Over false
+
+-- the two bytes with which a stop begins
+abbrev pub begins_stop : List ℕ → Bool
+begins_stop (first ∷ second ∷ rest) = first == 254 && second == 176
+begins_stop _ = false
+
+-- the byte that is the end
+abbrev pub begins_end : List ℕ → Bool
+begins_end [] = false
+begins_end (first ∷ rest) = first == 255
+
+-- what stands first in bytes
+abbrev pub cut_of : List ℕ → Cut
+cut_of bytes =
+    if begins_end bytes then cut.Over true
+    else (if begins_stop bytes then cut_stop bytes
+    else cut_move (coordinate_in bytes) bytes)
+
+-- a record that was cut has some of the bytes, and moves no further than any format's may
+abbrev pub FitsIn : List ℕ → Cut → Type 0
+FitsIn bytes (cut.Over ended) = Unit {0}
+FitsIn bytes (cut.Refused f) = Unit {0}
+FitsIn bytes (cut.Record size event) = (0 < size) × (size ≤ length bytes)
+    × IsTrue (list_all (λ move. is_within GREATEST_STEP move) (moves_in event))
+
+-- the bytes of a record behind its first
+abbrev pub length_behind : Cut → ℕ
+length_behind (cut.Over ended) = 0
+length_behind (cut.Refused f) = 0
+length_behind (cut.Record size event) = size - 1
+
+-- what was cut, and the records behind it
+abbrev pub cut_before : Cut → ℕ → Records → Records
+cut_before (cut.Over ended) at rest = over ended
+cut_before (cut.Refused f) at rest = refused f
+cut_before (cut.Record size event) at rest = next at event rest
+
+-- the records from that offset on, where so many bytes more belong to the record before
+abbrev pub records_behind : ℕ → ℕ → List ℕ → Records
+records_behind behind at [] = over false
+records_behind (suc behind) at (byte ∷ rest) = records_behind behind (at + 1) rest
+records_behind zero at (byte ∷ rest) =
+    let cut = cut_of (byte ∷ rest) in
+    cut_before cut at (records_behind (length_behind cut) (at + 1) rest)
+
+-- the records from that offset on
+abbrev pub pec_records : ℕ → List ℕ → Records
+pec_records at bytes = records_behind 0 at bytes

@@ -1,0 +1,49 @@
+-- What a design is written as: a header, the records of its acts in order and their end, and blank
+-- thumbnails.
+use Rattle.std.specs.Prelude.{◌≡◌, ℕ, ◌+◌, ◌-◌, ◌*◌, List, [], ◌∷◌, ◌++◌, length, replicate, Some, None, Result, Ok, Err}
+use Rattle.std.specs.List.{concat}
+use Rattle.design_model.specs.Acts.{acts_of}
+use Rattle.design_model.specs.Designs.{DesignValue}
+use Rattle.format_traits.specs.declared.fault.WriteFault.{WriteFault}
+use Rattle.format_traits.specs.declared.standing.Reach.{Reach}
+use Rattle.format_traits.specs.Refusals.{first_refusal, stops_of, unless_refused}
+use Rattle.format_traits.specs.Spellings.{RefusedAs, Spelling, records_of}
+use Rattle.pec_codec.specs.declared.block.TheConstants.{HEADER_LENGTH, LABELS_LENGTH, LIMIT, MAX_STOPS, THUMBNAIL_LENGTH}
+use Rattle.pec_codec.specs.Header.{header_of}
+use Rattle.pec_codec.specs.Spelling.{end_record, jump_record, stitch_record, stop_record, trim_record}
+
+-- what can be written
+abbrev pub reach : Reach
+reach = record { limit = LIMIT; float_hops = None; stops = Some MAX_STOPS }
+
+-- how records are spelled
+abbrev pub spelling : Spelling
+spelling = record { stitch = stitch_record; jump = jump_record; trim = trim_record ∷ []; stop = stop_record }
+
+-- the records of a design's acts, and the end
+abbrev pub body_of : DesignValue → List ℕ
+body_of d = concat (records_of spelling reach (acts_of d)) ++ end_record
+
+-- a thumbnail of the whole design and one of each block of colour, all blank
+abbrev pub thumbnails_of : ℕ → List ℕ
+thumbnails_of stops = replicate (THUMBNAIL_LENGTH * (stops + 2)) 0
+
+-- the distance to the thumbnails counts from the second part of the header
+abbrev pub distance_over : List ℕ → ℕ
+distance_over body = HEADER_LENGTH - LABELS_LENGTH + length body
+
+-- the block of a design
+abbrev pub block_of : DesignValue → List ℕ
+block_of d = header_of d (stops_of (acts_of d)) (distance_over (body_of d))
+    ++ body_of d ++ thumbnails_of (stops_of (acts_of d))
+
+-- what a design is written as, or the refusal that its acts meet first
+abbrev pub writes : DesignValue → Result (List ℕ) WriteFault
+writes d = unless_refused (first_refusal reach (acts_of d)) (block_of d)
+
+-- what an answer of adding the records of a design and their end means: the number of its stops, or the
+-- refusal
+abbrev pub PutsBody : DesignValue → List ℕ → Result ℕ WriteFault → List ℕ → Type 0
+PutsBody d old (Ok stops) new = (first_refusal reach (acts_of d) ≡ None)
+    × (new ≡ old ++ body_of d) × (stops ≡ stops_of (acts_of d))
+PutsBody d old (Err f) new = RefusedAs (first_refusal reach (acts_of d)) f

@@ -1,0 +1,67 @@
+ghost use Rattle.std.specs.Prelude.{◌≡◌, ◌<◌, ◌≤◌, ◌*◌, length, unsigned_abs, IfSome};
+ghost use Rattle.format_traits.specs.declared.record_reader.TheConstants.{GREATEST_STEP};
+ghost use Rattle.pec_codec.specs.Coordinates.{coordinate_in as coordinate_of, long_coordinate as long_of, short_coordinate as short_of, signed as signed_of};
+
+/// A coordinate of a record.
+#[derive(Clone, Copy, Debug, PartialEq, Eq)]
+pub struct Coordinate {
+    /// The bytes that it takes.
+    pub size: usize,
+    /// Tenths of a millimetre.
+    pub number: i32,
+    pub trims: bool,
+    pub jumps: bool,
+}
+
+/// The coordinate at the head of bytes, unless they end before it does.
+pub fn coordinate_in(bytes: &[u8]) -> Option<Coordinate>
+    ensures value { result ≡ coordinate_of bytes.now }
+    ensures some { IfSome result (λ c. 0 < c.size) }
+    ensures size { IfSome result (λ c. c.size ≤ length bytes.now) }
+    ensures small { IfSome result (λ c. unsigned_abs c.number ≤ GREATEST_STEP) }
+{
+    match bytes {
+        [first, ..] if *first < 128 => Some(short_coordinate(*first)),
+        [first, second, ..] => Some(long_coordinate(*first, *second)),
+        _ => None,
+    }
+}
+
+fn short_coordinate(byte: u8) -> Coordinate
+    requires { byte < 128 }
+    ensures value { result ≡ short_of byte }
+    ensures small { unsigned_abs result.number ≤ GREATEST_STEP }
+{
+    Coordinate {
+        size: 1,
+        number: signed(64, byte as u32),
+        trims: false,
+        jumps: false,
+    }
+}
+
+fn long_coordinate(first: u8, second: u8) -> Coordinate
+    ensures value { result ≡ long_of first second }
+    ensures small { unsigned_abs result.number ≤ GREATEST_STEP }
+{
+    Coordinate {
+        size: 2,
+        number: signed(2048, first as u32 % 16 * 256 + second as u32),
+        trims: first / 32 % 2 == 1,
+        jumps: first / 16 % 2 == 1,
+    }
+}
+
+/// A number below twice the half, read with its sign.
+fn signed(half: u32, number: u32) -> i32
+    requires half { half ≤ 2048 }
+    requires number { number < 2 * half }
+    ensures value { result ≡ signed_of half number }
+    ensures small { unsigned_abs result ≤ GREATEST_STEP }
+{
+    if number < half {
+        number as i32
+    } else {
+        number as i32 - 2 * half as i32
+    }
+}

@@ -1,0 +1,173 @@
+ghost use Rattle.std.specs.Prelude.{◌≡◌, ◌<◌, ◌≤◌, ◌+◌, ◌-◌, ◌^◌, ◌++◌, ◌∷◌, [], length, map, OnOk, IfOk, IfSome, unsigned_abs};
+ghost use Rattle.std.specs.List.{range_with_len};
+ghost use Rattle.byteorder.specs.Endian.{little_bytes};
+ghost use Rattle.design_model.specs.declared.design.TheConstants.{MAX_THREADS};
+ghost use Rattle.design_model.specs.Designs.{thread_of, with_label};
+ghost use Rattle.design_model.specs.Extents.{extent_of};
+ghost use Rattle.format_traits.specs.LabelFields.{filled_right};
+ghost use Rattle.pec_codec.specs.declared.block.TheConstants.{HEADER_LENGTH, LABELS_LENGTH, MAX_STOPS};
+ghost use Rattle.pec_codec.specs.Header.{header_of, height_of, label_of, labels_of, distance_field, size_fields, threads_in, threads_of, width_of};
+
+use crate::block::{HEADER_LENGTH, LABELS_LENGTH, MAX_STOPS};
+use byteorder::{ByteOrder, LittleEndian};
+use design_model::{Bytes, Design, Extent, MAX_LABEL, Memory, extent};
+use format_traits::{put_label, put_spaces, read_label};
+use std::alloc::Global;
+
+/// The hoop that a header names, in tenths of a millimetre.
+const HOOP_WIDTH: u16 = 480;
+
+const HOOP_HEIGHT: u16 = 432;
+
+/// The header of a design with so many stops. The distance is that from the sizes to the thumbnails,
+/// in bytes.
+pub fn new_header(
+    alloc: Global,
+    design: &Design,
+    stops: u32,
+    distance: u32,
+) -> Result<Bytes, Memory>
+    requires stops { stops ≤ MAX_STOPS }
+    requires distance { distance < 2 ^ 24 }
+    ensures value { IfOk result (λ header. header ≡ header_of design.now stops distance) }
+    ensures length { IfOk result (λ header. length header ≡ HEADER_LENGTH) }
+{
+    let mut header = Bytes::new(alloc);
+    put_labels(&mut header, design, stops)?;
+    let length = header.len();
+    put_spaces(&mut header, LABELS_LENGTH.saturating_sub(length))?;
+    put_distance(&mut header, distance)?;
+    put_sizes(&mut header, design)?;
+    Ok(header)
+}
+
+fn put_labels(out: &mut Bytes, design: &Design, stops: u32) -> Result<(), Memory>
+    requires { stops ≤ MAX_STOPS }
+    ensures value { OnOk result (out.new ≡ out.old ++ labels_of design.now stops) }
+    ensures short { OnOk result (length (labels_of design.now stops) ≤ LABELS_LENGTH) }
+{
+    out.append(b"LA:")?;
+    put_label(out, design.label())?;
+    out.append(b"\r            \xFF\x00\x06\x26            ")?;
+    out.push(stops as u8)?;
+    put_threads(out, design, stops + 1)?;
+    Ok(())
+}
+
+/// Adds the threads of the first blocks of colour.
+fn put_threads(out: &mut Bytes, design: &Design, count: u32) -> Result<(), Memory>
+    ensures { OnOk result (out.new ≡ out.old ++ threads_of design.now count) }
+{
+    for block in 0..count {
+        out.push(design.thread(block))?;
+    }
+    Ok(())
+}
+
+/// Adds the distance from the sizes to the thumbnails.
+fn put_distance(out: &mut Bytes, distance: u32) -> Result<(), Memory>
+    requires { distance < 2 ^ 24 }
+    ensures { OnOk result (out.new ≡ out.old ++ distance_field distance) }
+{
+    out.append(&[0, 0])?;
+    put_word24(out, distance)?;
+    out.append(&[0x31, 0xFF, 0xF0])?;
+    Ok(())
+}
+
+/// Adds the size of a design, and that of the hoop.
+fn put_sizes(out: &mut Bytes, design: &Design) -> Result<(), Memory>
+    ensures { OnOk result (out.new ≡ out.old ++ size_fields (extent_of design.now)) }
+{
+    let _commands = design.commands();
+    let extent = extent(design);
+    put_word16(out, width(extent))?;
+    put_word16(out, height(extent))?;
+    put_word16(out, HOOP_WIDTH)?;
+    put_word16(out, HOOP_HEIGHT)?;
+    Ok(())
+}
+
+fn put_word16(out: &mut Bytes, word: u16) -> Result<(), Memory>
+    ensures { OnOk result (out.new ≡ out.old ++ little_bytes 2 word) }
+{
+    let mut bytes = [0; 2];
+    LittleEndian::write_u16(&mut bytes, word);
+    out.append(&bytes)
+}
+
+fn put_word24(out: &mut Bytes, word: u32) -> Result<(), Memory>
+    requires { word < 2 ^ 24 }
+    ensures { OnOk result (out.new ≡ out.old ++ little_bytes 3 word) }
+{
+    let mut bytes = [0; 3];
+    LittleEndian::write_u24(&mut bytes, word);
+    out.append(&bytes)
+}
+
+fn width(extent: Option<Extent>) -> u16
+    requires { width_of extent < 2 ^ 16 }
+    ensures { result ≡ width_of extent }
+{
+    match extent {
+        Some(Extent { min, max }) => max.x.abs_diff(min.x) as u16,
+        None => 0,
+    }
+}
+
+fn height(extent: Option<Extent>) -> u16
+    requires { height_of extent < 2 ^ 16 }
+    ensures { result ≡ height_of extent }
+{
+    match extent {
+        Some(Extent { min, max }) => max.y.abs_diff(min.y) as u16,
+        None => 0,
+    }
+}
+
+/// Takes in the label and the threads of a block.
+pub fn read_header(design: &mut Design, block: &[u8])
+    requires length { HEADER_LENGTH ≤ length block.now }
+    requires label { design.old.label ≡ [] }
+    requires threads { design.old.threads ≡ [] }
+    ensures { design.new ≡ record design.old {
+      label = label_of block.now;
+      threads = threads_in block.now;
+    } }
+{
+    keep_label(design, block);
+    keep_threads(design, threads_of_block(block));
+}
+
+fn keep_label(design: &mut Design, block: &[u8])
+    requires length { HEADER_LENGTH ≤ length block.now }
+    requires fresh { design.old.label ≡ [] }
+    ensures { design.new ≡ with_label design.old (label_of block.now) }
+{
+    if block.starts_with(b"LA:") {
+        read_label(design, &block[3..3 + MAX_LABEL]);
+    }
+}
+
+/// The threads that a block names.
+fn threads_of_block(block: &[u8]) -> &[u8]
+    requires { HEADER_LENGTH ≤ length block.now }
+    ensures value { result.now ≡ threads_in block.now }
+    ensures few { length result.now ≤ MAX_THREADS }
+{
+    let number = block[48];
+    if number == 255 {
+        return &[];
+    }
+    &block[49..50 + number as usize]
+}
+
+fn keep_threads(design: &mut Design, threads: &[u8])
+    requires fresh { design.old.threads ≡ [] }
+    requires few { length threads.now ≤ MAX_THREADS }
+    ensures { design.new ≡ record design.old { threads = threads.now } }
+{
+    for thread in threads {
+        design.push_thread(*thread);
+    }
+}

@@ -1,0 +1,20 @@
+//! The PEC block of PEC and PES files: a header of 528 bytes, records of two to four bytes, and blank
+//! thumbnails. Its y points downwards, as a design's does.
+#![tactic(auto)]
+
+mod block;
+mod coordinate;
+mod header;
+mod laws;
+mod pec_records;
+mod reading;
+mod record_cuts;
+mod spelling;
+#[cfg(test)]
+mod tests;
+mod writing;
+
+pub use block::{HEADER_LENGTH, LABELS_LENGTH, LIMIT, MAX_STOPS, THUMBNAIL_LENGTH};
+pub use laws::{blocks_read_back, the_limits_of_blocks};
+pub use reading::read_block;
+pub use writing::write_block;

@@ -1,0 +1,54 @@
+ghost use Rattle.std.specs.Prelude.{◌≡◌};
+
+use crate::block::{LIMIT, MAX_STOPS};
+use crate::record_cuts::cut;
+use crate::spelling::{put_jump, put_stitch, put_stop, put_trim};
+use design_model::{Bytes, Memory, Point};
+use format_traits::{Cut, Reach, RecordReader, RecordWriter};
+
+/// The records of a block.
+#[derive(Clone, Copy, Debug, PartialEq, Eq)]
+pub struct PecRecords;
+
+impl RecordReader for PecRecords {
+    ghost use Rattle.pec_codec.specs.Records.{pec_records};
+
+    ghost records = { λ _. pec_records };
+
+    #[tactic(auto, using(crate::proofs::RecordLemmas::cuts_record))]
+    fn next(&mut self, _at: u64, bytes: &[u8]) -> Cut {
+        cut(bytes)
+    }
+}
+
+impl RecordWriter for PecRecords {
+    ghost use Rattle.pec_codec.specs.Writing.{reach as pec_reach, spelling as pec_spelling};
+
+    ghost spelling = { λ _. pec_spelling };
+
+    ghost reach = { λ _. pec_reach };
+
+    fn reach(&self) -> Reach {
+        Reach {
+            limit: LIMIT,
+            float_hops: None,
+            stops: Some(MAX_STOPS),
+        }
+    }
+
+    fn put_stitch(&self, out: &mut Bytes, step: Point) -> Result<(), Memory> {
+        put_stitch(out, step)
+    }
+
+    fn put_jump(&self, out: &mut Bytes, step: Point) -> Result<(), Memory> {
+        put_jump(out, step)
+    }
+
+    fn put_trim(&self, out: &mut Bytes) -> Result<(), Memory> {
+        put_trim(out)
+    }
+
+    fn put_stop(&self, out: &mut Bytes, before: u32) -> Result<(), Memory> {
+        put_stop(out, before)
+    }
+}

@@ -1,0 +1,103 @@
+ghost use Rattle.std.specs.Prelude.{◌≡◌, ◌<◌, ◌≤◌, ◌+◌, ◌*◌, ◌++◌, OnOk, IsTrue, unsigned_abs};
+ghost use Rattle.design_model.specs.Points.{is_within};
+ghost use Rattle.pec_codec.specs.declared.block.TheConstants.{LIMIT};
+ghost use Rattle.pec_codec.specs.Coordinates.{is_short as is_short_number, long_bytes as long_bytes_of, short_bytes, unsigned as unsigned_of};
+ghost use Rattle.pec_codec.specs.Spelling.{jump_record, long_record, stitch_record, stop_record, trim_record, turn_of};
+
+use crate::block::LIMIT;
+use design_model::{Bytes, Memory, Point};
+
+/// The mark of a jump in the first byte of a coordinate.
+const JUMP: u8 = 0x10;
+
+/// A move of nothing with the mark of a trim.
+const TRIM: [u8; 4] = [0xA0, 0x00, 0xA0, 0x00];
+
+/// Adds the record of a stitch.
+pub fn put_stitch(out: &mut Bytes, step: Point) -> Result<(), Memory>
+    requires { IsTrue (is_within LIMIT step) }
+    ensures { OnOk result (out.new ≡ out.old ++ stitch_record step) }
+{
+    if is_short(step.x) && is_short(step.y) {
+        out.append(&[short_byte(step.x), short_byte(step.y)])?;
+    } else {
+        put_long(out, 0, step)?;
+    }
+    Ok(())
+}
+
+/// Adds the record of a jump.
+pub fn put_jump(out: &mut Bytes, step: Point) -> Result<(), Memory>
+    requires { IsTrue (is_within LIMIT step) }
+    ensures { OnOk result (out.new ≡ out.old ++ jump_record step) }
+{
+    put_long(out, JUMP, step)
+}
+
+/// Adds the record of a trim.
+pub fn put_trim(out: &mut Bytes) -> Result<(), Memory>
+    ensures { OnOk result (out.new ≡ out.old ++ trim_record) }
+{
+    out.append(&TRIM)
+}
+
+/// Adds the record of a stop after so many others.
+pub fn put_stop(out: &mut Bytes, before: u32) -> Result<(), Memory>
+    ensures { OnOk result (out.new ≡ out.old ++ stop_record before) }
+{
+    out.append(&[0xFE, 0xB0, turn(before)])
+}
+
+/// The last byte of a stop: 2 and 1 in turn.
+fn turn(before: u32) -> u8
+    ensures { result ≡ turn_of before }
+{
+    if before % 2 == 0 { 2 } else { 1 }
+}
+
+/// Adds the coordinates of a move in two bytes each.
+fn put_long(out: &mut Bytes, marks: u8, step: Point) -> Result<(), Memory>
+    requires step { IsTrue (is_within LIMIT step) }
+    requires marks { marks ≤ 48 }
+    ensures { OnOk result (out.new ≡ out.old ++ long_record marks step) }
+{
+    out.append(&long_bytes(marks, step.x))?;
+    out.append(&long_bytes(marks, step.y))?;
+    Ok(())
+}
+
+/// A number in two bytes, the higher first, with those marks.
+fn long_bytes(marks: u8, number: i32) -> [u8; 2]
+    requires number { unsigned_abs number ≤ LIMIT }
+    requires marks { marks ≤ 48 }
+    ensures { result ≡ long_bytes_of marks number }
+{
+    let low_bits = unsigned(2048, number);
+    [
+        0x80 + marks + (low_bits / 256) as u8,
+        (low_bits % 256) as u8,
+    ]
+}
+
+fn short_byte(number: i32) -> u8
+    ensures { result ≡ unsigned_of 64 number }
+{
+    unsigned(64, number) as u8
+}
+
+/// A number from minus the half up to below the half, as a number below twice the half.
+fn unsigned(half: u32, number: i32) -> u32
+    requires half { 0 < half }
+    requires most { half ≤ 2048 }
+    ensures value { result ≡ unsigned_of half number }
+    ensures small { result < 2 * half }
+{
+    number.rem_euclid(2 * half as i32) as u32
+}
+
+/// Says whether the writer spells a number in one byte.
+fn is_short(number: i32) -> bool
+    ensures { result ≡ is_short_number number }
+{
+    -63 <= number && number <= 62
+}

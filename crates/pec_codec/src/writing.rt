@@ -1,0 +1,105 @@
+ghost use Rattle.std.specs.Prelude.{◌≡◌, ◌<◌, ◌≤◌, ◌+◌, ◌-◌, ◌*◌, ◌^◌, ◌++◌, length, drop, OnOk, IfOk};
+ghost use Rattle.design_model.specs.declared.design.TheConstants.{MAX_COMMANDS};
+ghost use Rattle.format_traits.specs.Laws.{Writes};
+ghost use Rattle.pec_codec.specs.declared.block.TheConstants.{HEADER_LENGTH, LABELS_LENGTH, MAX_STOPS};
+ghost use Rattle.pec_codec.specs.Header.{header_of};
+ghost use Rattle.pec_codec.specs.Laws.{KeepsBlockLaws};
+ghost use Rattle.pec_codec.specs.Writing.{PutsBody, body_of, thumbnails_of, writes};
+
+use crate::block::{HEADER_LENGTH, LABELS_LENGTH, THUMBNAIL_LENGTH};
+use crate::header::new_header;
+use crate::laws::blocks_read_back;
+use crate::pec_records::PecRecords;
+use design_model::{Bytes, Design, Memory};
+use format_traits::{WriteFault, an_accepted_design_is_small, put_acts, put_spaces};
+use std::alloc::Global;
+
+/// The end of the records.
+const END: u8 = 0xFF;
+
+/// A blank thumbnail.
+const BLANK: [u8; THUMBNAIL_LENGTH] = [0; THUMBNAIL_LENGTH];
+
+/// The block of a design. The acts are judged in order, and at one act the refusals come in the order
+/// of `WriteFault`. What is written reads back, wherever in a file it stands.
+pub fn write_block(alloc: Global, design: &Design) -> Result<Bytes, WriteFault>
+    ensures value { Writes (writes design.now) result }
+    ensures laws { KeepsBlockLaws design.now }
+{
+    blocks_read_back();
+    let _commands = design.commands();
+    new_block(alloc, design)
+}
+
+/// The place of the header is filled last, since it tells how long the records are.
+fn new_block(alloc: Global, design: &Design) -> Result<Bytes, WriteFault>
+    ensures { Writes (writes design.now) result }
+{
+    let mut body = Bytes::new(alloc);
+    put_spaces(&mut body, HEADER_LENGTH)?;
+    let stops = match put_body(&mut body, design) {
+        Ok(stops) => stops,
+        Err(fault) => return Err(fault),
+    };
+    let mut block = with_header(alloc, body, design, stops)?;
+    put_thumbnails(&mut block, stops)?;
+    Ok(block)
+}
+
+/// Adds the records of a design and their end, and gives the number of its stops.
+fn put_body(out: &mut Bytes, design: &Design) -> Result<u32, WriteFault>
+    ensures value { PutsBody design.now out.old result out.new }
+    ensures stops { IfOk result (λ stops. stops ≤ MAX_STOPS) }
+    ensures short { OnOk result (length (body_of design.now) ≤ 4 * MAX_COMMANDS + 1) }
+{
+    an_accepted_design_is_small();
+    let commands = design.commands();
+    let standing = match put_acts(&PecRecords, out, commands) {
+        Ok(standing) => standing,
+        Err(fault) => return Err(fault),
+    };
+    out.push(END)?;
+    Ok(standing.stops)
+}
+
+/// The block of a design with its header in the place of the first bytes.
+fn with_header(alloc: Global, block: Bytes, design: &Design, stops: u32) -> Result<Bytes, Memory>
+    requires stops { stops ≤ MAX_STOPS }
+    requires room { HEADER_LENGTH ≤ length block }
+    requires short { length block < 2 ^ 24 }
+    ensures { IfOk result (λ headed. headed
+        ≡ header_of design.now stops (length block - LABELS_LENGTH) ++ drop HEADER_LENGTH block) }
+{
+    let distance = (block.len() - LABELS_LENGTH) as u32;
+    let header = new_header(alloc, design, stops, distance)?;
+    Ok(with_front(block, header.as_slice()))
+}
+
+/// The bytes with others in the place of the first.
+fn with_front(bytes: Bytes, front: &[u8]) -> Bytes
+    requires { length front.now ≤ length bytes }
+    ensures { result ≡ front.now ++ drop (length front.now) bytes }
+{
+    let mut held = bytes.into_vec();
+    overwrite(&mut held, front);
+    Bytes::from_vec(held)
+}
+
+fn overwrite(bytes: &mut [u8], front: &[u8])
+    requires { length front.now ≤ length bytes.old }
+    ensures { bytes.new ≡ front.now ++ drop (length front.now) bytes.old }
+{
+    let (first, _) = bytes.split_at_mut(front.len());
+    first.copy_from_slice(front);
+}
+
+/// Adds the thumbnails of a design with so many stops.
+fn put_thumbnails(out: &mut Bytes, stops: u32) -> Result<(), Memory>
+    requires { stops ≤ MAX_STOPS }
+    ensures { OnOk result (out.new ≡ out.old ++ thumbnails_of stops) }
+{
+    for _ in 0..stops + 2 {
+        out.append(&BLANK)?;
+    }
+    Ok(())
+}

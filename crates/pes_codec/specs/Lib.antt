@@ -1,0 +1,6 @@
+pub mod Files
+pub mod Reading
+pub mod Writing
+-- read this one first: what the two formats mean
+pub mod Formats
+pub mod Laws

@@ -1,0 +1,31 @@
+ghost use Rattle.std.specs.Prelude.{◌≡◌};
+ghost use Rattle.format_traits.specs.Laws.{Writes};
+ghost use Rattle.pec_codec.specs.Laws.{KeepsBlockLaws};
+ghost use Rattle.pec_codec.specs.Writing.{writes};
+ghost use Rattle.pes_codec.specs.Writing.{behind};
+
+use design_model::{Bytes, Design};
+use format_traits::WriteFault;
+use pec_codec::write_block;
+use std::alloc::Global;
+
+/// The offset of the block of a PEC file.
+pub const PEC_BLOCK: usize = 8;
+
+/// The bytes of a PES file up to the end of its block's offset.
+pub const OFFSET_END: usize = 12;
+
+/// The block of a design behind the front of a file.
+pub fn write_behind(alloc: Global, front: &[u8], design: &Design) -> Result<Bytes, WriteFault>
+    ensures value { Writes (behind front.now (writes design.now)) result }
+    ensures laws { KeepsBlockLaws design.now }
+{
+    let block = match write_block(alloc, design) {
+        Ok(block) => block,
+        Err(fault) => return Err(fault),
+    };
+    let mut file = Bytes::new(alloc);
+    file.append(front)?;
+    file.append(block.as_slice())?;
+    Ok(file)
+}

@@ -1,0 +1,10 @@
+//! The formats PEC and PES: files whose design stands in a PEC block.
+#![tactic(auto)]
+
+mod front;
+mod pec;
+mod pes;
+
+pub use front::{OFFSET_END, PEC_BLOCK};
+pub use pec::Pec;
+pub use pes::Pes;
