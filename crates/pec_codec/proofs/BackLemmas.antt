@@ -5,7 +5,6 @@ use Rattle.std.proofs.lemmas.List.{append_assoc, drop_at}
 use Rattle.std.specs.List.{concat, list_all}
 use Rattle.design_model.specs.Acts.{acts_of}
 use Rattle.design_model.specs.Designs.{DesignValue, KeepsLimits}
-use Rattle.design_model.specs.Extents.{extent_of}
 use Rattle.design_model.specs.Points.{is_within}
 use Rattle.format_traits.specs.declared.fault.ReadFault.{ReadFault}
 use Rattle.format_traits.specs.declared.fault.WriteFault.{WriteFault}
@@ -17,11 +16,11 @@ use Rattle.format_traits.specs.Meanings.{Meaning}
 use Rattle.format_traits.specs.Readings.{loaded_with}
 use Rattle.format_traits.specs.Records.{course_of, moves_of}
 use Rattle.format_traits.specs.Refusals.{first_refusal, stops_of, unless_refused}
-use Rattle.format_traits.specs.Rereading.{SpelledActsReadAgain, TellActs}
+use Rattle.format_traits.specs.Rereading.{SpelledActsReadAgain}
 use Rattle.format_traits.specs.Spellings.{records_of}
-use Rattle.pec_codec.specs.declared.block.TheConstants.{HEADER_LENGTH, LABELS_LENGTH, LIMIT, MAX_STOPS}
-use Rattle.pec_codec.specs.Header.{header_of, label_of, labels_of, threads_in, threads_of}
-use Rattle.pec_codec.specs.Laws.{BlocksKeepLaws, Restores, KeepsBlockLaws, ReadsBack}
+use Rattle.pec_codec.specs.declared.block.TheConstants.{HEADER_LENGTH, LIMIT, MAX_STOPS}
+use Rattle.pec_codec.specs.Header.{header_of, label_of, threads_in, threads_of}
+use Rattle.pec_codec.specs.Laws.{BlocksKeepLaws, Restores, ReadsBack}
 use Rattle.pec_codec.specs.Reading.{moves_at, reads_at, records_at}
 use Rattle.pec_codec.specs.Records.{pec_records}
 use Rattle.pec_codec.specs.Writing.{block_of, body_of, distance_over, reach, spelling, thumbnails_of, writes}

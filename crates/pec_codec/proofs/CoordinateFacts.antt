@@ -1,5 +1,5 @@
 -- Worked values of coordinates: the ends of their ranges, their marks, and their spelling.
-use Rattle.std.proofs.Common.{◌≡◌, ℤ, pos, negsuc, Bool, true, false, List, [], ◌∷◌, map, Some, None, refl}
+use Rattle.std.proofs.Common.{◌≡◌, pos, negsuc, true, false, [], ◌∷◌, map, Some, None, refl}
 use Rattle.pec_codec.specs.Coordinates.{coordinate_in, is_short, long_bytes, short_bytes}
 use Rattle.pec_codec.specs.Spelling.{jump_record, stitch_record, stop_record, trim_record}
 use Rattle.pec_codec.proofs.SpellingLemmas.{coordinate_at}

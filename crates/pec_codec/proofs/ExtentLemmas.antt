@@ -1,5 +1,5 @@
 -- A design is less than 2 ^ 16 wide and high.
-use Rattle.std.proofs.Common.{ℕ, ◌+◌, ◌<◌, ◌≤◌, ◌^◌, ℤ, ◌-ℤ◌, unsigned_abs, Bool, true, false, IsTrue, List, [], ◌∷◌, All, Contains, map, Option, Some, None, nat_le, subst, sym, ap, arith}
+use Rattle.std.proofs.Common.{ℕ, ◌+◌, ◌<◌, ◌≤◌, ◌^◌, ℤ, ◌-ℤ◌, unsigned_abs, Bool, true, false, IsTrue, List, [], ◌∷◌, All, Contains, Option, Some, None, nat_le, subst, arith}
 use Rattle.std.proofs.lemmas.Bool.{and_parts, leb-true}
 use Rattle.std.proofs.lemmas.Int.{ints}
 use Rattle.std.proofs.lemmas.List.Elements.{All-nil, All-cons}

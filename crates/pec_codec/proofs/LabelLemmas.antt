@@ -1,5 +1,5 @@
 -- The label and the threads of a block are read back.
-use Rattle.std.proofs.Common.{◌≡◌, ℕ, zero, suc, ◌+◌, ◌-◌, ◌<◌, ◌≤◌, ◌%◌, List, [], ◌∷◌, ◌++◌, length, get_or, map, take, drop, replicate, codes, Option, Some, unwrap_or, slice_get, slice_index, refl, ap, sym, ◌∙◌, subst, arith, length-append}
+use Rattle.std.proofs.Common.{◌≡◌, ℕ, zero, suc, ◌+◌, ◌-◌, ◌<◌, ◌≤◌, ◌%◌, List, [], ◌∷◌, ◌++◌, length, map, take, drop, replicate, codes, Some, unwrap_or, slice_get, slice_index, ap, sym, ◌∙◌, arith, length-append}
 use Rattle.std.proofs.lemmas.Bool.{ne_eqb}
 use Rattle.std.proofs.lemmas.List.{append_assoc, drop_at, get_or_at, take_at}
 use Rattle.std.proofs.lemmas.List.FromFn.{length-map-range_with_len}
@@ -8,10 +8,10 @@ use Rattle.design_model.specs.declared.design.TheConstants.{MAX_LABEL}
 use Rattle.design_model.specs.Acts.{acts_of}
 use Rattle.design_model.specs.Designs.{DesignValue, thread_of}
 use Rattle.design_model.specs.Extents.{extent_of}
-use Rattle.format_traits.specs.LabelFields.{filled_right, label_field, label_in}
+use Rattle.format_traits.specs.LabelFields.{label_field, label_in}
 use Rattle.format_traits.specs.Refusals.{stops_of}
 use Rattle.pec_codec.specs.declared.block.TheConstants.{LABELS_LENGTH, MAX_STOPS}
-use Rattle.pec_codec.specs.Header.{distance_field, header_of, label_of, labels_of, size_fields, threads_after, threads_in, threads_of}
+use Rattle.pec_codec.specs.Header.{distance_field, label_of, labels_of, size_fields, threads_after, threads_in, threads_of}
 use Rattle.pec_codec.specs.Writing.{block_of, body_of, distance_over, thumbnails_of}
 use Rattle.pec_codec.proofs.HeaderLemmas.{length-filled_right}
 

@@ -1,5 +1,5 @@
 -- Worked values of the records of blocks, at offset 0.
-use Rattle.std.proofs.Common.{◌≡◌, ℕ, ℤ, pos, negsuc, Bool, true, false, List, [], ◌∷◌, map, refl}
+use Rattle.std.proofs.Common.{◌≡◌, ℤ, pos, negsuc, true, false, [], ◌∷◌, map, refl}
 use Rattle.design_model.specs.declared.point.Point.{Point}
 use Rattle.format_traits.specs.declared.event.Event.TheVariants.{Jump, Stitch, Stop, TrimmedJump}
 use Rattle.format_traits.specs.Records.{next, over}

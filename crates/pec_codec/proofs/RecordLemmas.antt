@@ -1,11 +1,12 @@
 -- The record that is cut, and those behind it, are all records.
-use Rattle.std.proofs.Common.{◌≡◌, ℕ, zero, suc, ◌+◌, ◌-◌, ◌<◌, ◌≤◌, false, List, [], ◌∷◌, length, drop, refl, ap, sym, ◌∙◌, arith}
+use Rattle.std.proofs.Common.{◌≡◌, ℕ, zero, suc, ◌+◌, ◌-◌, ◌<◌, ◌≤◌, false, List, [], ◌∷◌, length, drop, ap, sym, ◌∙◌, arith}
 use Rattle.format_traits.specs.declared.event.Event.{Event}
 use Rattle.format_traits.specs.declared.record_reader.Cut.{Cut}
 use Rattle.format_traits.specs.declared.record_reader.Cut.TheVariants as cut
-use Rattle.format_traits.specs.Cutting.{Cuts, IsCut}
+use Rattle.format_traits.specs.Cutting.{Cuts}
 use Rattle.format_traits.specs.Records.{next, over}
-use Rattle.pec_codec.specs.Records.{FitsIn, cut_before, cut_of, length_behind, pec_records, records_behind}
+use Rattle.pec_codec.specs.Steps.{FitsIn}
+use Rattle.pec_codec.specs.Records.{cut_before, cut_of, length_behind, pec_records, records_behind}
 
 -- the records behind the bytes of the record before
 skipped : (behind at : ℕ) (bytes : List ℕ) → behind ≤ length bytes

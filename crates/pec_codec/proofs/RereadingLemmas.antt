@@ -1,9 +1,8 @@
 -- Each record is read as it was spelled, whatever bytes follow.
-use Rattle.std.proofs.Common.{◌≡◌, ℕ, ◌+◌, ◌*◌, ◌/◌, ◌%◌, ◌<◌, ◌≤◌, ℤ, unsigned_abs, Bool, true, false, ◌&&◌, ◌||◌, IsTrue, List, [], ◌∷◌, ◌++◌, length, drop, Option, Some, None, ◌==◌, nat_le, if◌then◌else◌, refl, ap, sym, ◌∙◌, arith}
+use Rattle.std.proofs.Common.{◌≡◌, ℕ, ◌+◌, ◌*◌, ◌/◌, ◌%◌, ◌<◌, ◌≤◌, ℤ, unsigned_abs, Bool, true, false, ◌&&◌, IsTrue, List, [], ◌∷◌, ◌++◌, length, drop, Some, None, ◌==◌, nat_le, if◌then◌else◌, refl, ap, sym, ◌∙◌, arith}
 use Rattle.std.proofs.lemmas.Bool.{and_parts, leb-true, ne_eqb}
 use Rattle.design_model.specs.declared.point.Point.{Point}
 use Rattle.design_model.specs.Points.{is_within, origin}
-use Rattle.format_traits.specs.declared.event.Event.{Event}
 use Rattle.format_traits.specs.declared.event.Event.TheVariants as event
 use Rattle.format_traits.specs.declared.record_reader.Cut.TheVariants as cut
 use Rattle.format_traits.specs.Records.{next}
@@ -12,7 +11,7 @@ use Rattle.pec_codec.specs.declared.block.TheConstants.{LIMIT}
 use Rattle.pec_codec.specs.declared.coordinate.Coordinate.{Coordinate}
 use Rattle.pec_codec.specs.Coordinates.{coordinate_in, is_short, short_bytes, unsigned}
 use Rattle.pec_codec.specs.Records.{cut_move, cut_of, cut_pair, cut_stop, event_of, pec_records}
-use Rattle.pec_codec.specs.Spelling.{jump_record, long_record, stitch_record, stop_record, trim_record}
+use Rattle.pec_codec.specs.Spelling.{long_record, stop_record}
 use Rattle.pec_codec.specs.Writing.{reach, spelling}
 use Rattle.pec_codec.proofs.RecordLemmas.{record_first}
 use Rattle.pec_codec.proofs.SpellingLemmas.{coordinate_at, coordinate_in-long, coordinate_in-short, unsigned_long, unsigned_short}

@@ -1,5 +1,5 @@
 -- How long what is written is.
-use Rattle.std.proofs.Common.{◌≡◌, ℕ, zero, suc, ◌+◌, ◌*◌, ◌<◌, ◌≤◌, max, Bool, true, false, ◌&&◌, nat_le, List, [], ◌∷◌, ◌++◌, length, map, replicate, Ok, if◌then◌else◌, refl, ap, sym, ◌∙◌, subst, arith, length-append}
+use Rattle.std.proofs.Common.{◌≡◌, ℕ, zero, suc, ◌+◌, ◌*◌, ◌≤◌, max, Bool, true, false, ◌&&◌, nat_le, List, [], ◌∷◌, ◌++◌, length, map, replicate, Ok, if◌then◌else◌, refl, ap, ◌∙◌, subst, arith, length-append}
 use Rattle.std.proofs.lemmas.List.{append_assoc, replicate-append-replicate}
 use Rattle.std.specs.List.{concat}
 use Rattle.design_model.specs.declared.act.Act.{Act}
@@ -14,13 +14,14 @@ use Rattle.design_model.specs.Points.{origin, move_between}
 use Rattle.format_traits.specs.declared.standing.Standing.{Standing}
 use Rattle.format_traits.specs.Accepted.{AcceptedIsSmall}
 use Rattle.format_traits.specs.Placing.{hops, parts, parts_from}
-use Rattle.format_traits.specs.Refusals.{beginning, standing_after, stops_in, stops_of}
-use Rattle.format_traits.specs.Rooms.{act_room, loose_room, needle_room, room_from}
+use Rattle.format_traits.specs.Refusals.{beginning, standing_after, stops_of}
+use Rattle.format_traits.specs.Rooms.{act_room, needle_room, room_from}
 use Rattle.format_traits.specs.Spellings.{PutsActs, hop_records, needle_records, records_from, records_of_act, standing_along}
 use Rattle.pec_codec.specs.declared.block.TheConstants.{LIMIT, MAX_STOPS, THUMBNAIL_LENGTH}
 use Rattle.pec_codec.specs.Coordinates.{is_short, short_bytes}
 use Rattle.pec_codec.specs.Spelling.{jump_record, long_record, stitch_record}
-use Rattle.pec_codec.specs.Writing.{PutsBody, body_of, reach, spelling}
+use Rattle.pec_codec.specs.Writing.{body_of, reach, spelling}
+use Rattle.pec_codec.specs.Steps.{PutsBody}
 
 -- the stops after all acts
 pub stops_along : (limit : ℕ) (before : Standing) (acts : List NumberedAct)

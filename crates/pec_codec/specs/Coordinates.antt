@@ -1,6 +1,8 @@
--- The coordinates of a record's move, in tenths of a millimetre: a number of 7 bits in one byte, or
--- one of 12 bits in two bytes, the higher first. A byte below 128 is a coordinate by itself. Of two
--- bytes the first has besides the bits 7, which is set, 6, 5 for a trim and 4 for a jump.
+-- The coordinates of a record's move, in tenths of a millimetre. A byte below 128 is a number of 7 bits
+-- by itself. Else a number of 12 bits stands in two bytes, the higher first, and the first has the marks:
+--
+--          bit 7  bit 6  bit 5  bit 4  bits 3 to 0
+--   first   set   any    trim   jump   high bits
 use Rattle.std.specs.Prelude.{ℕ, ◌+◌, ◌*◌, ◌/◌, ◌%◌, ℤ, pos, negsuc, ◌-ℤ◌, unsigned_abs, Bool, false, List, [], ◌∷◌, Option, Some, None, nat_lt, nat_le, ◌==◌, if◌then◌else◌}
 use Rattle.std.specs.Int.{int_rem_euclid}
 use Rattle.pec_codec.specs.declared.coordinate.Coordinate.{Coordinate}

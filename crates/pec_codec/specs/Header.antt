@@ -1,6 +1,6 @@
 -- The header of a block: its label and the threads of its blocks of colour in 512 bytes, then 16
 -- bytes with the distance to the thumbnails and the size of the design. Words have the low byte first.
-use Rattle.std.specs.Prelude.{ℕ, ◌+◌, ◌-ℤ◌, unsigned_abs, Bool, nat_eq, List, [], ◌∷◌, ◌++◌, take, drop, map, replicate, Option, Some, None, slice_index, ◌==◌, codes, if◌then◌else◌}
+use Rattle.std.specs.Prelude.{ℕ, ◌+◌, ◌-ℤ◌, unsigned_abs, nat_eq, List, [], ◌∷◌, ◌++◌, take, drop, map, replicate, Option, Some, None, slice_index, ◌==◌, codes, if◌then◌else◌}
 use Rattle.std.specs.List.{range_with_len, starts_with}
 use Rattle.byteorder.specs.Endian.{little_bytes}
 use Rattle.design_model.specs.declared.bounds.Extent.{Extent}

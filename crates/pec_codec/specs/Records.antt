@@ -1,15 +1,12 @@
 -- The records of a block: the end, stops, and moves of two coordinates. An incomplete one at the end of
 -- the bytes is none.
-use Rattle.std.specs.Prelude.{ℕ, zero, suc, ◌+◌, ◌-◌, ◌<◌, ◌≤◌, Bool, true, false, ◌&&◌, ◌||◌, List, [], ◌∷◌, length, drop, Option, Some, None, IsTrue, ◌==◌, if◌then◌else◌}
-use Rattle.std.specs.List.{list_all}
+use Rattle.std.specs.Prelude.{ℕ, zero, suc, ◌+◌, ◌-◌, Bool, true, false, ◌&&◌, ◌||◌, List, [], ◌∷◌, drop, Option, Some, None, ◌==◌, if◌then◌else◌}
 use Rattle.design_model.specs.declared.point.Point.{Point}
-use Rattle.design_model.specs.Points.{is_within}
 use Rattle.format_traits.specs.declared.event.Event.{Event}
 use Rattle.format_traits.specs.declared.event.Event.TheVariants as event
 use Rattle.format_traits.specs.declared.record_reader.Cut.{Cut}
 use Rattle.format_traits.specs.declared.record_reader.Cut.TheVariants as cut
-use Rattle.format_traits.specs.declared.record_reader.TheConstants.{GREATEST_STEP}
-use Rattle.format_traits.specs.Records.{Records, over, refused, next, moves_in}
+use Rattle.format_traits.specs.Records.{Records, over, refused, next}
 use Rattle.pec_codec.specs.declared.coordinate.Coordinate.{Coordinate}
 use Rattle.pec_codec.specs.Coordinates.{coordinate_in}
 
@@ -54,13 +51,6 @@ cut_of bytes =
     if begins_end bytes then cut.Over true
     else (if begins_stop bytes then cut_stop bytes
     else cut_move (coordinate_in bytes) bytes)
-
--- a record that was cut has some of the bytes, and moves no further than any format's may
-abbrev pub FitsIn : List ℕ → Cut → Type 0
-FitsIn bytes (cut.Over ended) = Unit {0}
-FitsIn bytes (cut.Refused f) = Unit {0}
-FitsIn bytes (cut.Record size event) = (0 < size) × (size ≤ length bytes)
-    × IsTrue (list_all (λ move. is_within GREATEST_STEP move) (moves_in event))
 
 -- the bytes of a record behind its first
 abbrev pub length_behind : Cut → ℕ

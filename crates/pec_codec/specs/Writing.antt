@@ -1,13 +1,13 @@
 -- What a design is written as: a header, the records of its acts in order and their end, and blank
 -- thumbnails.
-use Rattle.std.specs.Prelude.{◌≡◌, ℕ, ◌+◌, ◌-◌, ◌*◌, List, [], ◌∷◌, ◌++◌, length, replicate, Some, None, Result, Ok, Err}
+use Rattle.std.specs.Prelude.{ℕ, ◌+◌, ◌-◌, ◌*◌, List, [], ◌∷◌, ◌++◌, length, replicate, Some, None, Result}
 use Rattle.std.specs.List.{concat}
 use Rattle.design_model.specs.Acts.{acts_of}
 use Rattle.design_model.specs.Designs.{DesignValue}
 use Rattle.format_traits.specs.declared.fault.WriteFault.{WriteFault}
 use Rattle.format_traits.specs.declared.standing.Reach.{Reach}
 use Rattle.format_traits.specs.Refusals.{first_refusal, stops_of, unless_refused}
-use Rattle.format_traits.specs.Spellings.{RefusedAs, Spelling, records_of}
+use Rattle.format_traits.specs.Spellings.{Spelling, records_of}
 use Rattle.pec_codec.specs.declared.block.TheConstants.{HEADER_LENGTH, LABELS_LENGTH, LIMIT, MAX_STOPS, THUMBNAIL_LENGTH}
 use Rattle.pec_codec.specs.Header.{header_of}
 use Rattle.pec_codec.specs.Spelling.{end_record, jump_record, stitch_record, stop_record, trim_record}
@@ -40,10 +40,3 @@ block_of d = header_of d (stops_of (acts_of d)) (distance_over (body_of d))
 -- what a design is written as, or the refusal that its acts meet first
 abbrev pub writes : DesignValue → Result (List ℕ) WriteFault
 writes d = unless_refused (first_refusal reach (acts_of d)) (block_of d)
-
--- what an answer of adding the records of a design and their end means: the number of its stops, or the
--- refusal
-abbrev pub PutsBody : DesignValue → List ℕ → Result ℕ WriteFault → List ℕ → Type 0
-PutsBody d old (Ok stops) new = (first_refusal reach (acts_of d) ≡ None)
-    × (new ≡ old ++ body_of d) × (stops ≡ stops_of (acts_of d))
-PutsBody d old (Err f) new = RefusedAs (first_refusal reach (acts_of d)) f

@@ -1,10 +1,8 @@
-ghost use Rattle.std.specs.Prelude.{◌≡◌, ◌<◌, ◌≤◌, ◌+◌, ◌-◌, ◌^◌, ◌++◌, ◌∷◌, [], length, map, OnOk, IfOk, IfSome, unsigned_abs};
-ghost use Rattle.std.specs.List.{range_with_len};
+ghost use Rattle.std.specs.Prelude.{◌≡◌, ◌<◌, ◌≤◌, ◌^◌, ◌++◌, [], length, OnOk, IfOk};
 ghost use Rattle.byteorder.specs.Endian.{little_bytes};
 ghost use Rattle.design_model.specs.declared.design.TheConstants.{MAX_THREADS};
-ghost use Rattle.design_model.specs.Designs.{thread_of, with_label};
+ghost use Rattle.design_model.specs.Designs.{with_label};
 ghost use Rattle.design_model.specs.Extents.{extent_of};
-ghost use Rattle.format_traits.specs.LabelFields.{filled_right};
 ghost use Rattle.pec_codec.specs.declared.block.TheConstants.{HEADER_LENGTH, LABELS_LENGTH, MAX_STOPS};
 ghost use Rattle.pec_codec.specs.Header.{header_of, height_of, label_of, labels_of, distance_field, size_fields, threads_in, threads_of, width_of};
 

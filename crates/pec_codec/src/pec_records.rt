@@ -1,5 +1,3 @@
-ghost use Rattle.std.specs.Prelude.{◌≡◌};
-
 use crate::block::{LIMIT, MAX_STOPS};
 use crate::record_cuts::cut;
 use crate::spelling::{put_jump, put_stitch, put_stop, put_trim};

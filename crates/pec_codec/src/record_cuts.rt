@@ -4,7 +4,8 @@ ghost use Rattle.design_model.specs.Points.{is_within};
 ghost use Rattle.format_traits.specs.declared.record_reader.TheConstants.{GREATEST_STEP};
 ghost use Rattle.format_traits.specs.Records.{moves_in};
 ghost use Rattle.pec_codec.specs.Coordinates.{coordinate_in as coordinate_of};
-ghost use Rattle.pec_codec.specs.Records.{FitsIn, cut_of, cut_stop as cut_stop_of, cut_move as cut_move_of, event_of as event_of_pair};
+ghost use Rattle.pec_codec.specs.Records.{cut_of, cut_stop as cut_stop_of, cut_move as cut_move_of, event_of as event_of_pair};
+ghost use Rattle.pec_codec.specs.Steps.{FitsIn};
 
 use crate::coordinate::{Coordinate, coordinate_in};
 use design_model::Point;

@@ -1,7 +1,7 @@
-ghost use Rattle.std.specs.Prelude.{◌≡◌, ◌<◌, ◌≤◌, ◌+◌, ◌*◌, ◌++◌, OnOk, IsTrue, unsigned_abs};
+ghost use Rattle.std.specs.Prelude.{◌≡◌, ◌<◌, ◌≤◌, ◌*◌, ◌++◌, OnOk, IsTrue, unsigned_abs};
 ghost use Rattle.design_model.specs.Points.{is_within};
 ghost use Rattle.pec_codec.specs.declared.block.TheConstants.{LIMIT};
-ghost use Rattle.pec_codec.specs.Coordinates.{is_short as is_short_number, long_bytes as long_bytes_of, short_bytes, unsigned as unsigned_of};
+ghost use Rattle.pec_codec.specs.Coordinates.{is_short as is_short_number, long_bytes as long_bytes_of, unsigned as unsigned_of};
 ghost use Rattle.pec_codec.specs.Spelling.{jump_record, long_record, stitch_record, stop_record, trim_record, turn_of};
 
 use crate::block::LIMIT;

@@ -4,7 +4,8 @@ ghost use Rattle.format_traits.specs.Laws.{Writes};
 ghost use Rattle.pec_codec.specs.declared.block.TheConstants.{HEADER_LENGTH, LABELS_LENGTH, MAX_STOPS};
 ghost use Rattle.pec_codec.specs.Header.{header_of};
 ghost use Rattle.pec_codec.specs.Laws.{KeepsBlockLaws};
-ghost use Rattle.pec_codec.specs.Writing.{PutsBody, body_of, thumbnails_of, writes};
+ghost use Rattle.pec_codec.specs.Steps.{PutsBody};
+ghost use Rattle.pec_codec.specs.Writing.{body_of, thumbnails_of, writes};
 
 use crate::block::{HEADER_LENGTH, LABELS_LENGTH, THUMBNAIL_LENGTH};
 use crate::header::new_header;

@@ -1,5 +1,5 @@
 -- Formats whose files are a front and a block.
-use Rattle.std.proofs.Common.{◌≡◌, ℕ, ◌≤◌, true, false, IsTrue, nat_lt, List, [], ◌++◌, length, Result, Ok, Err, IfOk, IsOk, IsOkAnd, if◌then◌else◌, refl, ap, sym, ◌∙◌, subst, arith, length-append}
+use Rattle.std.proofs.Common.{◌≡◌, ℕ, false, IsTrue, nat_lt, List, [], ◌++◌, length, Result, Ok, Err, IfOk, IsOk, IsOkAnd, if◌then◌else◌, refl, ap, sym, subst, arith, length-append}
 use Rattle.std.proofs.lemmas.Bool.{le-ltb}
 use Rattle.std.specs.List.{list_all}
 use Rattle.design_model.specs.Designs.{DesignValue}
@@ -58,8 +58,8 @@ keeps_laws m front is d laws = record {
   within = subst (λ r. IfOk r (λ bytes. MovesWithin m bytes)) (sym (is.writes d))
       (if_behind front (λ bytes. MovesWithin m bytes) (λ block. (before : List ℕ) → ReadsBack d block before)
       (λ block back.
-          subst (λ limit. IsTrue (list_all (λ move. is_within limit move) (m.moves (front ++ block)))) (sym is.limit)
-          (subst (λ moves. IsTrue (list_all (λ move. is_within LIMIT move) moves)) (sym (is.moves block)) (back front).within))
+      subst (λ limit. IsTrue (list_all (λ move. is_within limit move) (m.moves (front ++ block)))) (sym is.limit)
+      (subst (λ moves. IsTrue (list_all (λ move. is_within LIMIT move) moves)) (sym (is.moves block)) (back front).within))
       (writes d) laws.back);
   plain = λ plain. subst (λ r. IsOk r) (sym (is.writes d))
       (ok_behind front (writes d) (laws.plain (subst (λ limit. IsPlain limit d) is.limit plain)));

@@ -1,1 +1,2 @@
 pub mod BehindLemmas
+mod FileFacts

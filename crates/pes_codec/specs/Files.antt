@@ -1,5 +1,5 @@
 -- What stands before the block of a file. Words have the low byte first.
-use Rattle.std.specs.Prelude.{ℕ, List, [], ◌++◌, Bool, nat_eq, drop, replicate, codes}
+use Rattle.std.specs.Prelude.{ℕ, List, ◌++◌, Bool, nat_eq, drop, replicate, codes}
 use Rattle.std.specs.List.{starts_with}
 use Rattle.byteorder.specs.Endian.{little_bytes, little_number}
 

@@ -1,4 +1,3 @@
-ghost use Rattle.std.specs.Prelude.{◌≡◌};
 ghost use Rattle.format_traits.specs.Laws.{Writes};
 ghost use Rattle.pec_codec.specs.Laws.{KeepsBlockLaws};
 ghost use Rattle.pec_codec.specs.Writing.{writes};

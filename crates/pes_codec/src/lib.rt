@@ -4,6 +4,8 @@
 mod front;
 mod pec;
 mod pes;
+#[cfg(test)]
+mod tests;
 
 pub use front::{OFFSET_END, PEC_BLOCK};
 pub use pec::Pec;

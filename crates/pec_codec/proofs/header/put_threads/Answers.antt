@@ -1,6 +1,3 @@
-use Rattle.std.proofs.Common.{◌++◌, ap, ◌∙◌, sym}
-use Rattle.std.proofs.lemmas.List.{append_assoc}
-use Rattle.design_model.specs.Designs.{thread_of}
 use Rattle.pec_codec.proofs.HeaderLemmas.{threads_more}
 use Rattle.pec_codec.proofs.header.put_threads.Goals as goal
 

@@ -1,0 +1,51 @@
+-- Worked values of files.
+use Rattle.std.proofs.Common.{◌≡◌, true, [], ◌∷◌, ◌++◌, length, replicate, codes, Err, IsOkAnd, refl}
+use Rattle.design_model.specs.declared.command.Command.TheVariants.{Stitch}
+use Rattle.design_model.specs.Designs.{DesignValue}
+use Rattle.design_model.specs.Points.{origin}
+use Rattle.format_traits.specs.declared.fault.ReadFault.TheVariants as fault
+use Rattle.pes_codec.specs.Files.{block_offset, pes_front}
+use Rattle.pes_codec.specs.Reading.{pec_reads, pes_reads}
+use Rattle.pes_codec.specs.Writing.{pec_writes, pes_writes}
+
+-- one stitch at the origin
+abbrev stitch : DesignValue
+stitch = record { label = []; threads = []; commands = Stitch origin ∷ [] }
+
+pub known_pes_front : pes_front ≡ 0x23 ∷ 0x50 ∷ 0x45 ∷ 0x53 ∷ 0x30 ∷ 0x30 ∷ 0x30 ∷ 0x31 ∷ 0x16 ∷ 0x00 ∷ 0x00 ∷ 0x00
+    ∷ 0x00 ∷ 0x00 ∷ 0x00 ∷ 0x00 ∷ 0x00 ∷ 0x00 ∷ 0x00 ∷ 0x00 ∷ 0x00 ∷ 0x00 ∷ []
+known_pes_front = refl
+
+pub known_pec_length : IsOkAnd (pec_writes stitch) (λ bytes. length bytes ≡ 995)
+known_pec_length = refl
+
+pub known_pes_length : IsOkAnd (pes_writes stitch) (λ bytes. length bytes ≡ 1009)
+known_pes_length = refl
+
+-- the offset is a word of 32 bits, the low byte first
+pub known_offset : block_offset (codes "#PES0060" ++ 0x01 ∷ 0x02 ∷ 0x03 ∷ 0x80 ∷ []) ≡ 2147680769
+known_offset = refl
+
+pub known_signature : pec_reads (codes "#PAC0001") ≡ Err (fault.Signature 0)
+known_signature = refl
+
+pub known_short_pec : pec_reads (codes "#PEC0001") ≡ Err (fault.Short 8)
+known_short_pec = refl
+
+-- fewer bytes than the signature has are not it
+pub known_no_signature : pes_reads (codes "#PE") ≡ Err (fault.Signature 0)
+known_no_signature = refl
+
+pub known_short_pes : pes_reads (codes "#PES0001" ++ 0x16 ∷ 0x00 ∷ 0x00 ∷ []) ≡ Err (fault.Short 11)
+known_short_pes = refl
+
+pub known_far_block : pes_reads (codes "#PES0001" ++ 0xFF ∷ 0xFF ∷ 0xFF ∷ 0xFF ∷ []) ≡ Err (fault.Short 12)
+known_far_block = refl
+
+-- a block at the beginning of its own file: 33 threads of number 32, one stitch, and the end
+pub known_own_front : IsOkAnd (pes_reads (codes "#PES0001" ++ 0x00 ∷ 0x00 ∷ 0x00 ∷ 0x00 ∷ replicate 516 32 ++ 0x00 ∷ 0x00
+    ∷ 0xFF ∷ [])) (λ loaded. loaded ≡ record {
+      design = record { label = []; threads = replicate 33 32; commands = Stitch origin ∷ [] };
+      ended = true;
+    })
+known_own_front = refl
