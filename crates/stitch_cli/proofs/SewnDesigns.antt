@@ -39,13 +39,15 @@ size_few p q from to =
     let next = both_within q to in
     omega (arith, axis_few p.x q.x at.0 next.0, axis_few p.y q.y at.1 next.1)
 
-last_in_range : (p : Point) (points : List Point) → IsNeedlePoint p → All IsNeedlePoint points → IsNeedlePoint (last_from p points)
+last_in_range : (p : Point) (points : List Point) → IsNeedlePoint p → All IsNeedlePoint points
+    → IsNeedlePoint (last_from p points)
 last_in_range p [] at in_range = at
 last_in_range p (q ∷ points) at in_range =
     last_in_range q points (All-head IsNeedlePoint q points in_range) (All-tail IsNeedlePoint q points in_range)
 
 -- a needle is reached from another in 496 hops at most
-few_hops : (limit : ℕ) (p q : Point) → 121 ≤ limit → IsNeedlePoint p → IsNeedlePoint q → hops limit (move_between p q) ≤ 496
+few_hops : (limit : ℕ) (p q : Point) → 121 ≤ limit → IsNeedlePoint p → IsNeedlePoint q
+    → hops limit (move_between p q) ≤ 496
 few_hops limit p q high from to =
     let size = size_few p q from to in
     let less : size_of (move_between p q) + (limit - 1) < 497 * limit = omega (arith, size, high) in
@@ -66,7 +68,8 @@ record Holds (limit : ℕ) (loose : Bool) (place : Point) (commands : List Comma
   room_to : (n : ℕ) → room_from limit loose place (acts_from n loose false commands) ≤ room
 
 -- stops before them
-stops_hold : (limit : ℕ) (place : Point) (count : ℕ) (rest : List Command) (stops room : ℕ) → Holds limit true place rest stops room
+stops_hold : (limit : ℕ) (place : Point) (count : ℕ) (rest : List Command) (stops room : ℕ)
+    → Holds limit true place rest stops room
     → Holds limit true place (replicate count Stop ++ rest) (count + stops) (count + room)
 stops_hold limit place zero rest stops room holds = record {
   plain = holds.plain;
@@ -82,7 +85,8 @@ stops_hold limit place (suc count) rest stops room holds =
     }
 
 -- close stitches and a trim before them
-stitches_hold : (limit step : ℕ) (place : Point) (points : List Point) (rest : List Command) (stops room : ℕ) → step ≤ limit
+stitches_hold : (limit step : ℕ) (place : Point) (points : List Point) (rest : List Command) (stops room : ℕ)
+    → step ≤ limit
     → KeepsClose step place points → Holds limit true (last_from place points) rest stops room
     → Holds limit false place (map (λ p. Stitch p) points ++ Trim ∷ rest) stops (length points + 4 + room)
 stitches_hold limit step place [] rest stops room above close holds = record {
@@ -130,7 +134,8 @@ abbrev needle_count : DrawingValue → List (List Pass) → ℕ
 needle_count d walks = sum_by (λ walk. length (needles_of_walk d walk)) walks
 
 -- the commands of walks with near needles
-walks_hold : (d : DrawingValue) (limit : ℕ) → 121 ≤ limit → d.step ≤ limit → (block : ℕ) (walks : List (List Pass)) (place : Point)
+walks_hold : (d : DrawingValue) (limit : ℕ) → 121 ≤ limit → d.step ≤ limit
+    → (block : ℕ) (walks : List (List Pass)) (place : Point)
     → IsNeedlePoint place → All (λ walk. AreNear d.step (needles_of_walk d walk)) walks
     → Holds limit true place (commands_after d block walks) (stops_after d block walks)
     (stops_after d block walks + (needle_count d walks + 502 * length walks))
