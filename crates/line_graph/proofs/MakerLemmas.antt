@@ -19,7 +19,8 @@ use Rattle.step_splitter.specs.Chains.{IsNeedlePoint, KeepsMoving}
 use Rattle.line_graph.specs.declared.draw_fault.DrawKind.{DrawKind}
 use Rattle.line_graph.specs.declared.draw_fault.DrawKind.TheVariants as kind
 use Rattle.line_graph.specs.Drawings.{DrawingValue, HasNoRepeat, IsLine, KeepsDrawing, LineValue}
-use Rattle.line_graph.specs.Growing.{AreBlocks, IsMade, has_repeat, is_label_word, is_last_empty, is_used, point_count, repeats_after, step_count, steps_with, with_block, with_line}
+use Rattle.line_graph.specs.Growing.{has_repeat, is_label_word, is_last_empty, is_used, point_count, repeats_after, step_count, steps_with, with_block, with_line}
+use Rattle.line_graph.specs.Making.{AreBlocks, IsMade}
 use Rattle.line_graph.specs.Needles.{line_steps}
 
 -- the same points are found to be the same

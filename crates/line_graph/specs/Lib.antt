@@ -17,5 +17,6 @@ pub mod Growing
 pub mod TextLines
 pub mod DrawingText
 -- of the reader's inside
+pub mod Making
 pub mod Numerals
 pub mod LoopShapes
