@@ -1,14 +1,9 @@
 mod WalkFacts
-mod NumeralLemmas
-mod PointTextLemmas
 mod SewingLemmas
-mod StepLemmas
 mod PointLemmas
 mod NeedleLemmas
-mod LoopLemmas
 mod PointLists
 mod SewnLoops
-mod LoopSewing
 mod SpellingFacts
 mod WordLemmas
 mod MakerLemmas

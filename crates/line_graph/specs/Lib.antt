@@ -9,7 +9,6 @@ pub mod Walks
 pub mod Pieces
 pub mod Sewing
 pub mod Spelling
-pub mod Loops
 pub mod Laws
 pub mod SewnPieces
 pub mod Words
@@ -18,5 +17,3 @@ pub mod TextLines
 pub mod DrawingText
 -- of the reader's inside
 pub mod Making
-pub mod Numerals
-pub mod LoopShapes

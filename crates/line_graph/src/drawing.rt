@@ -1,11 +1,10 @@
-ghost use Rattle.std.specs.Prelude.{◌≡◌, ◌<◌, ◌≤◌, length, slice_index, IfOk};
+ghost use Rattle.std.specs.Prelude.{◌≡◌, ◌<◌, ◌≤◌, length, slice_index};
 ghost use Rattle.line_graph.specs.declared.limits.TheConstants.{MAX_LINES};
 
 use crate::limits::MAX_BLOCKS;
 use crate::line::Line;
 use arrayvec::ArrayVec;
-use design_model::{MAX_LABEL, Memory, Point, Points};
-use std::alloc::Global;
+use design_model::{MAX_LABEL, Point};
 use std::marker::Model;
 
 /// A line drawing: a label, the longest step, blocks of one thread each, and lines in the blocks.
@@ -43,29 +42,6 @@ impl Model for Drawing {
 impl Drawing {
     ghost use Rattle.design_model.specs.Labels.{IsLabel};
     ghost use Rattle.line_graph.specs.Drawings.{KeepsDrawing, points_of, block_of};
-    ghost use Rattle.line_graph.specs.LoopShapes.{IsLoopLine, loop_drawing};
-
-    /// The drawing of one closed line, in a block of that thread, without a label.
-    pub(crate) fn of_loop(
-        alloc: Global,
-        step: u32,
-        thread: u8,
-        points: Points,
-    ) -> Result<Drawing, Memory>
-        requires { IsLoopLine step points }
-        ensures { IfOk result (λ d. d ≡ loop_drawing step thread points) }
-    {
-        let mut lines = Vec::new(alloc);
-        lines.push(Line::new(0, points))?;
-        let mut threads = ArrayVec::new();
-        threads.push(thread);
-        Ok(Drawing {
-            label: ArrayVec::new(),
-            step,
-            threads,
-            lines,
-        })
-    }
 
     /// The drawing of these parts.
     pub(crate) fn of_parts(
