@@ -35,7 +35,8 @@ two_squares = record {
   threads = 3 ∷ 9 ∷ [];
   lines = record {
     block = 0;
-    points = place (pos 0) (pos 0) ∷ place (pos 30) (pos 0) ∷ place (pos 30) (pos 30) ∷ place (pos 0) (pos 30) ∷ place (pos 0) (pos 0) ∷ [];
+    points = place (pos 0) (pos 0) ∷ place (pos 30) (pos 0) ∷ place (pos 30) (pos 30) ∷ place (pos 0) (pos 30)
+        ∷ place (pos 0) (pos 0) ∷ [];
   } ∷ record {
     block = 1;
     points = place (pos 300) (pos 0) ∷ place (negsuc 29) (pos 0) ∷ place (pos 300) (pos 0) ∷ [];
@@ -43,7 +44,8 @@ two_squares = record {
 }
 
 pub known_drawing : drawing_of (text (codes "# squares" ∷ [] ∷ codes " redwork  1 " ∷ codes "step 030"
-    ∷ (codes "color 3" ++ 13 ∷ []) ∷ codes "line 0 0 30 0 30 30 0 30 0 -0" ∷ codes "color 9" ∷ []) ++ codes "line 300 0 -30 0 300 0")
+    ∷ (codes "color 3" ++ 13 ∷ []) ∷ codes "line 0 0 30 0 30 30 0 30 0 -0" ∷ codes "color 9" ∷ [])
+    ++ codes "line 300 0 -30 0 300 0")
     ≡ Ok two_squares
 known_drawing = refl
 

@@ -10,6 +10,7 @@ use Rattle.std.proofs.lemmas.List.Sums.{AllPass-from_list_all, sum_by-append}
 use Rattle.std.proofs.lemmas.Option.{get_or_from_slice_get, slice_get_within}
 use Rattle.std.specs.Char.{is_ascii_graphic}
 use Rattle.std.specs.List.{list_all, list_any}
+use Rattle.std.specs.Ordering.{int_eq}
 use Rattle.std.specs.List.Sorted.{IsNonDecreasing}
 use Rattle.design_model.specs.declared.point.Point.{Point}
 use Rattle.design_model.specs.Labels.{IsLabel, IsPrintable}
@@ -18,14 +19,15 @@ use Rattle.step_splitter.specs.Chains.{IsNeedlePoint, KeepsMoving}
 use Rattle.line_graph.specs.declared.draw_fault.DrawKind.{DrawKind}
 use Rattle.line_graph.specs.declared.draw_fault.DrawKind.TheVariants as kind
 use Rattle.line_graph.specs.Drawings.{DrawingValue, HasNoRepeat, IsLine, KeepsDrawing, LineValue}
-use Rattle.line_graph.specs.Growing.{AreBlocks, IsMade, has_repeat, is_label_word, is_last_empty, is_used, point_count, repeats_after, step_count, steps_with, with_block, with_line}
+use Rattle.line_graph.specs.Growing.{has_repeat, is_label_word, is_last_empty, is_used, point_count, repeats_after, step_count, steps_with, with_block, with_line}
+use Rattle.line_graph.specs.Making.{AreBlocks, IsMade}
 use Rattle.line_graph.specs.Needles.{line_steps}
 
 -- the same points are found to be the same
 pub same_found : (p q : Point) → p ≡ q → is_same_point p q ≡ true
 same_found p q same =
-    let x : (Rattle.std.specs.Ordering.int_eq p.x q.x) ≡ true = (Decides-int_eq p.x q.x).1 (ap (λ (r : Point). r.x) same) in
-    let y : (Rattle.std.specs.Ordering.int_eq p.y q.y) ≡ true = (Decides-int_eq p.y q.y).1 (ap (λ (r : Point). r.y) same) in
+    let x : int_eq p.x q.x ≡ true = (Decides-int_eq p.x q.x).1 (ap (λ (r : Point). r.x) same) in
+    let y : int_eq p.y q.y ≡ true = (Decides-int_eq p.y q.y).1 (ap (λ (r : Point). r.y) same) in
     rw (x, y) refl
 
 -- where no repeat is found, none is there
@@ -194,13 +196,15 @@ block_put d thread points steps made fits few =
         ordered = made.blocks.ordered;
       };
       lines = made.lines;
-      last_is = sym (last_by (with_block d thread) (length d.threads) false longer (unused (length d.threads) d.lines made.blocks.there));
+      last_is = sym (last_by (with_block d thread) (length d.threads) false longer
+          (unused (length d.threads) d.lines made.blocks.there));
       points_are = made.points_are;
       steps_are = made.steps_are;
     }
 
 -- a line at the end is in its block
-found_last : (lines : List LineValue) (line : LineValue) → list_any (λ l. l.block == line.block) (lines ++ line ∷ []) ≡ true
+found_last : (lines : List LineValue) (line : LineValue)
+    → list_any (λ l. l.block == line.block) (lines ++ line ∷ []) ≡ true
 found_last lines line =
     let here : (line.block == line.block) ≡ true = eq-eqb line.block line.block refl in
     list_any-append (λ (l : LineValue). l.block == line.block) lines (line ∷ [])
@@ -249,7 +253,8 @@ may_come d points steps in_range is =
     }
 
 -- with one line more
-pub line_put : (d : DrawingValue) (line : List Point) (empty : Bool) (points steps more : ℕ) → IsMade d empty points steps
+pub line_put : (d : DrawingValue) (line : List Point) (empty : Bool) (points steps more : ℕ)
+    → IsMade d empty points steps
     → 1 ≤ length d.threads → MayCome d line more → IsMade (with_line d line) false (points + length line) more
 line_put d points empty count steps more made some comes =
     let line : LineValue = record { block = length d.threads - 1; points = points } in

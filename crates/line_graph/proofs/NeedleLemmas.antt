@@ -186,7 +186,8 @@ needles_sound d line points there keeps is along = record {
 }
 
 -- the needle points of a line lead along it, segment by segment
-segments_lead : SplitPointsLead → (step : ℕ) → 1 ≤ step → (line : List Point) (before : Point) (rest needles : List Point)
+segments_lead : SplitPointsLead → (step : ℕ) → 1 ≤ step
+    → (line : List Point) (before : Point) (rest needles : List Point)
     → IsSewn step line before rest needles → LeadAlong step line (needle_points step line)
 segments_lead lead step low line before [] needles sewn =
     let done = all_sewn step line before [] needles sewn refl in

@@ -6,6 +6,7 @@ use Rattle.std.proofs.lemmas.List.Elements.{All-cons, All-map, All-nil}
 use Rattle.std.proofs.lemmas.List.FromFn.{get_or-map-range_with_len, get_or-range_with_len, length-map-range_with_len, length-range_with_len}
 use Rattle.std.specs.List.{concat, list_any, range_with_len}
 use Rattle.std.specs.List.Sorted.{IsStrictlyIncreasing}
+use Rattle.std.specs.Ordering.{int_eq}
 use Rattle.design_model.specs.declared.point.Point.{Point}
 use Rattle.design_model.specs.Points.{is_same_point}
 use Rattle.line_graph.proofs.MakerLemmas.{same_found}
@@ -25,7 +26,7 @@ any_more f g more (x ∷ xs) some = elim (or_cases (f x) (list_any f xs) some) [
 -- points that are found to be the same are the same
 pub same_is : (p q : Point) → is_same_point p q ≡ true → p ≡ q
 same_is p q found =
-    let both = and_parts (Rattle.std.specs.Ordering.int_eq p.x q.x) (Rattle.std.specs.Ordering.int_eq p.y q.y) found in
+    let both = and_parts (int_eq p.x q.x) (int_eq p.y q.y) found in
     same_point p q ((Decides-int_eq p.x q.x).0 both.0) ((Decides-int_eq p.y q.y).0 both.1)
 
 same_turned : (p q : Point) → is_same_point p q ≡ true → is_same_point q p ≡ true
@@ -95,7 +96,8 @@ only_itself (x ∷ xs) (suc i) (suc j) a b loops one other touch =
     ap (λ n. suc n) (only_itself xs i j a b (first_loop x xs loops).loops one other touch)
 
 -- so a chain of loops leads nowhere else
-leads_nowhere : (d : DrawingValue) → are_loops d.lines ≡ true → (i : ℕ) (chain : List ℕ) (j : ℕ) → Leads d i chain j → i ≡ j
+leads_nowhere : (d : DrawingValue) → are_loops d.lines ≡ true → (i : ℕ) (chain : List ℕ) (j : ℕ)
+    → Leads d i chain j → i ≡ j
 leads_nowhere d loops i [] j leads = leads
 leads_nowhere d loops i (k ∷ chain) j leads =
     only_itself d.lines i k leads.0.one leads.0.other loops leads.0.one_is leads.0.other_is leads.0.touch

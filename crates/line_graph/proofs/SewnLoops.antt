@@ -34,7 +34,8 @@ closed_ends [] closed = refl
 closed_ends (p ∷ rest) closed = ap (λ q. Some q) (sym (same_is p (last_from p rest) closed))
 
 -- each of the loops is closed
-loop_closed : (lines : List LineValue) (i : ℕ) (line : LineValue) → are_loops lines ≡ true → slice_get lines i ≡ Some line
+loop_closed : (lines : List LineValue) (i : ℕ) (line : LineValue) → are_loops lines ≡ true
+    → slice_get lines i ≡ Some line
     → is_closed line.points ≡ true
 loop_closed [] i line loops is = absurd cc
 loop_closed (x ∷ xs) zero line loops is =

@@ -29,7 +29,8 @@ rises_of (line ∷ rest) ordered = (
 )
 
 -- no line is below a block that all of them reach
-none_below : (block : ℕ) (lines : List LineValue) → All (λ line. block ≤ line.block) lines → lines_below block lines ≡ []
+none_below : (block : ℕ) (lines : List LineValue) → All (λ line. block ≤ line.block) lines
+    → lines_below block lines ≡ []
 none_below block [] reach = refl
 none_below block (line ∷ rest) reach =
     let here : block ≤ line.block = All-head (λ (l : LineValue). block ≤ l.block) line rest reach in
@@ -62,7 +63,8 @@ more_below block (line ∷ rest) rises = elim (cases_order line.block block) [
 ]
 
 -- and before the end they are all lines
-pub all_below : (block : ℕ) (lines : List LineValue) → All (λ line. line.block < block) lines → lines_below block lines ≡ lines
+pub all_below : (block : ℕ) (lines : List LineValue) → All (λ line. line.block < block) lines
+    → lines_below block lines ≡ lines
 all_below block [] below = refl
 all_below block (line ∷ rest) below =
     let here : line.block < block = All-head (λ (l : LineValue). l.block < block) line rest below in

@@ -41,7 +41,8 @@ abbrev with_lines : DrawingValue → List LineValue → DrawingValue
 with_lines d lines = record d { lines = d.lines ++ lines }
 
 -- the first of them may come, and then the others
-first_room : (d : DrawingValue) (line : LineValue) (lines : List LineValue) → MayFollow d (line ∷ lines) → HasRoom d line.points
+first_room : (d : DrawingValue) (line : LineValue) (lines : List LineValue) → MayFollow d (line ∷ lines)
+    → HasRoom d line.points
 first_room d line lines may = record {
   block = may.block;
   lines = omega (arith, may.count);
@@ -116,7 +117,8 @@ passes block lines = All-weaker (λ (l : LineValue). (l.block == block) ≡ true
     (filter_passes (λ (l : LineValue). l.block == block) lines)
 
 -- what holds of all holds of one in the middle
-all_middle : (P : ℕ → Type 0) (before : List ℕ) (thread : ℕ) (left : List ℕ) → All P (before ++ thread ∷ left) → P thread
+all_middle : (P : ℕ → Type 0) (before : List ℕ) (thread : ℕ) (left : List ℕ)
+    → All P (before ++ thread ∷ left) → P thread
 all_middle P [] thread left all = All-head P thread left all
 all_middle P (x ∷ before) thread left all =
     all_middle P before thread left (All-tail P x (before ++ thread ∷ left) all)
@@ -271,7 +273,8 @@ module _ (d : DrawingValue) (keeps : KeepsDrawing d) where
       let allowed = subst Label (sym is) keeps.label in
       let one_word = subst OneWord (sym is) keeps.one_word in
       let some : (length (b ∷ label) == 0) ≡ false = grind (arith, nat_tests) in
-      let text : label_text (b ∷ label) ++ step_text ≡ codes "name" ++ (tail_of ((b ∷ label) ∷ []) ++ step_text) = rw some refl in
+      let text : label_text (b ∷ label) ++ step_text ≡ codes "name" ++ (tail_of ((b ∷ label) ∷ []) ++ step_text) =
+      rw some refl in
       let Reads : List ℕ → Type 0 = λ list. drawn_after 3
       (record first_draft { named = true; drawing = record blank_drawing { label = list } }) (words_by_line step_text) ≡ Ok d in
       ap (λ (all : List ℕ). drawn_after 2 first_draft (words_by_line all)) text

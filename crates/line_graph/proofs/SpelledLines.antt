@@ -25,7 +25,8 @@ use Rattle.line_graph.specs.TextLines.{first_draft, judged, points_in}
 use Rattle.line_graph.specs.Words.{words_by_line}
 
 -- the next line is judged, and then those behind it
-pub line_judged : (number : ℕ) (draft next : Draft) (word : List ℕ) (words : List (List ℕ)) (rest : List ℕ) → IsWord word
+pub line_judged : (number : ℕ) (draft next : Draft) (word : List ℕ) (words : List (List ℕ)) (rest : List ℕ)
+    → IsWord word
     → AreWords words → judged number draft (word ∷ words) ≡ Ok next
     → drawn_after number draft (words_by_line (word ++ (tail_of words ++ rest)))
     ≡ drawn_after (number + 1) next (words_by_line rest)
@@ -104,7 +105,8 @@ pub record HasRoom (d : DrawingValue) (points : List Point) : Type 0 where
   pub steps_to : step_count d.step d.lines + line_steps d.step points ≤ 200000
 
 -- a spelled line is added to the drawing
-pub line_says : (number opened : ℕ) (named : Bool) (d : DrawingValue) (points : List Point) → IsLine points → HasRoom d points
+pub line_says : (number opened : ℕ) (named : Bool) (d : DrawingValue) (points : List Point) → IsLine points
+    → HasRoom d points
     → judged number (draft_of named opened d) (codes "line" ∷ coordinates points) ≡ Ok (draft_of named opened (with_line d points))
 line_says number opened named d points able room =
     let begun : (length d.threads == 0) ≡ false = grind (arith, nat_tests, room.block) in
@@ -116,7 +118,8 @@ line_says number opened named d points able room =
     rw (begun, points_read points able.in_range, long, no_repeat_found points able.moving, lines, few, cheap) refl
 
 -- a spelled block is added to it
-pub color_says : (number opened : ℕ) (named : Bool) (d : DrawingValue) (thread : ℕ) → thread < 256 → is_last_empty d ≡ false
+pub color_says : (number opened : ℕ) (named : Bool) (d : DrawingValue) (thread : ℕ) → thread < 256
+    → is_last_empty d ≡ false
     → length d.threads < 255
     → judged number (draft_of named opened d) (codes "color" ∷ decimal thread ∷ []) ≡ Ok (draft_of named number (with_block d thread))
 color_says number opened named d thread fits filled room =

@@ -10,7 +10,7 @@ use Rattle.std.specs.List.{list_all}
 use Rattle.std.specs.Str.{all_ascii_digits}
 use Rattle.std.specs.Str.Parse.{digits_value}
 use Rattle.design_model.specs.declared.whole_number.Whole.TheVariants as whole
-use Rattle.design_model.specs.WholeNumbers.{is_numeral, signed_whole, whole_of}
+use Rattle.design_model.specs.WholeNumbers.{is_numeral, signed, signed_whole, whole_of}
 use Rattle.line_graph.proofs.SpelledWords.{IsWord, is_inner}
 use Rattle.line_graph.specs.Words.{is_filled}
 
@@ -51,7 +51,7 @@ numeral_some [] some digits = absurd (omega arith)
 numeral_some (b ∷ ds) some digits = digits
 
 digits_read : (minus : Bool) (ds : List ℕ) (n : ℕ) → is_numeral ds ≡ true → digits_value 10 ds ≡ n → n ≤ 999999999
-    → signed_whole minus ds ≡ whole.Value (Rattle.design_model.specs.WholeNumbers.signed minus n)
+    → signed_whole minus ds ≡ whole.Value (signed minus n)
 digits_read minus ds n numeral value small =
     let test : nat_le n 999999999 ≡ true = grind (arith, nat_tests) in
     rw (numeral, value, test) refl

@@ -15,3 +15,5 @@ pub mod Words
 pub mod Growing
 pub mod TextLines
 pub mod DrawingText
+-- of the reader's inside
+pub mod Making

@@ -1,6 +1,7 @@
 ghost use Rattle.std.specs.Prelude.{◌≡◌};
 ghost use Rattle.line_graph.specs.DrawingText.{at_line};
-ghost use Rattle.line_graph.specs.Growing.{Changes, finished};
+ghost use Rattle.line_graph.specs.Growing.{finished};
+ghost use Rattle.line_graph.specs.Making.{Changes};
 ghost use Rattle.line_graph.specs.TextLines.{coloured, first_draft, judged, lined, named, stepped};
 ghost use Rattle.line_graph.specs.Words.{only_word as only_of_words, words_in};
 

@@ -3,7 +3,8 @@ ghost use Rattle.std.specs.Char.{is_ascii_graphic};
 ghost use Rattle.std.specs.List.{list_all};
 ghost use Rattle.step_splitter.specs.declared.segment.TheConstants.{MAX_STEP as max_step};
 ghost use Rattle.step_splitter.specs.Chains.{IsNeedlePoint};
-ghost use Rattle.line_graph.specs.Growing.{Changes, blank_drawing, block_added, finished, is_label_word as is_a_label_word, line_added, steps_with as steps_of_lines_with};
+ghost use Rattle.line_graph.specs.Growing.{blank_drawing, block_added, finished, is_label_word as is_a_label_word, line_added, steps_with as steps_of_lines_with};
+ghost use Rattle.line_graph.specs.Making.{Changes};
 
 use crate::draw_fault::DrawKind;
 use crate::drawing::Drawing;
@@ -32,7 +33,7 @@ pub struct DrawingMaker {
 
 impl Model for DrawingMaker {
     ghost use Rattle.line_graph.specs.Drawings.{DrawingValue};
-    ghost use Rattle.line_graph.specs.Growing.{IsMade};
+    ghost use Rattle.line_graph.specs.Making.{IsMade};
 
     ghost Value = { DrawingValue };
 

@@ -1,6 +1,6 @@
 ghost use Rattle.std.specs.Prelude.{All, IfOk};
 ghost use Rattle.step_splitter.specs.Chains.{IsNeedlePoint};
-ghost use Rattle.line_graph.specs.Growing.{Answers};
+ghost use Rattle.line_graph.specs.Making.{Answers};
 ghost use Rattle.line_graph.specs.TextLines.{points_in};
 ghost use Rattle.line_graph.specs.Words.{words_in};
 

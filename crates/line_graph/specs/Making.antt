@@ -1,0 +1,57 @@
+-- What the making of a drawing answers and keeps. No public clause cites this file.
+use Rattle.std.specs.Prelude.{◌≡◌, ℕ, ◌+◌, ◌<◌, ◌≤◌, ◌≢◌, Bool, List, Result, Ok, Err, length, map, All, Contains}
+use Rattle.std.specs.List.Sorted.{IsNonDecreasing}
+use Rattle.design_model.specs.Labels.{IsLabel}
+use Rattle.step_splitter.specs.declared.segment.TheConstants.{MAX_STEP}
+use Rattle.line_graph.specs.declared.draw_fault.DrawKind.{DrawKind}
+use Rattle.line_graph.specs.declared.draw_fault.DrawKind.TheVariants as kind
+use Rattle.line_graph.specs.declared.limits.TheConstants.{MAX_BLOCKS, MAX_COST, MAX_LINES, MAX_POINTS}
+use Rattle.line_graph.specs.Drawings.{DrawingValue, IsLine, LineValue}
+use Rattle.line_graph.specs.Growing.{is_last_empty, point_count, step_count}
+
+-- the refusal is the one that was said, or memory was wanted
+abbrev pub IsSaid : {A : Type 0} → Result A DrawKind → DrawKind → Type 0
+IsSaid said kind.Memory = Unit {0}
+IsSaid said why = said ≡ Err why
+
+-- what each answer of a call means: it is what was said, or memory was wanted
+abbrev pub Answers : {A : Type 0} → Result A DrawKind → Result A DrawKind → Type 0
+Answers said (Ok a) = said ≡ Ok a
+Answers said (Err why) = IsSaid said why
+
+-- what each answer of a call means that is to change a value as said: a refusal leaves it as it was
+abbrev pub Changes : {A T : Type 0} → Result A DrawKind → A → Result T DrawKind → A → Type 0
+Changes said old (Ok _) new = said ≡ Ok new
+Changes said old (Err why) new = IsSaid said why × (new ≡ old)
+
+-- the limits of a label that is one word or empty, and of a longest step
+pub record IsHead (label : List ℕ) (step : ℕ) : Type 0 where
+  pub label_ok : IsLabel label
+  pub one_word : All (λ byte. byte ≢ 32) label
+  pub step_from : 1 ≤ step
+  pub step_to : step ≤ MAX_STEP
+
+-- the limits of blocks that fit lines: each block has a line, but that the last one may be empty
+pub record AreBlocks (threads : List ℕ) (lines : List LineValue) : Type 0 where
+  pub blocks_to : length threads ≤ MAX_BLOCKS
+  pub in_range : All (λ thread. thread < 256) threads
+  pub used : (block : ℕ) → block + 1 < length threads → Contains (map (λ line. line.block) lines) block
+  pub there : All (λ line. line.block < length threads) lines
+  pub ordered : IsNonDecreasing (map (λ line. line.block) lines)
+
+-- the limits of lines
+pub record AreLines (step : ℕ) (lines : List LineValue) : Type 0 where
+  pub each : All (λ line. IsLine line.points) lines
+  pub line_count : length lines ≤ MAX_LINES
+  pub points_to : point_count lines ≤ MAX_POINTS
+  pub cost : step_count step lines ≤ MAX_COST
+
+-- the drawing keeps these limits, and these are what is known of its lines: whether the last block is
+-- empty, and how many points and steps there are
+pub record IsMade (d : DrawingValue) (empty : Bool) (points steps : ℕ) : Type 0 where
+  pub head : IsHead d.label d.step
+  pub blocks : AreBlocks d.threads d.lines
+  pub lines : AreLines d.step d.lines
+  pub last_is : empty ≡ is_last_empty d
+  pub points_are : points ≡ point_count d.lines
+  pub steps_are : steps ≡ step_count d.step d.lines
