@@ -34,7 +34,8 @@ becomes_once limit (thread place number) d a b one other = same_value _ a b one 
 refit_not_both : (m : RefitMode) (limit : ℕ) (d a : DesignValue) (why : Refusal) → RefitsTo m limit d (Ok a)
     → RefitsTo m limit d (Err why) → ⊥
 refit_not_both m limit d a refusal.TooLong fits never = never
-refit_not_both m limit d a refusal.NotPlainLoop fits never = never
+refit_not_both m limit d a (refusal.BadDrawing fault) fits never = never
+refit_not_both m limit d a refusal.NotOnlyLoops fits never = never
 refit_not_both m limit d a (refusal.StepTooLong step) fits never = never
 refit_not_both m limit d a (refusal.Unread f) fits never = never
 refit_not_both m limit d a (refusal.Unwritten f) fits never = never

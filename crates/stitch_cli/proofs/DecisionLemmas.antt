@@ -1,8 +1,8 @@
 -- Where no count of faults rises, the words and the files decide.
-use Rattle.std.proofs.Common.{◌≡◌, ℕ, ◌<◌, ◌≤◌, ◌⊎◌, inl, inr, List, Option, Some, None, Ok, Err, Result, IsSome, length, ap, refl, sym, subst, ◌∙◌, arith}
+use Rattle.std.proofs.Common.{◌≡◌, ℕ, Bool, true, false, ◌<◌, ◌≤◌, ◌⊎◌, inl, inr, List, Option, Some, None, Ok, Err, Result, IsSome, length, ap, refl, sym, subst, ◌∙◌, arith}
 use Rattle.line_graph.specs.Drawings.{DrawingValue}
-use Rattle.line_graph.specs.Laws.{PlainTextsShareSteps}
-use Rattle.line_graph.specs.Spelling.{plain_spelling}
+use Rattle.line_graph.specs.declared.draw_fault.DrawFault.{DrawFault}
+use Rattle.line_graph.specs.Pieces.{are_loops}
 use Rattle.outside_io.specs.Causes.{IsLonger}
 use Rattle.outside_io.specs.Counts.{IsQuiet, Rose}
 use Rattle.outside_io.specs.Files.{Files, HoldsNow, Lacks, WhereTold}
@@ -21,7 +21,7 @@ use Rattle.stitch_cli.specs.Rewrites.{RewriteOf}
 use Rattle.stitch_cli.specs.Shows.{ShowOf}
 use Rattle.stitch_cli.proofs.ChangeLemmas.{rewritten_not_both}
 use Rattle.stitch_cli.specs.Requests.{Order, RouteOrder, hooping, input_of, rewriting, routing, showing}
-use Rattle.stitch_cli.specs.Routes.{Accepts, RouteRefuses}
+use Rattle.stitch_cli.specs.Routes.{Accepts, RouteOf, RouteRefuses}
 use Rattle.stitch_cli.specs.Runs.{AsksFor, IsDecided, IsQuietRun, Sights}
 
 -- where the count is quiet it did not rise
@@ -76,68 +76,64 @@ comes_not_both files name Of product why excludes told makes refuses = excludes 
 not_both : (r : Result Product Refusal) (product : Product) (why : Refusal) → r ≡ Ok product → r ≡ Err why → ⊥
 not_both r product why one other = cc
 
+-- a text says one drawing, or a fault
+same_drawing : (r : Result DrawingValue DrawFault) (a b : DrawingValue) → r ≡ Ok a → r ≡ Ok b → a ≡ b
+same_drawing r a b one other = cc
+
+not_drawing : (r : Result DrawingValue DrawFault) (a : DrawingValue) (fault : DrawFault) → r ≡ Ok a → r ≡ Err fault → ⊥
+not_drawing r a fault one other = cc
+
+not_true : (b : Bool) → b ≡ true → b ≡ false → ⊥
+not_true b one other = cc
+
 -- what a route accepts no later step refuses
-route_not_both : PlainTextsShareSteps → (files : Option Files) (order : RouteOrder) (d : DrawingValue) (why : Refusal)
-    → IsSome files → Accepts files order d → RouteRefuses files order why → ⊥
-route_not_both share files order d refusal.TooLong told accepts never = never
-route_not_both share files order d refusal.NotPlainLoop told accepts refuses = refuses.none d (record {
-  limits = accepts.spelled.limits;
-  loop = accepts.spelled.loop;
-  spelled = one_content files order.drawing refuses.bytes (plain_spelling d) told refuses.text accepts.spelled.text;
-})
-route_not_both share files order d (refusal.StepTooLong step) told accepts refuses =
-    let same : d.step ≡ refuses.drawing.step = share d refuses.drawing accepts.spelled.limits refuses.spelled.limits accepts.spelled.loop refuses.spelled.loop
-    (one_content files order.drawing (plain_spelling d) (plain_spelling refuses.drawing) told accepts.spelled.text refuses.spelled.text) in
+route_not_both : (order : RouteOrder) (bytes : List ℕ) (d : DrawingValue) (why : Refusal)
+    → Accepts order bytes d → RouteRefuses order bytes why → ⊥
+route_not_both order bytes d refusal.TooLong accepts never = never
+route_not_both order bytes d (refusal.BadDrawing fault) accepts refuses = not_drawing _ d fault accepts.said refuses
+route_not_both order bytes d refusal.NotOnlyLoops accepts refuses =
+    let same : refuses.drawing ≡ d = same_drawing _ refuses.drawing d refuses.said accepts.said in
+    not_true _ accepts.loops (subst (λ (one : DrawingValue). are_loops one.lines ≡ false) same refuses.other)
+route_not_both order bytes d (refusal.StepTooLong step) accepts refuses =
+    let same : refuses.drawing.step ≡ d.step =
+    ap (λ (one : DrawingValue). one.step) (same_drawing _ refuses.drawing d refuses.said accepts.said) in
     omega (arith, same, refuses.same, refuses.above, accepts.step)
-route_not_both share files order d (refusal.Unread f) told accepts never = never
-route_not_both share files order d (refusal.Unwritten f) told accepts never = never
-route_not_both share files order d (refusal.RefitTooMany number) told accepts never = never
-route_not_both share files order d (refusal.MovedOut number) told accepts never = never
-route_not_both share files order d (refusal.NoPlace place count) told accepts never = never
-route_not_both share files order d (refusal.TooLarge x y) told accepts never = never
+route_not_both order bytes d (refusal.Unread f) accepts never = never
+route_not_both order bytes d (refusal.Unwritten f) accepts never = never
+route_not_both order bytes d (refusal.RefitTooMany number) accepts never = never
+route_not_both order bytes d (refusal.MovedOut number) accepts never = never
+route_not_both order bytes d (refusal.NoPlace place count) accepts never = never
+route_not_both order bytes d (refusal.TooLarge x y) accepts never = never
 
 -- what is accepted isn't refused
-not_refused : PlainTextsShareSteps → (order : Order) (files : Option Files) (product : Product) (why : Refusal)
+not_refused : (order : Order) (files : Option Files) (product : Product) (why : Refusal)
     → IsSome files → Makes order files product → Refuses order files why → ⊥
-not_refused share (routing order) files product why told makes (inl long) =
-    not_longer files order.drawing (plain_spelling makes.drawing) told makes.accepted.spelled.text makes.accepted.spelled.short long.longer
-not_refused share (routing order) files product why told makes (inr refuses) =
-    route_not_both share files order makes.drawing why told makes.accepted refuses
-not_refused share (rewriting order) files product why told makes (inl long) =
+not_refused (routing order) files product why told makes (inl long) =
+    not_longer files order.drawing makes.bytes told makes.held makes.short long.longer
+not_refused (routing order) files product why told makes (inr refuses) =
+    comes_not_both files order.drawing (RouteOf order) product why
+    (λ bytes one other. route_not_both order bytes one.drawing why one.accepted other) told makes refuses
+not_refused (rewriting order) files product why told makes (inl long) =
     not_longer files order.input makes.bytes told makes.held makes.short long.longer
-not_refused share (rewriting order) files product why told makes (inr refuses) =
+not_refused (rewriting order) files product why told makes (inr refuses) =
     comes_not_both files order.input (RewriteOf order) product why
     (λ bytes one other. rewritten_not_both order bytes product why one other) told makes refuses
-not_refused share (showing order) files product why told makes (inl long) =
+not_refused (showing order) files product why told makes (inl long) =
     not_longer files order.file makes.bytes told makes.held makes.short long.longer
-not_refused share (showing order) files product why told makes (inr refuses) =
+not_refused (showing order) files product why told makes (inr refuses) =
     comes_not_both files order.file (ShowOf order) product why
     (λ bytes one other. not_both _ product why one other) told makes refuses
-not_refused share (hooping order) files product why told makes (inl long) =
+not_refused (hooping order) files product why told makes (inl long) =
     not_longer files order.file makes.bytes told makes.held makes.short long.longer
-not_refused share (hooping order) files product why told makes (inr refuses) =
+not_refused (hooping order) files product why told makes (inr refuses) =
     comes_not_both files order.file (HoopOf order) product why
     (λ bytes one other. not_both _ product why one other) told makes refuses
-
--- what a later step of a route refuses is there
-route_is_there : (files : Option Files) (order : RouteOrder) (why : Refusal) → RouteRefuses files order why
-    → Lacks files order.drawing → ⊥
-route_is_there files order refusal.TooLong never lacks = never
-route_is_there files order refusal.NotPlainLoop refuses lacks = not_missing files order.drawing refuses.bytes lacks refuses.text
-route_is_there files order (refusal.StepTooLong step) refuses lacks =
-    not_missing files order.drawing (plain_spelling refuses.drawing) lacks refuses.spelled.text
-route_is_there files order (refusal.Unread f) never lacks = never
-route_is_there files order (refusal.Unwritten f) never lacks = never
-route_is_there files order (refusal.RefitTooMany number) never lacks = never
-route_is_there files order (refusal.MovedOut number) never lacks = never
-route_is_there files order (refusal.NoPlace place count) never lacks = never
-route_is_there files order (refusal.TooLarge x y) never lacks = never
 
 -- what is refused is there
 refused_is_there : (order : Order) (files : Option Files) (why : Refusal) → Refuses order files why
     → Lacks files (input_of order) → ⊥
 refused_is_there (routing order) files why (inl long) lacks = longer_is_there files order.drawing long.longer lacks
-refused_is_there (routing order) files why (inr refuses) lacks = route_is_there files order why refuses lacks
+refused_is_there (routing order) files why (inr refuses) lacks = not_missing files order.drawing refuses.bytes lacks refuses.held
 refused_is_there (rewriting order) files why (inl long) lacks = longer_is_there files order.input long.longer lacks
 refused_is_there (rewriting order) files why (inr refuses) lacks = not_missing files order.input refuses.bytes lacks refuses.held
 refused_is_there (showing order) files why (inl long) lacks = longer_is_there files order.file long.longer lacks
@@ -148,8 +144,7 @@ refused_is_there (hooping order) files why (inr refuses) lacks = not_missing fil
 -- what is accepted is there
 made_is_there : (order : Order) (files : Option Files) (product : Product) → Makes order files product
     → Lacks files (input_of order) → ⊥
-made_is_there (routing order) files product makes lacks =
-    not_missing files order.drawing (plain_spelling makes.drawing) lacks makes.accepted.spelled.text
+made_is_there (routing order) files product makes lacks = not_missing files order.drawing makes.bytes lacks makes.held
 made_is_there (rewriting order) files product makes lacks = not_missing files order.input makes.bytes lacks makes.held
 made_is_there (hooping order) files product makes lacks = not_missing files order.file makes.bytes lacks makes.held
 made_is_there (showing order) files product makes lacks = not_missing files order.file makes.bytes lacks makes.held
@@ -178,23 +173,23 @@ came order before after s quiet (stopped why stops out (inl (is, told))) = stop_
 came order before after s quiet (stopped why stops out (inr (is, broke))) = absurd (no_rise _ _ quiet.err broke.rose)
 
 -- how an order is decided
-done_or_memory : PlainTextsShareSteps → (order : Order) (files : Option Files) (s : Status) (product : Product)
+done_or_memory : (order : Order) (files : Option Files) (s : Status) (product : Product)
     → Came order files s → IsSome files → Makes order files product → (s ≡ status.Done) ⊎ (s ≡ status.Memory)
-done_or_memory share order files s product (came_done other makes is) told accepted = inl is
-done_or_memory share order files s product (came_refused why refuses is) told accepted =
-    absurd (not_refused share order files product why told accepted refuses)
-done_or_memory share order files s product (came_missing lacks is) told accepted =
+done_or_memory order files s product (came_done other makes is) told accepted = inl is
+done_or_memory order files s product (came_refused why refuses is) told accepted =
+    absurd (not_refused order files product why told accepted refuses)
+done_or_memory order files s product (came_missing lacks is) told accepted =
     absurd (made_is_there order files product accepted lacks)
-done_or_memory share order files s product (came_memory is) told accepted = inr is
+done_or_memory order files s product (came_memory is) told accepted = inr is
 
-refused_or_memory : PlainTextsShareSteps → (order : Order) (files : Option Files) (s : Status) (why : Refusal)
+refused_or_memory : (order : Order) (files : Option Files) (s : Status) (why : Refusal)
     → Came order files s → IsSome files → Refuses order files why → (s ≡ status.Refused) ⊎ (s ≡ status.Memory)
-refused_or_memory share order files s why (came_done product makes is) told refuses =
-    absurd (not_refused share order files product why told makes refuses)
-refused_or_memory share order files s why (came_refused other others is) told refuses = inl is
-refused_or_memory share order files s why (came_missing lacks is) told refuses =
+refused_or_memory order files s why (came_done product makes is) told refuses =
+    absurd (not_refused order files product why told makes refuses)
+refused_or_memory order files s why (came_refused other others is) told refuses = inl is
+refused_or_memory order files s why (came_missing lacks is) told refuses =
     absurd (refused_is_there order files why refuses lacks)
-refused_or_memory share order files s why (came_memory is) told refuses = inr is
+refused_or_memory order files s why (came_memory is) told refuses = inr is
 
 fault_or_memory : (order : Order) (files : Option Files) (s : Status) → Came order files s → Lacks files (input_of order)
     → (s ≡ status.Fault) ⊎ (s ≡ status.Memory)
@@ -215,14 +210,14 @@ order_came asked order before after s asks quiet ends =
     came order before after s quiet (subst (λ (o : Option Order). Ends o before after s) asks ends)
 
 -- where no count rises the words and the files decide
-pub decided : PlainTextsShareSteps → (asked : Option Order) (before after : Sights) (s : Status) → Ends asked before after s
+pub decided : (asked : Option Order) (before after : Sights) (s : Status) → Ends asked before after s
     → IsQuietRun before after → IsDecided asked before s
-decided share asked before after s ends quiet = record {
+decided asked before after s ends quiet = record {
   usage = λ (none : asked ≡ None). usage_told before after s quiet (subst (λ (o : Option Order). Ends o before after s) none ends);
   done = λ (order : Order) (product : Product) (asks : AsksFor asked order) (told : IsSome before.store.files) (makes : Makes order before.store.files product).
-      done_or_memory share order before.store.files s product (order_came asked order before after s asks quiet ends) told makes;
+      done_or_memory order before.store.files s product (order_came asked order before after s asks quiet ends) told makes;
   refused = λ (order : Order) (why : Refusal) (asks : AsksFor asked order) (told : IsSome before.store.files) (refuses : Refuses order before.store.files why).
-      refused_or_memory share order before.store.files s why (order_came asked order before after s asks quiet ends) told refuses;
+      refused_or_memory order before.store.files s why (order_came asked order before after s asks quiet ends) told refuses;
   missing = λ (order : Order) (asks : AsksFor asked order) (lacks : Lacks before.store.files (input_of order)).
       fault_or_memory order before.store.files s (order_came asked order before after s asks quiet ends) lacks;
 }

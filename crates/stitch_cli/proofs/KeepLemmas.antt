@@ -26,7 +26,7 @@ same_outputs r p q one other = cc
 -- what an order makes stands in the files that it writes
 makes_outputs : (order : Order) (files : Option Files) (product : Product) → Makes order files product
     → names_of product.outputs ≡ outputs_of order
-makes_outputs (routing order) files product makes = ap (λ (p : Product). names_of p.outputs) makes.made
+makes_outputs (routing order) files product makes = ap (λ (p : Product). names_of p.outputs) makes.is.made
 makes_outputs (rewriting order) files product makes = ap (λ (p : Product). names_of p.outputs) makes.is.made
 makes_outputs (showing order) files product makes = shown (order.format.reads makes.bytes) makes.is
   where

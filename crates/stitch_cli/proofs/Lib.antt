@@ -1,4 +1,5 @@
-pub mod LineDesigns
+pub mod SewnDesigns
+pub mod LineWalks
 pub mod PutLemmas
 pub mod DeliveryLemmas
 pub mod RunLemmas

@@ -28,7 +28,8 @@ read_stops order store store' (stop.Refused (refusal.Unread f)) (refuses, same) 
   }),
   same,
 )
-read_stops order store store' (stop.Refused refusal.NotPlainLoop) never = absurd never
+read_stops order store store' (stop.Refused (refusal.BadDrawing fault)) never = absurd never
+read_stops order store store' (stop.Refused refusal.NotOnlyLoops) never = absurd never
 read_stops order store store' (stop.Refused (refusal.StepTooLong step)) never = absurd never
 read_stops order store store' (stop.Refused (refusal.Unwritten f)) never = absurd never
 read_stops order store store' (stop.Refused (refusal.RefitTooMany number)) never = absurd never
@@ -77,7 +78,8 @@ remake_stops_by order loaded design store store' (stop.Refused (refusal.Unwritte
   same,
 )
 remake_stops_by order loaded design store store' (stop.Refused refusal.TooLong) is same becomes never = absurd never
-remake_stops_by order loaded design store store' (stop.Refused refusal.NotPlainLoop) is same becomes never = absurd never
+remake_stops_by order loaded design store store' (stop.Refused (refusal.BadDrawing fault)) is same becomes never = absurd never
+remake_stops_by order loaded design store store' (stop.Refused refusal.NotOnlyLoops) is same becomes never = absurd never
 remake_stops_by order loaded design store store' (stop.Refused (refusal.StepTooLong step)) is same becomes never = absurd never
 remake_stops_by order loaded design store store' (stop.Refused (refusal.Unread f)) is same becomes never = absurd never
 remake_stops_by order loaded design store store' (stop.Refused (refusal.RefitTooMany number)) is same becomes never = absurd never

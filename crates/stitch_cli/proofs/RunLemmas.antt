@@ -1,9 +1,6 @@
 -- What the end of a run means.
 use Rattle.std.proofs.Common.{◌≡◌, ℕ, ◌≤◌, ◌⊎◌, inl, inr, Bool, true, false, List, Option, Some, None, Ok, Err, Result, IsSome, length, ap, refl, sym, subst, ◌∙◌, arith, if◌then◌else◌, bytes_eq}
 use Rattle.format_traits.specs.Meanings.{Meaning}
-use Rattle.line_graph.specs.Drawings.{DrawingValue}
-use Rattle.line_graph.specs.Laws.{PlainTextsShareSteps}
-use Rattle.line_graph.specs.Spelling.{plain_spelling}
 use Rattle.outside_io.specs.Causes.{IsLonger}
 use Rattle.outside_io.specs.Counts.{IsQuiet, Rose}
 use Rattle.outside_io.specs.Files.{Files, HoldsNow, Lacks, WhereTold}
@@ -19,7 +16,6 @@ use Rattle.stitch_cli.specs.Endings.{Delivers, Ends, OrderEnds, Stops, Tells, al
 use Rattle.stitch_cli.specs.Orders.{Comes, Makes, Refuses, StepRefuses}
 use Rattle.stitch_cli.specs.Products.{ChangesAmong, Product, names_of}
 use Rattle.stitch_cli.specs.Requests.{Order, RouteOrder, are_apart, input_of, outputs_of, hoop_order, hooping, hooping_by, rewriting, rewriting_by, routing, routing_to, show_order, showing, showing_by, subject_of}
-use Rattle.stitch_cli.specs.Routes.{Accepts, RouteMakes, RouteRefuses}
 use Rattle.stitch_cli.specs.Runs.{AsksFor, CallsFor, Fails, IsDecided, IsDone, IsFault, IsMemory, IsQuietRun, IsRefused, IsUsage, KeepsOthers, Sights, failed, memory, missing, refused, unprinted, unread, unwritten, usage}
 use Rattle.stitch_cli.specs.Sights.{SinkSight, StoreSight}
 use Rattle.stitch_cli.specs.Texts.{stop_line, unprinted_line, unread_line, unwritten_line, usage_text}

@@ -2,6 +2,7 @@
 -- pieces. Own text: every line ends with the byte 10, words are separated by one space, and numbers
 -- are decimal without leading zeros.
 use Rattle.std.specs.Prelude.{ℕ, ◌+◌, List, [], ◌∷◌, ◌++◌, codes, decimal, if◌then◌else◌}
+use Rattle.std.specs.List.{flat_map}
 use Rattle.line_graph.specs.declared.pass.Pass.{Pass}
 
 -- the certificate of one piece that needs no cut, since nothing is retraced
@@ -24,15 +25,10 @@ passes_text (pass ∷ rest) = pass_text pass ++ passes_text rest
 
 -- the two lines of a piece
 abbrev pub piece_text : PieceCert → List ℕ
-piece_text piece = codes "piece " ++ decimal piece.retraced ++ line_end
-    ++ codes "walk" ++ passes_text piece.walk ++ line_end
-
--- the lines of the pieces
-abbrev pub pieces_text : List PieceCert → List ℕ
-pieces_text [] = []
-pieces_text (piece ∷ rest) = piece_text piece ++ pieces_text rest
+piece_text piece = codes "piece " ++ (decimal piece.retraced ++ (line_end
+    ++ (codes "walk" ++ (passes_text piece.walk ++ line_end))))
 
 -- the whole text
 abbrev pub certificate_text : List PieceCert → List ℕ
-certificate_text pieces = codes "redwork-certificate 1" ++ line_end ++ pieces_text pieces
-    ++ codes "end" ++ line_end
+certificate_text pieces = codes "redwork-certificate 1" ++ (line_end ++ (flat_map piece_text pieces
+    ++ (codes "end" ++ line_end)))

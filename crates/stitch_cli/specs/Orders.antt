@@ -9,7 +9,7 @@ use Rattle.stitch_cli.specs.Products.{Product}
 use Rattle.stitch_cli.specs.Requests.{Order, hooping, input_of, rewriting, routing, showing}
 use Rattle.stitch_cli.specs.Hoops.{HoopOf}
 use Rattle.stitch_cli.specs.Rewrites.{RewriteOf}
-use Rattle.stitch_cli.specs.Routes.{RouteMakes, RouteRefuses}
+use Rattle.stitch_cli.specs.Routes.{RouteOf}
 use Rattle.stitch_cli.specs.Shows.{ShowOf}
 
 -- the named file, where it is told, has bytes of which this comes
@@ -22,14 +22,14 @@ pub record Comes (files : Option Files) (name : List ℕ) (Of : List ℕ → Res
 
 -- the order is accepted, and makes this
 abbrev pub Makes : Order → Option Files → Product → Type 0
-Makes (routing order) files product = RouteMakes files order product
+Makes (routing order) files product = Comes files order.drawing (RouteOf order) (Ok product)
 Makes (rewriting order) files product = Comes files order.input (RewriteOf order) (Ok product)
 Makes (showing order) files product = Comes files order.file (ShowOf order) (Ok product)
 Makes (hooping order) files product = Comes files order.file (HoopOf order) (Ok product)
 
 -- a step of the order that comes after the reading of its file refuses
 abbrev pub StepRefuses : Order → Option Files → Refusal → Type 0
-StepRefuses (routing order) files why = RouteRefuses files order why
+StepRefuses (routing order) files why = Comes files order.drawing (RouteOf order) (Err why)
 StepRefuses (rewriting order) files why = Comes files order.input (RewriteOf order) (Err why)
 StepRefuses (showing order) files why = Comes files order.file (ShowOf order) (Err why)
 StepRefuses (hooping order) files why = Comes files order.file (HoopOf order) (Err why)

@@ -1,18 +1,25 @@
 -- What the inner steps of the commands answer. No public clause cites this file.
-use Rattle.std.specs.Prelude.{◌≡◌, ℕ, ◌<◌, ◌≤◌, List, [], ◌∷◌, ◌++◌, length, map, Result, Ok, Err, string_bytes}
-use Rattle.design_model.specs.declared.command.Command.TheVariants.{Stitch, Trim}
+use Rattle.std.specs.Prelude.{◌≡◌, ℕ, ◌+◌, ◌-◌, ◌<◌, ◌≤◌, true, List, [], ◌∷◌, ◌++◌, length, map, replicate, Result, Ok, Err, string_bytes}
+use Rattle.std.specs.List.{range_with_len}
+use Rattle.design_model.specs.declared.command.Command.{Command}
+use Rattle.design_model.specs.declared.command.Command.TheVariants as command
 use Rattle.design_model.specs.declared.point.Point.{Point}
 use Rattle.design_model.specs.Counts.{counts_of}
 use Rattle.design_model.specs.Designs.{DesignValue}
 use Rattle.format_traits.specs.declared.fault.ReadFault.{ReadFault}
+use Rattle.format_traits.specs.declared.format_object.TheConstants.{LEAST_LIMIT}
 use Rattle.format_traits.specs.declared.loaded.Loaded.{Loaded}
 use Rattle.format_traits.specs.Laws.{MovesWithin, ReadsAgain}
 use Rattle.format_traits.specs.Meanings.{Meaning}
 use Rattle.format_traits.specs.PlainDesigns.{IsPlain}
 use Rattle.hoop_check.specs.declared.fitting.Fit.{Fit}
-use Rattle.line_graph.specs.Drawings.{DrawingValue}
-use Rattle.line_graph.specs.Laws.{along_first}
-use Rattle.line_graph.specs.Loops.{SpellsLoop}
+use Rattle.line_graph.specs.declared.pass.Pass.{Pass}
+use Rattle.line_graph.specs.Drawings.{DrawingValue, block_of}
+use Rattle.line_graph.specs.DrawingText.{drawing_of}
+use Rattle.line_graph.specs.Pieces.{are_loops, single_lines}
+use Rattle.line_graph.specs.Sewing.{sewn_design}
+use Rattle.line_graph.specs.SewnPieces.{along, along_each}
+use Rattle.line_graph.specs.Walks.{cost_of_line}
 use Rattle.outside_io.specs.Blames.{read_of}
 use Rattle.outside_io.specs.Causes.{Faults, IsLonger}
 use Rattle.outside_io.specs.Files.{HoldsNow, IsName, Lacks, WhereTold}
@@ -21,19 +28,23 @@ use Rattle.step_splitter.specs.declared.refitting.RefitMode.{RefitMode}
 use Rattle.step_splitter.specs.declared.refitting.RefitMode.TheVariants as mode
 use Rattle.stitch_cli.specs.declared.delivery.Output.{Output}
 use Rattle.stitch_cli.specs.declared.making.Made.{Made}
+use Rattle.stitch_cli.specs.declared.making.Routed.{Routed}
+use Rattle.stitch_cli.specs.declared.reports.PieceReport.{PieceReport}
 use Rattle.stitch_cli.specs.declared.requests.RouteNames.{RouteNames}
 use Rattle.stitch_cli.specs.declared.rewriting.Changes.{Changes}
 use Rattle.stitch_cli.specs.declared.rewriting.Changes.TheVariants as changes
+use Rattle.stitch_cli.specs.declared.sewing.Sewn.{Sewn}
 use Rattle.stitch_cli.specs.declared.stop.Refusal.{Refusal}
 use Rattle.stitch_cli.specs.declared.stop.Refusal.TheVariants as refusal
 use Rattle.stitch_cli.specs.declared.stop.Stop.{Stop}
 use Rattle.stitch_cli.specs.declared.stop.Stop.TheVariants as stop
+use Rattle.stitch_cli.specs.Certificates.{PieceCert}
 use Rattle.stitch_cli.specs.Changes.{Becomes, BecomesAll, Change, cut, split}
 use Rattle.stitch_cli.specs.Hoops.{fitted_as}
 use Rattle.stitch_cli.specs.Products.{Product, Written}
 use Rattle.stitch_cli.specs.Requests.{SpellEdits}
 use Rattle.stitch_cli.specs.Rewrites.{written_report}
-use Rattle.stitch_cli.specs.Routes.{IsBestWalk, SewsIn, certificate_of, report_of}
+use Rattle.stitch_cli.specs.Routes.{HasOtherPieces, IsRouted}
 use Rattle.stitch_cli.specs.Sights.{StoreSight}
 
 -- an output by its name and its content
@@ -49,11 +60,11 @@ abbrev pub product_of : List Output → List ℕ → Product
 product_of outputs report = record { outputs = all_written outputs; report = report }
 
 -- the two outputs of a route, the certificate first, and its report
-abbrev pub route_product : RouteNames → Made → Product
-route_product names made = record {
-  outputs = (record { name = names.cert.now; content = certificate_of along_first })
-      ∷ (record { name = names.out.now; content = made.bytes }) ∷ [];
-  report = made.report;
+abbrev pub routed_product : RouteNames → Routed → Product
+routed_product names routed = record {
+  outputs = (record { name = names.cert.now; content = routed.cert })
+      ∷ (record { name = names.out.now; content = routed.made.bytes }) ∷ [];
+  report = routed.made.report;
 }
 
 -- each output has a name that a file may have
@@ -155,39 +166,73 @@ IsRemade target d (Err stop.Missing) = ⊥
 IsRemade target d (Err stop.NotRead) = ⊥
 IsRemade target d (Err stop.Memory) = Unit {0}
 
--- the design of one line: its thread, a stitch at each point, and a trim
-abbrev pub line_design : ℕ → List Point → DesignValue
-line_design thread points = record {
-  label = [];
-  threads = thread ∷ [];
-  commands = map (λ p. Stitch p) points ++ Trim ∷ [];
+-- the design with further commands
+abbrev pub with_commands : DesignValue → List Command → DesignValue
+with_commands d more = record d { commands = d.commands ++ more }
+
+-- the commands that sew on: as many stops as the block is above that of the walk before, a stitch at
+-- each needle, and a trim
+abbrev pub walk_commands : (before block : ℕ) → List Point → List Command
+walk_commands before block points =
+    replicate (block - before) command.Stop
+    ++ (map (λ p. command.Stitch p) points ++ command.Trim ∷ [])
+
+-- the walks along all lines of a drawing
+abbrev pub along_all : DrawingValue → List (List Pass)
+along_all d = along_each (length d.lines)
+
+-- each line of a drawing as a piece of its own
+abbrev pub each_alone : DrawingValue → List (List ℕ)
+each_alone d = single_lines (length d.lines)
+
+-- what the report says of a line that is a piece of its own, sewn along
+abbrev pub line_report : DrawingValue → ℕ → PieceReport
+line_report d line = record {
+  block = block_of d line + 1;
+  piece = line + 1;
+  lines = 1;
+  cost = cost_of_line d line;
+  retraced = 0;
 }
+
+-- the certificates of so many lines, each sewn along
+abbrev pub line_certs : ℕ → List PieceCert
+line_certs count = map (λ line. record { retraced = 0; walk = along line }) (range_with_len 0 count)
+
+-- the sewn design of the walks along all lines, and what the report says of the lines
+pub record IsSewnAlong (d : DrawingValue) (sewn : Sewn) : Type 0 where
+  pub design : sewn.design ≡ sewn_design d (along_all d)
+  pub pieces : sewn.pieces ≡ map (line_report d) (range_with_len 0 (length d.lines))
 
 -- every format whose limit is not below the step can write the design
 abbrev pub IsPlainAbove : ℕ → DesignValue → Type 0
-IsPlainAbove step design = (limit : ℕ) → step ≤ limit → IsPlain limit design
+IsPlainAbove step design = (limit : ℕ) → LEAST_LIMIT ≤ limit → step ≤ limit → IsPlain limit design
 
--- what is written for a drawing of one closed line
-pub record IsMadeOf (format : Meaning) (d : DrawingValue) (made : Made) : Type 0 where
+-- what is made for a drawing whose lines are loops
+pub record IsMadeOf (format : Meaning) (d : DrawingValue) (routed : Routed) : Type 0 where
   pub step : d.step ≤ format.limit
-  pub best : IsBestWalk d along_first
-  pub sewn : SewsIn format d along_first made.bytes
-  pub report : made.report ≡ report_of d
+  pub is : IsRouted format d routed.made.bytes routed.cert routed.made.report
 
 -- the making of what is written
-abbrev pub IsMade : Meaning → DrawingValue → Result Made Stop → Type 0
-IsMade format d (Ok made) = IsMadeOf format d made
+abbrev pub IsMade : Meaning → DrawingValue → Result Routed Stop → Type 0
+IsMade format d (Ok routed) = IsMadeOf format d routed
 IsMade format d (Err (stop.Refused (refusal.StepTooLong step))) = (d.step ≡ step) × (format.limit < step)
 IsMade format d (Err (stop.Refused _)) = ⊥
 IsMade format d (Err stop.Missing) = ⊥
 IsMade format d (Err stop.NotRead) = ⊥
 IsMade format d (Err stop.Memory) = Unit {0}
 
--- the reading of the text of a drawing of one closed line
-abbrev pub ReadsLine : List ℕ → Result DrawingValue Stop → Type 0
-ReadsLine bytes (Ok d) = SpellsLoop bytes d
-ReadsLine bytes (Err (stop.Refused refusal.NotPlainLoop)) = (d : DrawingValue) → SpellsLoop bytes d → ⊥
-ReadsLine bytes (Err (stop.Refused _)) = ⊥
-ReadsLine bytes (Err stop.Missing) = ⊥
-ReadsLine bytes (Err stop.NotRead) = ⊥
-ReadsLine bytes (Err stop.Memory) = Unit {0}
+-- the bytes say that drawing, and its lines are loops
+pub record SaysLoops (bytes : List ℕ) (d : DrawingValue) : Type 0 where
+  pub said : drawing_of bytes ≡ Ok d
+  pub loops : are_loops d.lines ≡ true
+
+-- the reading of the text of a drawing whose lines are loops
+abbrev pub ReadsLoops : List ℕ → Result DrawingValue Stop → Type 0
+ReadsLoops bytes (Ok d) = SaysLoops bytes d
+ReadsLoops bytes (Err (stop.Refused (refusal.BadDrawing fault))) = drawing_of bytes ≡ Err fault
+ReadsLoops bytes (Err (stop.Refused refusal.NotOnlyLoops)) = HasOtherPieces bytes
+ReadsLoops bytes (Err (stop.Refused _)) = ⊥
+ReadsLoops bytes (Err stop.Missing) = ⊥
+ReadsLoops bytes (Err stop.NotRead) = ⊥
+ReadsLoops bytes (Err stop.Memory) = Unit {0}

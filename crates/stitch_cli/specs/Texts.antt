@@ -5,6 +5,9 @@ use Rattle.format_traits.specs.declared.fault.ReadFault.TheVariants as read
 use Rattle.format_traits.specs.declared.fault.WriteFault.{WriteFault}
 use Rattle.format_traits.specs.declared.fault.WriteFault.TheVariants as write
 use Rattle.format_traits.specs.Meanings.{Meaning}
+use Rattle.line_graph.specs.declared.draw_fault.DrawFault.{DrawFault}
+use Rattle.line_graph.specs.declared.draw_fault.DrawKind.{DrawKind}
+use Rattle.line_graph.specs.declared.draw_fault.DrawKind.TheVariants as kind
 use Rattle.stitch_cli.specs.declared.reports.PieceReport.{PieceReport}
 use Rattle.stitch_cli.specs.declared.stop.Stop.{Stop}
 use Rattle.stitch_cli.specs.declared.stop.Stop.TheVariants as stop
@@ -78,6 +81,26 @@ abbrev pub line_at : (name word digits text : List ℕ) → List ℕ
 line_at name word digits text = (codes "stitch: " ++ (name ++ (word ++ digits)))
     ++ (codes ": " ++ (text ++ line_end))
 
+-- what is wrong with a drawing text; a refusal is never for want of memory
+abbrev pub draw_text : DrawKind → List ℕ
+draw_text kind.BadHeader = codes "not a redwork 1 drawing"
+draw_text kind.BadWord = codes "word not understood"
+draw_text kind.BadNumber = codes "not a number"
+draw_text kind.OutOfRange = codes "number out of range"
+draw_text kind.FewPoints = codes "too few points"
+draw_text kind.RepeatedPoint = codes "point repeated"
+draw_text kind.EmptyBlock = codes "block without a line"
+draw_text kind.NoBlock = codes "no block"
+draw_text kind.TooManyLines = codes "more than 1024 lines"
+draw_text kind.TooManyPoints = codes "more than 65536 points"
+draw_text kind.TooManyBlocks = codes "more than 255 blocks"
+draw_text kind.TooMuchCost = codes "more than 200000 steps"
+draw_text kind.Memory = codes "out of memory"
+
+-- a line about a line of a drawing text, counted from 1
+abbrev pub draw_line : List ℕ → DrawFault → List ℕ
+draw_line name fault = line_at name (codes ": line ") (decimal fault.number) (draw_text fault.kind)
+
 -- a line about a byte of a file, counted from 0
 abbrev pub byte_line : List ℕ → ℕ → List ℕ → List ℕ
 byte_line name offset text = line_at name (codes ": byte ") (decimal offset) text
@@ -122,8 +145,8 @@ large_text x y = codes "stitch: too large by " ++ (x ++ (codes " " ++ (y ++ line
 -- why an order about that subject was refused
 abbrev pub reason_line : Subject → Refusal → List ℕ
 reason_line about refusal.TooLong = line_about about.input (codes "longer than 67108864 bytes")
-reason_line about refusal.NotPlainLoop =
-    line_about about.input (codes "not a plain drawing of one closed line from 0 0")
+reason_line about (refusal.BadDrawing fault) = draw_line about.input fault
+reason_line about refusal.NotOnlyLoops = line_about about.input (codes "a piece is not one closed line")
 reason_line about (refusal.StepTooLong step) = step_line about.input step about.format
 reason_line about (refusal.Unread f) = read_line about.input f
 reason_line about (refusal.Unwritten f) = write_line about.output about.format.limit f

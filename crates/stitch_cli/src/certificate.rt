@@ -1,17 +1,31 @@
-ghost use Rattle.std.specs.Prelude.{◌≡◌};
-ghost use Rattle.line_graph.specs.Laws.{along_first};
-ghost use Rattle.stitch_cli.specs.Routes.{certificate_of};
+ghost use Rattle.std.specs.Prelude.{◌≡◌, ◌<◌, ◌+◌, ◌++◌, ◌^◌, IfOk, OnOk};
+ghost use Rattle.line_graph.specs.SewnPieces.{along};
+ghost use Rattle.stitch_cli.specs.Certificates.{certificate_text, piece_text};
+ghost use Rattle.stitch_cli.specs.Steps.{line_certs};
 
-/// The certificate of a drawing of one closed line: nothing is retraced, and the walk is the line.
-pub(crate) const ONE_LINE: &[u8] = b"redwork-certificate 1
-piece 0
-walk 1
-end
-";
+use crate::design_reports::put_number_line;
+use design_model::{Bytes, Memory};
+use std::alloc::Global;
 
-/// The certificate of the walk along the first line.
-pub(crate) fn certificate() -> &'static [u8]
-    ensures { result.now ≡ certificate_of along_first }
+/// The certificate of so many lines, each of which is a piece of its own and is sewn along: nothing is
+/// retraced.
+pub(crate) fn print_certificate(alloc: Global, lines: u32) -> Result<Bytes, Memory>
+    ensures { IfOk result (λ text. text ≡ certificate_text (line_certs lines)) }
 {
-    ONE_LINE
+    let mut text = Bytes::new(alloc);
+    text.append(b"redwork-certificate 1\n")?;
+    for line in 0..lines {
+        put_line(&mut text, line)?;
+    }
+    text.append(b"end\n")?;
+    Ok(text)
+}
+
+/// Adds the piece of that line alone, and the walk along it.
+fn put_line(text: &mut Bytes, line: u32) -> Result<(), Memory>
+    requires { line + 1 < 2 ^ 32 }
+    ensures { OnOk result (text.new ≡ text.old ++ piece_text (record { retraced = 0; walk = along line })) }
+{
+    put_number_line(text, b"piece 0\nwalk ", line + 1)?;
+    Ok(())
 }

@@ -114,7 +114,8 @@ fn put_point(text: &mut Bytes, point: Point) -> Result<(), Memory>
     Ok(())
 }
 
-fn put_number_line(text: &mut Bytes, word: &[u8], number: u32) -> Result<(), Memory>
+/// Adds a line of a word and a number.
+pub(crate) fn put_number_line(text: &mut Bytes, word: &[u8], number: u32) -> Result<(), Memory>
     ensures { OnOk result (text.new ≡ text.old ++ number_line word.now number) }
 {
     put_number(text, word, number)?;

@@ -3,7 +3,7 @@ ghost use Rattle.stitch_cli.specs.declared.status.Status.TheVariants as status;
 ghost use Rattle.stitch_cli.specs.Endings.{Tells, status_of};
 ghost use Rattle.stitch_cli.specs.Requests.{subject_by};
 ghost use Rattle.stitch_cli.specs.Sights.{Puts, sink_sight};
-ghost use Rattle.stitch_cli.specs.Texts.{byte_line, command_line, large_text, line_about, line_at, long_text, memory_line, place_text, read_line, reason_line, step_line, step_text, stop_line, unprinted_line, unread_line, unwritten_line, usage_text, write_line};
+ghost use Rattle.stitch_cli.specs.Texts.{byte_line, command_line, draw_line, draw_text as draw_text_of, large_text, line_about, line_at, long_text, memory_line, place_text, read_line, reason_line, step_line, step_text, stop_line, unprinted_line, unread_line, unwritten_line, usage_text, write_line};
 
 use crate::putting::{put_five, put_four, put_one, put_three};
 use crate::requests::Names;
@@ -12,6 +12,7 @@ use crate::stop::{Refusal, Stop};
 use crate::usage::usage;
 use format_traits::{Format, ReadFault, WriteFault, ext_of, limit_of};
 use itoa::Buffer;
+use line_graph::{DrawFault, DrawKind};
 use outside_io::{Failed, Sink};
 
 const OUT_OF_MEMORY: &[u8] = b"stitch: out of memory\n";
@@ -122,11 +123,10 @@ fn put_reason<E: Sink>(
 {
     match why {
         Refusal::TooLong => put_about(err, about.input, b"longer than 67108864 bytes"),
-        Refusal::NotPlainLoop => put_about(
-            err,
-            about.input,
-            b"not a plain drawing of one closed line from 0 0",
-        ),
+        Refusal::BadDrawing(fault) => put_draw_fault(err, about.input, fault),
+        Refusal::NotOnlyLoops => {
+            put_about(err, about.input, b"a piece is not one closed line")
+        }
         Refusal::StepTooLong { step } => put_step_above(err, about.input, step, format),
         Refusal::Unread(fault) => put_read_fault(err, about.input, fault),
         Refusal::Unwritten(fault) => put_write_fault(err, about.output, format, fault),
@@ -138,6 +138,37 @@ fn put_reason<E: Sink>(
         }
         Refusal::NoPlace { place, count } => put_no_place(err, about.input, place, count),
         Refusal::TooLarge { x, y } => put_too_large(err, x, y),
+    }
+}
+
+fn put_draw_fault<E: Sink>(err: &mut E, name: &str, fault: DrawFault) -> Result<(), Failed>
+    ensures { Puts (draw_line name.now fault)
+        (sink_sight (E.taken err.old) (E.faults err.old))
+        (sink_sight (E.taken err.new) (E.faults err.new)) result }
+{
+    let mut buffer = Buffer::new();
+    let digits = buffer.format(fault.number).as_bytes();
+    put_at(err, name.as_bytes(), b": line ", digits, draw_text(fault.kind))
+}
+
+/// What is wrong with a drawing text.
+fn draw_text(kind: DrawKind) -> &'static [u8]
+    ensures { result.now ≡ draw_text_of kind }
+{
+    match kind {
+        DrawKind::BadHeader => b"not a redwork 1 drawing",
+        DrawKind::BadWord => b"word not understood",
+        DrawKind::BadNumber => b"not a number",
+        DrawKind::OutOfRange => b"number out of range",
+        DrawKind::FewPoints => b"too few points",
+        DrawKind::RepeatedPoint => b"point repeated",
+        DrawKind::EmptyBlock => b"block without a line",
+        DrawKind::NoBlock => b"no block",
+        DrawKind::TooManyLines => b"more than 1024 lines",
+        DrawKind::TooManyPoints => b"more than 65536 points",
+        DrawKind::TooManyBlocks => b"more than 255 blocks",
+        DrawKind::TooMuchCost => b"more than 200000 steps",
+        DrawKind::Memory => b"out of memory",
     }
 }
 

@@ -5,23 +5,22 @@ ghost use Rattle.stitch_cli.specs.Orders.{Makes};
 ghost use Rattle.stitch_cli.specs.Requests.{AreNames, route_order, routing};
 ghost use Rattle.stitch_cli.specs.Runs.{sights};
 ghost use Rattle.stitch_cli.specs.Sights.{store_sight};
-ghost use Rattle.stitch_cli.specs.Steps.{ReadsLine, route_product};
+ghost use Rattle.stitch_cli.specs.Steps.{ReadsLoops, routed_product};
 
-use crate::certificate::certificate;
 use crate::delivery::{Output, deliver};
-use crate::making::{Made, make};
+use crate::making::{Routed, make};
 use crate::messages::tell_stop;
 use crate::reading::read_input;
 use crate::requests::{Names, RouteNames};
 use crate::status::Status;
 use crate::stop::{Refusal, Stop};
 use format_traits::Format;
-use line_graph::{Drawing, LoopFault, read_loop};
+use line_graph::{DrawFault, DrawKind, Drawing, only_loops, read_drawing};
 use outside_io::{Sink, Store};
 use std::alloc::Global;
 
-/// Routes a drawing of one closed line: reads it, and only then writes the certificate, the design
-/// and the report, in this order.
+/// Routes a drawing in which each piece is one closed line: reads it, and only then writes the
+/// certificate, the design and the report, in this order.
 pub(crate) fn route<S: Store, O: Sink, E: Sink>(
     alloc: Global,
     names: &RouteNames<'_>,
@@ -39,7 +38,7 @@ pub(crate) fn route<S: Store, O: Sink, E: Sink>(
         (O.taken out.new) (O.faults out.new) (E.taken err.new) (E.faults err.new)) result }
 {
     match prepare(alloc, names, format, store) {
-        Ok(made) => deliver_route(names, &made, store, out, err),
+        Ok(routed) => deliver_route(names, &routed, store, out, err),
         Err(why) => tell_stop(
             err,
             &Names {
@@ -54,14 +53,14 @@ pub(crate) fn route<S: Store, O: Sink, E: Sink>(
 
 fn deliver_route<S: Store, O: Sink, E: Sink>(
     names: &RouteNames<'_>,
-    made: &Made,
+    routed: &Routed,
     store: &mut S,
     out: &mut O,
     err: &mut E,
 ) -> Status
     requires names { AreNames names.now }
     requires apart { names.now.cert.now ≢ names.now.out.now }
-    ensures { Delivers (route_product names.now made.now)
+    ensures { Delivers (routed_product names.now routed.now)
         (sights (S.files store.old) (S.faults store.old) (S.blame store.old)
         (O.taken out.old) (O.faults out.old) (E.taken err.old) (E.faults err.old))
         (sights (S.files store.new) (S.faults store.new) (S.blame store.new)
@@ -70,14 +69,14 @@ fn deliver_route<S: Store, O: Sink, E: Sink>(
     let outputs = [
         Output {
             name: names.cert,
-            content: certificate(),
+            content: routed.cert.as_slice(),
         },
         Output {
             name: names.out,
-            content: made.bytes.as_slice(),
+            content: routed.made.bytes.as_slice(),
         },
     ];
-    deliver(&outputs, made.report.as_slice(), store, out, err)
+    deliver(&outputs, routed.made.report.as_slice(), store, out, err)
 }
 
 /// Does all that can refuse.
@@ -86,10 +85,10 @@ fn prepare<S: Store>(
     names: &RouteNames<'_>,
     format: &Box<dyn Format>,
     store: &mut S,
-) -> Result<Made, Stop>
+) -> Result<Routed, Stop>
     requires { AreNames names.now }
-    ensures done { IfOk result (λ made. Makes (routing (route_order names.now (meaning format.now)))
-        (S.files store.old) (route_product names.now made)) }
+    ensures done { IfOk result (λ routed. Makes (routing (route_order names.now (meaning format.now)))
+        (S.files store.old) (routed_product names.now routed)) }
     ensures same { OnOk result (
         store_sight (S.files store.new) (S.faults store.new) (S.blame store.new)
         ≡ store_sight (S.files store.old) (S.faults store.old) (S.blame store.old)) }
@@ -101,23 +100,33 @@ fn prepare<S: Store>(
         Ok(bytes) => bytes,
         Err(why) => return Err(why),
     };
-    let drawing = match read_line(alloc, bytes.as_slice()) {
+    let drawing = match read_loops(alloc, bytes.as_slice()) {
         Ok(drawing) => drawing,
         Err(why) => return Err(why),
     };
     match make(alloc, &drawing, format) {
-        Ok(made) => Ok(made),
+        Ok(routed) => Ok(routed),
         Err(why) => Err(why),
     }
 }
 
-fn read_line(alloc: Global, bytes: &[u8]) -> Result<Drawing, Stop>
+/// The drawing that the bytes say, where each of its pieces is one closed line.
+fn read_loops(alloc: Global, bytes: &[u8]) -> Result<Drawing, Stop>
     requires { length bytes.now ≤ MAX_FILE }
-    ensures { ReadsLine bytes.now result }
+    ensures { ReadsLoops bytes.now result }
 {
-    match read_loop(alloc, bytes) {
-        Ok(drawing) => Ok(drawing),
-        Err(LoopFault::NotPlainLoop) => Err(Stop::Refused(Refusal::NotPlainLoop)),
-        Err(LoopFault::Memory) => Err(Stop::Memory),
+    let drawing = match read_drawing(alloc, bytes) {
+        Ok(drawing) => drawing,
+        Err(
+            DrawFault {
+                kind: DrawKind::Memory,
+                number: _,
+            },
+        ) => return Err(Stop::Memory),
+        Err(fault) => return Err(Stop::Refused(Refusal::BadDrawing(fault))),
+    };
+    if !only_loops(&drawing) {
+        return Err(Stop::Refused(Refusal::NotOnlyLoops));
     }
+    Ok(drawing)
 }

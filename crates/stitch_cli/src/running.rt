@@ -16,16 +16,16 @@ use crate::routing::route;
 use crate::showing::show;
 use crate::status::Status;
 use format_traits::{Format, find};
-use line_graph::plain_texts_share_steps;
 use outside_io::{Sink, Store};
 use std::alloc::Global;
 
 /// Does what the words ask for: reads the input from the store, writes the outputs there, prints the
 /// report to `out`, and where it is not done puts one line, or the usage text, to `err`.
 ///
-/// `route DRAWING OUT CERT` reads DRAWING whole, refuses what is too long, what is no plain drawing of
-/// one closed line, and a step above the limit of OUT's format, in this order, and only then writes
-/// CERT, OUT and the report. `show FILE` reads FILE whole and prints its counts, extent and blocks.
+/// `route DRAWING OUT CERT` reads DRAWING whole, refuses what is too long, what is no drawing, a drawing
+/// with a piece that isn't one closed line, and a step above the limit of OUT's format, in this order,
+/// and only then writes CERT, OUT and the report.
+/// `show FILE` reads FILE whole and prints its counts, extent and blocks.
 /// `convert IN OUT` and `edit IN OUT EDIT...` read IN whole, refit or edit its design, and write OUT.
 /// `hoop FILE WIDTH HEIGHT` reads FILE whole and says whether its design fits.
 pub fn run<S: Store, O: Sink, E: Sink>(
@@ -84,7 +84,6 @@ pub fn run<S: Store, O: Sink, E: Sink>(
         (sights (S.files store.old) (S.faults store.old) (S.blame store.old)
         (O.taken out.old) (O.faults out.old) (E.taken err.old) (E.faults err.old)) result }
 {
-    plain_texts_share_steps();
     run_once(alloc, words, formats, store, out, err)
 }
 

@@ -3,14 +3,17 @@ ghost use Rattle.std.specs.Prelude.{◌≡◌};
 use crate::status::Status;
 use design_model::Memory;
 use format_traits::{ReadFault, WriteFault};
+use line_graph::DrawFault;
 
 /// Why an order was refused.
 #[derive(Clone, Copy, Debug, PartialEq, Eq)]
 pub enum Refusal {
     /// The input file has more than 64 MiB.
     TooLong,
-    /// The text is not the plain spelling of one closed line that begins at 0 0.
-    NotPlainLoop,
+    /// The drawing's text has this fault; never for want of memory.
+    BadDrawing(DrawFault),
+    /// A piece of the drawing is not one closed line.
+    NotOnlyLoops,
     /// The drawing's step, in tenths of a millimetre, is above the limit of the output's format.
     StepTooLong { step: u32 },
     /// The input file is none of its format; never for want of memory.

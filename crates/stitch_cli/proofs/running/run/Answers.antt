@@ -22,4 +22,4 @@ pub returns-clause-others : goal.returns-clause-others
 returns-clause-others g c = keeps_others _ _ _ _ c.run_once.ensures
 
 pub returns-clause-decided : goal.returns-clause-decided
-returns-clause-decided g c = decided c.plain_texts_share_steps.ensures _ _ _ _ c.run_once.ensures
+returns-clause-decided g c = decided _ _ _ _ c.run_once.ensures

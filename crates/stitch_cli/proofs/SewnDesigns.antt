@@ -1,0 +1,218 @@
+-- The sewn design of walks, as a design that every format can write.
+use Rattle.std.proofs.Common.{◌≡◌, ◌≢◌, ℕ, zero, suc, ℤ, ◌-ℤ◌, ◌+◌, ◌-◌, ◌*◌, ◌/◌, ◌<◌, ◌≤◌, Bool, true, false, ◌&&◌, List, [], ◌∷◌, ◌++◌, length, map, replicate, All, max, IsTrue, Result, Ok, Err, IsOkAnd, nat_le, unsigned_abs, refl, sym, ap, subst, ◌∙◌, arith, if◌then◌else◌}
+use Rattle.std.proofs.lemmas.Int.{ints}
+use Rattle.std.proofs.lemmas.Bool.Decides.{nat_tests}
+use Rattle.std.proofs.lemmas.List.{length-append, length-map, length-replicate}
+use Rattle.std.proofs.lemmas.List.Elements.{All-head, All-tail}
+use Rattle.std.proofs.lemmas.List.Sums.{sum_by-cons}
+use Rattle.std.proofs.Math.Nat.{div-lt_iff_lt-mul}
+use Rattle.std.specs.Prelude.{sum_by}
+use Rattle.design_model.specs.declared.command.Command.TheVariants.{Stitch, Stop, Trim}
+use Rattle.design_model.specs.declared.command.Command.{Command}
+use Rattle.design_model.specs.declared.point.Point.{Point}
+use Rattle.design_model.specs.Acts.{acts_from, acts_of}
+use Rattle.design_model.specs.Designs.{DesignValue}
+use Rattle.design_model.specs.Points.{is_within, move_between, origin, size_of}
+use Rattle.format_traits.specs.declared.fault.ReadFault.{ReadFault}
+use Rattle.format_traits.specs.declared.loaded.Loaded.{Loaded}
+use Rattle.format_traits.specs.Laws.{IsAgain}
+use Rattle.format_traits.specs.PlainDesigns.{IsPlain, are_plain_from}
+use Rattle.format_traits.specs.Placing.{hops}
+use Rattle.format_traits.specs.Refusals.{stops_of}
+use Rattle.format_traits.specs.Rooms.{loose_room, room_from}
+use Rattle.line_graph.specs.declared.pass.Pass.{Pass}
+use Rattle.line_graph.specs.Drawings.{DrawingValue}
+use Rattle.line_graph.specs.Sewing.{Sews, block_of_walk, commands_after, sewn_design}
+use Rattle.line_graph.specs.SewnPieces.{AreNear, AreWritable, stops_after}
+use Rattle.line_graph.specs.Walks.{needles_of_walk}
+use Rattle.step_splitter.specs.Chains.{IsNeedlePoint, KeepsClose}
+
+-- both of two tests hold, or either alone
+both : (a b : Bool) → a ≡ true → b ≡ true → (a && b) ≡ true
+both true b first second = second
+both false b first second = first
+
+left : (a b : Bool) → (a && b) ≡ true → a ≡ true
+left true b here = refl
+left false b here = here
+
+right : (a b : Bool) → (a && b) ≡ true → b ≡ true
+right true b here = here
+right false b here = cc
+
+-- what is within one limit is within a greater one
+le_more : (n small large : ℕ) → small ≤ large → nat_le n small ≡ true → nat_le n large ≡ true
+le_more n small large more within = grind (arith, nat_tests)
+
+within_more : (small large : ℕ) (m : Point) → small ≤ large → IsTrue (is_within small m) → IsTrue (is_within large m)
+within_more small large m more within = both _ _
+    (le_more (unsigned_abs m.x) small large more (left _ (nat_le (unsigned_abs m.y) small) within))
+    (le_more (unsigned_abs m.y) small large more (right (nat_le (unsigned_abs m.x) small) _ within))
+
+-- two needles lie at most 60,000 apart on each axis
+is_le : (n limit : ℕ) → nat_le n limit ≡ true → n ≤ limit
+is_le n limit within = grind (arith, nat_tests)
+
+apart_few : (a b : ℤ) → unsigned_abs a ≤ 30000 → unsigned_abs b ≤ 30000 → unsigned_abs (b -ℤ a) ≤ 60000
+apart_few a b one other = omega (arith, ints)
+
+max_few : (a b most : ℕ) → a ≤ most → b ≤ most → max a b ≤ most
+max_few a b most one other = omega arith
+
+far_few : (p q : Point) → IsNeedlePoint p → IsNeedlePoint q → size_of (move_between p q) ≤ 60000
+far_few p q one other = max_few _ _ 60000
+    (apart_few p.x q.x (is_le _ 30000 (left _ (nat_le (unsigned_abs p.y) 30000) one)) (is_le _ 30000 (left _ (nat_le (unsigned_abs q.y) 30000) other)))
+    (apart_few p.y q.y (is_le _ 30000 (right (nat_le (unsigned_abs p.x) 30000) _ one)) (is_le _ 30000 (right (nat_le (unsigned_abs q.x) 30000) _ other)))
+
+-- so that 496 moves lead from one to the other in any format
+quotient_few : (limit size : ℕ) → 121 ≤ limit → size ≤ 60000 → (size + (limit - 1)) / limit ≤ 496
+quotient_few limit size least few =
+    let some : 0 < limit = omega (arith, least) in
+    let less : size + (limit - 1) < 497 * limit = omega (arith, least, few) in
+    let is : (size + (limit - 1)) / limit < 497 = (div-lt_iff_lt-mul some).1 less in
+    omega (arith, is)
+
+hops_few : (limit : ℕ) (p q : Point) → 121 ≤ limit → IsNeedlePoint p → IsNeedlePoint q → hops limit (move_between p q) ≤ 496
+hops_few limit p q least one other = quotient_few limit (size_of (move_between p q)) least (far_few p q one other)
+
+by_test : (b : Bool) (jumps : ℕ) → (if b then jumps + 1 else jumps + 2) ≤ jumps + 2
+by_test true jumps = omega arith
+by_test false jumps = omega arith
+
+loose_few : (jumps : ℕ) → loose_room jumps ≤ jumps + 2
+loose_few jumps = by_test (nat_le jumps 2) jumps
+
+-- the acts of commands are plain whatever number they begin at: with so many stops, and within so much room
+pub record Goes (limit : ℕ) (loose : Bool) (place : Point) (commands : List Command) (stops room : ℕ) : Type 0 where
+  pub needles : (n : ℕ) → IsTrue (are_plain_from limit loose place (acts_from n loose false commands))
+  pub stops_are : (n : ℕ) → stops_of (acts_from n loose false commands) ≡ stops
+  pub room_to : (n : ℕ) → room_from limit loose place (acts_from n loose false commands) ≤ room
+
+-- so they are from each place where a needle may be, once the thread is loose
+abbrev pub GoesOn : ℕ → List Command → ℕ → ℕ → Type 0
+GoesOn limit commands stops room = (place : Point) → IsNeedlePoint place → Goes limit true place commands stops room
+
+-- a stop takes one place
+stops_go : (limit k : ℕ) (place : Point) (rest : List Command) (stops room : ℕ) → Goes limit true place rest stops room
+    → Goes limit true place (replicate k Stop ++ rest) (k + stops) (k + room)
+stops_go limit zero place rest stops room goes = record {
+  needles = goes.needles;
+  stops_are = λ n. omega (arith, goes.stops_are n);
+  room_to = λ n. omega (arith, goes.room_to n);
+}
+stops_go limit (suc k) place rest stops room goes =
+    let more = stops_go limit k place rest stops room goes in
+    record {
+      needles = λ n. more.needles (n + 1);
+      stops_are = λ n. omega (arith, more.stops_are (n + 1));
+      room_to = λ n. omega (arith, more.room_to (n + 1));
+    }
+
+-- a trim takes four
+trim_goes : (limit : ℕ) (place : Point) (rest : List Command) (stops room : ℕ) → Goes limit true place rest stops room
+    → Goes limit false place (Trim ∷ rest) stops (4 + room)
+trim_goes limit place rest stops room goes = record {
+  needles = λ n. goes.needles (n + 1);
+  stops_are = λ n. omega (arith, goes.stops_are (n + 1));
+  room_to = λ n. omega (arith, goes.room_to (n + 1));
+}
+
+-- each stitch within the limit of the one before takes one
+stitches_go : (step limit : ℕ) (place : Point) (points : List Point) (rest : List Command) (stops room : ℕ) → step ≤ limit
+    → All IsNeedlePoint (place ∷ points) → KeepsClose step place points → GoesOn limit rest stops room
+    → Goes limit false place (map (λ q. Stitch q) points ++ Trim ∷ rest) stops (length points + (4 + room))
+stitches_go step limit place [] rest stops room more in_range close on =
+    let later = trim_goes limit place rest stops room (on place (All-head IsNeedlePoint place [] in_range)) in
+    record {
+      needles = later.needles;
+      stops_are = later.stops_are;
+      room_to = λ n. omega (arith, later.room_to n);
+    }
+stitches_go step limit place (p ∷ points) rest stops room more in_range close on =
+    let later = stitches_go step limit p points rest stops room more (All-tail IsNeedlePoint place (p ∷ points) in_range) close.1 on in
+    record {
+      needles = λ n. both _ _ (within_more step limit (move_between place p) more close.0) (later.needles (n + 1));
+      stops_are = λ n. omega (arith, later.stops_are (n + 1));
+      room_to = λ n. omega (arith, later.room_to (n + 1));
+    }
+
+-- the first stitch of a walk takes at most 498, since the thread is loose
+walk_goes : (step limit : ℕ) (points : List Point) (rest : List Command) (stops room : ℕ) → 121 ≤ limit → step ≤ limit
+    → AreNear step points → GoesOn limit rest stops room
+    → GoesOn limit (map (λ q. Stitch q) points ++ Trim ∷ rest) stops (length points + (501 + room))
+walk_goes step limit [] rest stops room least more near on place in_range = absurd (near.some refl)
+walk_goes step limit (p ∷ points) rest stops room least more near on place in_range =
+    let later = stitches_go step limit p points rest stops room more near.in_range near.close on in
+    let far = hops_few limit place p least in_range (All-head IsNeedlePoint p points near.in_range) in
+    let few = loose_few (hops limit (move_between place p)) in
+    record {
+      needles = λ n. later.needles (n + 1);
+      stops_are = λ n. omega (arith, later.stops_are (n + 1));
+      room_to = λ n. omega (arith, later.room_to (n + 1), far, few);
+    }
+
+-- the needles of walks, counted
+abbrev pub needle_sum : DrawingValue → List (List Pass) → ℕ
+needle_sum d walks = sum_by (λ (walk : List Pass). length (needles_of_walk d walk)) walks
+
+module _ (d : DrawingValue) (limit : ℕ) (least : 121 ≤ limit) (more : d.step ≤ limit) where
+  walks_go : (block : ℕ) (walks : List (List Pass)) → All (λ walk. AreNear d.step (needles_of_walk d walk)) walks
+      → GoesOn limit (commands_after d block walks) (stops_after d block walks)
+      (stops_after d block walks + (needle_sum d walks + 501 * length walks))
+  walks_go block [] near place in_range = record {
+    needles = λ n. refl;
+    stops_are = λ n. refl;
+    room_to = λ n. omega arith;
+  }
+  walks_go block (walk ∷ rest) near place in_range =
+      let later = walks_go (block_of_walk d walk) rest (All-tail (λ one. AreNear d.step (needles_of_walk d one)) walk rest near) in
+      let here = walk_goes d.step limit (needles_of_walk d walk) (commands_after d (block_of_walk d walk) rest) _ _ least more
+      (All-head (λ one. AreNear d.step (needles_of_walk d one)) walk rest near) later place in_range in
+      let all = stops_go limit (block_of_walk d walk - block) place _ _ _ here in
+      let sum = sum_by-cons (λ (one : List Pass). length (needles_of_walk d one)) walk rest in
+      record {
+        needles = all.needles;
+        stops_are = all.stops_are;
+        room_to = λ n. omega (arith, all.room_to n, sum);
+      }
+
+-- the sewn design of walks that can be written is plain
+pub sewn_is_plain : (d : DrawingValue) (walks : List (List Pass)) (limit : ℕ) → AreWritable d walks → 121 ≤ limit → d.step ≤ limit
+    → IsPlain limit (sewn_design d walks)
+sewn_is_plain d walks limit able least more =
+    let goes = walks_go d limit least more 0 walks able.near origin refl in
+    record {
+      needles = goes.needles 1;
+      stops = omega (arith, goes.stops_are 1, able.stops_to);
+      room = omega (arith, goes.room_to 1, able.stops_to, able.needles_to, able.walks_to);
+    }
+
+-- the commands of walks are their stops, their needles and a trim for each
+commands_count : (d : DrawingValue) (block : ℕ) (walks : List (List Pass))
+    → length (commands_after d block walks) ≡ stops_after d block walks + (needle_sum d walks + length walks)
+commands_count d block [] = omega arith
+commands_count d block (walk ∷ rest) =
+    let points : List Point = needles_of_walk d walk in
+    let later : List Command = commands_after d (block_of_walk d walk) rest in
+    omega (
+      arith,
+      commands_count d (block_of_walk d walk) rest,
+      length-append (replicate (block_of_walk d walk - block) Stop) (map (λ p. Stitch p) points ++ Trim ∷ later),
+      length-append (map (λ (p : Point). Stitch p) points) (Trim ∷ later),
+      length-map points (λ (p : Point). Stitch p),
+      length-replicate (block_of_walk d walk - block) Stop,
+      sum_by-cons (λ (one : List Pass). length (needles_of_walk d one)) walk rest,
+    )
+
+-- those that can be written are few
+pub commands_few : (d : DrawingValue) (walks : List (List Pass)) → AreWritable d walks
+    → length (commands_after d 0 walks) ≤ 1000000
+commands_few d walks able =
+    omega (arith, commands_count d 0 walks, able.stops_to, able.needles_to, able.walks_to)
+
+-- what reads again as a design sews what the design sews
+pub sews_again : (d : DrawingValue) (walks : List (List Pass)) (design : DesignValue) (read : Result Loaded ReadFault)
+    → Sews d walks (acts_of design) → IsOkAnd read (λ loaded. IsAgain design loaded)
+    → IsOkAnd read (λ loaded. (loaded.ended ≡ true) × Sews d walks (acts_of loaded.design))
+sews_again d walks design (Ok loaded) sews again = (again.ended, again.acts ∙ sews)
+sews_again d walks design (Err f) sews again = absurd again
