@@ -5,8 +5,10 @@
 mod tests;
 
 use dst_codec::Dst;
+use exp_codec::Exp;
 use format_traits::Format;
 use outside_io::{DirStore, StdSink};
+use pes_codec::{Pec, Pes};
 use std::alloc::AllocError;
 use std::process::ExitCode;
 use std::{env, io};
@@ -42,6 +44,9 @@ fn start(rt: &HostRuntime, words: &[String]) -> Result<Status, AllocError> {
     let alloc = rt.alloc();
     let mut formats: Vec<Box<dyn Format>> = Vec::new(alloc);
     formats.push(Box::new(alloc, Dst)?)?;
+    formats.push(Box::new(alloc, Exp)?)?;
+    formats.push(Box::new(alloc, Pec)?)?;
+    formats.push(Box::new(alloc, Pes)?)?;
     let mut store = DirStore::new(rt);
     let mut out = StdSink::new(rt.stdout());
     let mut err = StdSink::new(rt.stderr());
