@@ -14,8 +14,8 @@ use Rattle.format_traits.specs.Meanings.{Meaning}
 use Rattle.format_traits.specs.PlainDesigns.{IsPlain}
 use Rattle.line_graph.specs.declared.pass.Pass.{Pass}
 use Rattle.line_graph.specs.Drawings.{DrawingValue, block_of}
-use Rattle.line_graph.specs.Sewing.{block_of_walk, commands_after, sewn_design}
-use Rattle.line_graph.specs.SewnPieces.{AreWritable, IsBestWalk, IsSewnBy, along, along_each}
+use Rattle.line_graph.specs.Sewing.{commands_after, sewn_design}
+use Rattle.line_graph.specs.SewnPieces.{AreWritable, IsBestWalk, IsSewnBy, along}
 use Rattle.line_graph.specs.Walks.{cost_of_line, cost_of_lines, needles_of, needles_of_walk}
 use Rattle.stitch_cli.specs.declared.reports.PieceReport.{PieceReport}
 use Rattle.stitch_cli.specs.Certificates.{PieceCert, certificate_text, line_end, piece_text}
@@ -41,13 +41,6 @@ left_from n line there =
 
 left_first : (d : DrawingValue) (line : ℕ) → line < length d.lines → left_along d line ≡ along line ∷ left_along d (line + 1)
 left_first d line there = ap (map along) (left_from (length d.lines) line there)
-
--- at the beginning
-pub sews_first : (d : DrawingValue) → SewsOn d 0 0 (record { label = d.label; threads = d.threads; commands = [] })
-sews_first d = record {
-  whole = ap (λ (walks : List (List Pass)). sewn_design d walks)
-      (ap (λ (n : ℕ). map along (range_with_len 0 n)) (omega arith));
-}
 
 -- the commands of a walk, and those of the walks behind it
 walk_first : (d : DrawingValue) (line before : ℕ) (rest : List (List Pass))
@@ -94,14 +87,6 @@ has_room d line before block points design there sews able at is =
       ap length (next_first d line before block points there at is),
       length-append (walk_commands before block points) later,
     )
-
--- at the end
-pub sews_all : (d : DrawingValue) (line before : ℕ) (design : DesignValue) → line ≡ length d.lines → SewsOn d line before design
-    → design ≡ sewn_design d (along_all d)
-sews_all d line before design end sews =
-    let none : length d.lines - line ≡ 0 = omega (arith, end) in
-    ap (λ (cs : List Command). record design { commands = cs }) (sym (append-nil design.commands))
-    ∙ (ap (λ (n : ℕ). with_commands design (commands_after d before (map along (range_with_len line n)))) (sym none) ∙ sews.whole)
 
 -- a line that is a piece of its own, sewn along
 nothing_retraced : (n : ℕ) → n - n ≡ 0
