@@ -1,6 +1,5 @@
 -- Changes decide: they make one design of another, or are refused.
-use Rattle.std.proofs.Common.{◌≡◌, ◌⊎◌, ◌<◌, ◌≤◌, ℕ, inl, inr, List, [], ◌∷◌, length, Result, Ok, Err, sym, ◌∙◌, subst, arith}
-use Rattle.design_model.specs.declared.design.TheConstants.{MAX_COMMANDS}
+use Rattle.std.proofs.Common.{◌≡◌, ℕ, inl, inr, List, [], ◌∷◌, Result, Ok, Err, sym, ◌∙◌, subst, arith}
 use Rattle.design_model.specs.Designs.{DesignValue}
 use Rattle.format_traits.specs.declared.fault.ReadFault.{ReadFault}
 use Rattle.format_traits.specs.declared.loaded.Loaded.{Loaded}

@@ -1,5 +1,5 @@
 -- Where no count of faults rises, the words and the files decide.
-use Rattle.std.proofs.Common.{◌≡◌, ℕ, Bool, true, false, ◌<◌, ◌≤◌, ◌⊎◌, inl, inr, List, Option, Some, None, Ok, Err, Result, IsSome, length, ap, refl, sym, subst, ◌∙◌, arith}
+use Rattle.std.proofs.Common.{◌≡◌, ℕ, Bool, true, false, ◌≤◌, ◌⊎◌, inl, inr, List, Option, Some, None, Ok, Err, Result, IsSome, length, ap, refl, subst, arith}
 use Rattle.line_graph.specs.Drawings.{DrawingValue}
 use Rattle.line_graph.specs.declared.draw_fault.DrawFault.{DrawFault}
 use Rattle.line_graph.specs.Pieces.{are_loops}
@@ -13,8 +13,8 @@ use Rattle.stitch_cli.specs.declared.stop.Refusal.{Refusal}
 use Rattle.stitch_cli.specs.declared.stop.Refusal.TheVariants as refusal
 use Rattle.stitch_cli.specs.declared.stop.Stop.{Stop}
 use Rattle.stitch_cli.specs.declared.stop.Stop.TheVariants as stop
-use Rattle.stitch_cli.specs.Endings.{Delivers, Ends, OrderEnds, Stops, Tells, all, but_report, made, status_of, stopped, up_to}
-use Rattle.stitch_cli.specs.Orders.{Comes, Makes, Refuses, StepRefuses}
+use Rattle.stitch_cli.specs.Endings.{Ends, OrderEnds, Stops, all, but_report, made, status_of, stopped, up_to}
+use Rattle.stitch_cli.specs.Orders.{Comes, Makes, Refuses}
 use Rattle.stitch_cli.specs.Hoops.{HoopOf}
 use Rattle.stitch_cli.specs.Products.{Product}
 use Rattle.stitch_cli.specs.Rewrites.{RewriteOf}

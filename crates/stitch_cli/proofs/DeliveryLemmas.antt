@@ -1,5 +1,5 @@
 -- Outputs written one after another.
-use Rattle.std.proofs.Common.{◌≡◌, ◌≢◌, ◌++◌, ◌∷◌, [], ℕ, List, Option, Some, None, refl, sym, ap, subst, ◌∙◌}
+use Rattle.std.proofs.Common.{◌≡◌, ◌++◌, ◌∷◌, [], ℕ, List, Option, Some, None, refl, sym, ap, subst, ◌∙◌}
 use Rattle.outside_io.specs.Blames.{write_of}
 use Rattle.outside_io.specs.Causes.{Faults, Stays}
 use Rattle.outside_io.specs.Files.{ChangesOnly, Files, HoldsNow}

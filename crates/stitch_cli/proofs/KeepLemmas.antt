@@ -10,7 +10,7 @@ use Rattle.stitch_cli.specs.declared.status.Status.{Status}
 use Rattle.stitch_cli.specs.declared.stop.Refusal.{Refusal}
 use Rattle.stitch_cli.specs.declared.stop.Stop.{Stop}
 use Rattle.stitch_cli.specs.declared.stop.Stop.TheVariants as stop
-use Rattle.stitch_cli.specs.Endings.{Delivers, Ends, OrderEnds, Stops, all, but_report, made, stopped, up_to}
+use Rattle.stitch_cli.specs.Endings.{Delivers, Ends, Stops, all, but_report, made, stopped, up_to}
 use Rattle.stitch_cli.specs.Hoops.{fitted_as, hooped_as}
 use Rattle.stitch_cli.specs.Orders.{Makes}
 use Rattle.stitch_cli.specs.Products.{ChangesAmong, IsNoneOf, Product, names_of, only_report}

@@ -1,3 +1,4 @@
+pub mod RouteFacts
 pub mod SewnDesigns
 pub mod LineWalks
 pub mod PutLemmas

@@ -14,20 +14,28 @@ use Rattle.format_traits.specs.Meanings.{Meaning}
 use Rattle.format_traits.specs.PlainDesigns.{IsPlain}
 use Rattle.line_graph.specs.declared.pass.Pass.{Pass}
 use Rattle.line_graph.specs.Drawings.{DrawingValue, block_of}
-use Rattle.line_graph.specs.Sewing.{block_of_walk, commands_after, sewn_design}
-use Rattle.line_graph.specs.SewnPieces.{AreWritable, IsBestWalk, IsSewnBy, along, along_each}
+use Rattle.line_graph.specs.Sewing.{commands_after, sewn_design}
+use Rattle.line_graph.specs.SewnPieces.{AreWritable, IsBestWalk, IsSewnBy, along}
 use Rattle.line_graph.specs.Walks.{cost_of_line, cost_of_lines, needles_of, needles_of_walk}
 use Rattle.stitch_cli.specs.declared.reports.PieceReport.{PieceReport}
 use Rattle.stitch_cli.specs.Certificates.{PieceCert, certificate_text, line_end, piece_text}
-use Rattle.stitch_cli.specs.Routes.{IsRouted, SewsIn, certs_of, piece_report, piece_reports}
+use Rattle.stitch_cli.specs.Routes.{IsRouted, SewsIn, certs_of, piece_report, piece_reports, retraced_cost}
 use Rattle.stitch_cli.specs.Shows.{number_line}
 use Rattle.stitch_cli.specs.Steps.{along_all, each_alone, line_certs, line_report, walk_commands, with_commands}
 use Rattle.stitch_cli.specs.Texts.{penetrations_of, route_report}
 use Rattle.stitch_cli.proofs.SewnDesigns.{commands_few, sewn_is_plain}
 
+-- so many lines from the first one on, each a piece of its own
+abbrev alone_from : ℕ → ℕ → List (List ℕ)
+alone_from first count = map (λ line. line ∷ []) (range_with_len first count)
+
+-- the walks along them
+abbrev pub along_from : ℕ → ℕ → List (List Pass)
+along_from first count = map along (range_with_len first count)
+
 -- the walks along the lines from that one on
 abbrev pub left_along : DrawingValue → ℕ → List (List Pass)
-left_along d line = map along (range_with_len line (length d.lines - line))
+left_along d line = along_from line (length d.lines - line)
 
 -- with the commands that are left the design so far is the sewn design
 pub record SewsOn (d : DrawingValue) (line before : ℕ) (design : DesignValue) : Type 0 where
@@ -39,15 +47,9 @@ left_from n line there =
     let count : n - line ≡ suc (n - (line + 1)) = omega (arith, there) in
     ap (range_with_len line) count
 
-left_first : (d : DrawingValue) (line : ℕ) → line < length d.lines → left_along d line ≡ along line ∷ left_along d (line + 1)
+left_first : (d : DrawingValue) (line : ℕ) → line < length d.lines
+    → left_along d line ≡ along line ∷ left_along d (line + 1)
 left_first d line there = ap (map along) (left_from (length d.lines) line there)
-
--- at the beginning
-pub sews_first : (d : DrawingValue) → SewsOn d 0 0 (record { label = d.label; threads = d.threads; commands = [] })
-sews_first d = record {
-  whole = ap (λ (walks : List (List Pass)). sewn_design d walks)
-      (ap (λ (n : ℕ). map along (range_with_len 0 n)) (omega arith));
-}
 
 -- the commands of a walk, and those of the walks behind it
 walk_first : (d : DrawingValue) (line before : ℕ) (rest : List (List Pass))
@@ -58,7 +60,8 @@ walk_first d line before rest =
     let stops : List Command = replicate (block_of d line - before) Stop in
     let stitches : List Command = map (λ p. Stitch p) (needles_of d line) in
     ap (λ (points : List Point). stops ++ (map (λ p. Stitch p) points ++ Trim ∷ later)) (append-nil (needles_of d line))
-    ∙ sym (append_assoc stops (stitches ++ Trim ∷ []) later ∙ ap (λ (cs : List Command). stops ++ cs) (append_assoc stitches (Trim ∷ []) later))
+    ∙ sym (append_assoc stops (stitches ++ Trim ∷ []) later
+    ∙ ap (λ (cs : List Command). stops ++ cs) (append_assoc stitches (Trim ∷ []) later))
 
 -- what is left to sew begins with the commands of the next line
 next_first : (d : DrawingValue) (line before block : ℕ) (points : List Point) → line < length d.lines
@@ -95,14 +98,6 @@ has_room d line before block points design there sews able at is =
       length-append (walk_commands before block points) later,
     )
 
--- at the end
-pub sews_all : (d : DrawingValue) (line before : ℕ) (design : DesignValue) → line ≡ length d.lines → SewsOn d line before design
-    → design ≡ sewn_design d (along_all d)
-sews_all d line before design end sews =
-    let none : length d.lines - line ≡ 0 = omega (arith, end) in
-    ap (λ (cs : List Command). record design { commands = cs }) (sym (append-nil design.commands))
-    ∙ (ap (λ (n : ℕ). with_commands design (commands_after d before (map along (range_with_len line n)))) (sym none) ∙ sews.whole)
-
 -- a line that is a piece of its own, sewn along
 nothing_retraced : (n : ℕ) → n - n ≡ 0
 nothing_retraced n = omega arith
@@ -114,16 +109,16 @@ report_is : (d : DrawingValue) (line : ℕ) → piece_report d (line + 1) (line 
 report_is d line = rw (nothing_retraced (cost_of_lines d (line ∷ [])), alone_cost d line) refl
 
 cert_is : (d : DrawingValue) (line : ℕ)
-    → (let one : PieceCert = record { retraced = cost_of_lines d (line ∷ []) - cost_of_lines d (line ∷ []); walk = along line } in one)
+    → (let one : PieceCert = record { retraced = retraced_cost d (line ∷ []) (along line); walk = along line } in one)
     ≡ record { retraced = 0; walk = along line }
 cert_is d line = rw (nothing_retraced (cost_of_lines d (line ∷ []))) refl
 
 reports_from : (d : DrawingValue) (count first : ℕ)
-    → piece_reports d (first + 1) (map (λ line. line ∷ []) (range_with_len first count)) (map along (range_with_len first count))
+    → piece_reports d (first + 1) (alone_from first count) (along_from first count)
     ≡ map (line_report d) (range_with_len first count)
 reports_from d zero first = refl
 reports_from d (suc count) first =
-    ap (λ (r : PieceReport). r ∷ piece_reports d (first + 1 + 1) (map (λ line. line ∷ []) (range_with_len (first + 1) count)) (map along (range_with_len (first + 1) count)))
+    ap (λ (r : PieceReport). r ∷ piece_reports d (first + 1 + 1) (alone_from (first + 1) count) (along_from (first + 1) count))
     (report_is d first)
     ∙ ap (λ (rs : List PieceReport). line_report d first ∷ rs) (reports_from d count (first + 1))
 
@@ -132,11 +127,11 @@ pub reports_are : (d : DrawingValue) → piece_reports d 1 (each_alone d) (along
 reports_are d = reports_from d (length d.lines) 0
 
 certs_from : (d : DrawingValue) (count first : ℕ)
-    → certs_of d (map (λ line. line ∷ []) (range_with_len first count)) (map along (range_with_len first count))
+    → certs_of d (alone_from first count) (along_from first count)
     ≡ map (λ line. record { retraced = 0; walk = along line }) (range_with_len first count)
 certs_from d zero first = refl
 certs_from d (suc count) first =
-    ap (λ (c : PieceCert). c ∷ certs_of d (map (λ line. line ∷ []) (range_with_len (first + 1) count)) (map along (range_with_len (first + 1) count)))
+    ap (λ (c : PieceCert). c ∷ certs_of d (alone_from (first + 1) count) (along_from (first + 1) count))
     (cert_is d first)
     ∙ ap (λ (cs : List PieceCert). record { retraced = 0; walk = along first } ∷ cs) (certs_from d count (first + 1))
 
@@ -145,7 +140,8 @@ certs_are d = certs_from d (length d.lines) 0
 
 -- one line more in the report, and in the certificate
 pub reports_more : (d : DrawingValue) (line : ℕ) (report : PieceReport) (reports next : List PieceReport)
-    → reports ≡ map (line_report d) (range_with_len 0 line) → report ≡ line_report d line → next ≡ reports ++ report ∷ []
+    → reports ≡ map (line_report d) (range_with_len 0 line) → report ≡ line_report d line
+    → next ≡ reports ++ report ∷ []
     → next ≡ map (line_report d) (range_with_len 0 (line + 1))
 reports_more d line report reports next so is put =
     put ∙ (rw (so, is) refl ∙ sym (map-range_with_len_more (line_report d) 0 line line (omega arith)))
@@ -157,7 +153,8 @@ certs_more head text next line so put =
     let cert : ℕ → PieceCert = λ one. record { retraced = 0; walk = along one } in
     put ∙ (ap (λ (t : List ℕ). t ++ piece_text (cert line)) so
     ∙ (flat_map_more piece_text head (line_certs line) (cert line)
-    ∙ ap (λ (certs : List PieceCert). head ++ flat_map piece_text certs) (sym (map-range_with_len_more cert 0 line line (omega arith)))))
+    ∙ ap (λ (certs : List PieceCert). head ++ flat_map piece_text certs)
+    (sym (map-range_with_len_more cert 0 line line (omega arith)))))
 
 -- the certificate's lines of a line that is a piece of its own
 pub line_text : (line : ℕ)
@@ -170,9 +167,9 @@ line_text line =
 
 -- the needle goes down in the report as often as in the walks
 penetrations_from : (d : DrawingValue) (count first : ℕ)
-    → AllZip (IsBestWalk d) (map (λ line. line ∷ []) (range_with_len first count)) (map along (range_with_len first count))
+    → AllZip (IsBestWalk d) (alone_from first count) (along_from first count)
     → sum_by penetrations_of (map (line_report d) (range_with_len first count))
-    ≡ sum_by (λ (walk : List Pass). length (needles_of_walk d walk)) (map along (range_with_len first count))
+    ≡ sum_by (λ (walk : List Pass). length (needles_of_walk d walk)) (along_from first count)
 penetrations_from d zero first best = refl
 penetrations_from d (suc count) first best =
     omega (
@@ -181,7 +178,7 @@ penetrations_from d (suc count) first best =
       best.0.penetrations,
       alone_cost d first,
       sum_by-cons penetrations_of (line_report d first) (map (line_report d) (range_with_len (first + 1) count)),
-      sum_by-cons (λ (walk : List Pass). length (needles_of_walk d walk)) (along first) (map along (range_with_len (first + 1) count)),
+      sum_by-cons (λ (walk : List Pass). length (needles_of_walk d walk)) (along first) (along_from (first + 1) count),
     )
 
 pub penetrations_few : (d : DrawingValue) → IsSewnBy d (each_alone d) (along_all d)

@@ -1,5 +1,5 @@
 -- What stops a rewriting, from what stops its steps.
-use Rattle.std.proofs.Common.{◌≡◌, ◌≤◌, ℕ, List, IfErr, Ok, Err, Result, inl, inr, length, refl, subst}
+use Rattle.std.proofs.Common.{◌≡◌, ℕ, IfErr, Ok, Err, Result, inl, inr, refl, subst}
 use Rattle.design_model.specs.Designs.{DesignValue}
 use Rattle.format_traits.specs.declared.loaded.Loaded.{Loaded}
 use Rattle.stitch_cli.specs.declared.making.Made.{Made}

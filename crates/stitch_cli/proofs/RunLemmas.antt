@@ -1,22 +1,16 @@
 -- What the end of a run means.
-use Rattle.std.proofs.Common.{◌≡◌, ℕ, ◌≤◌, ◌⊎◌, inl, inr, Bool, true, false, List, Option, Some, None, Ok, Err, Result, IsSome, length, ap, refl, sym, subst, ◌∙◌, arith, if◌then◌else◌, bytes_eq}
+use Rattle.std.proofs.Common.{◌≡◌, ℕ, inl, inr, Bool, true, false, List, Option, Some, None, refl, sym, subst, if◌then◌else◌, bytes_eq}
 use Rattle.format_traits.specs.Meanings.{Meaning}
-use Rattle.outside_io.specs.Causes.{IsLonger}
-use Rattle.outside_io.specs.Counts.{IsQuiet, Rose}
-use Rattle.outside_io.specs.Files.{Files, HoldsNow, Lacks, WhereTold}
-use Rattle.outside_io.specs.declared.limits.TheConstants.{MAX_FILE}
 use Rattle.stitch_cli.specs.declared.status.Status.{Status}
 use Rattle.stitch_cli.specs.declared.status.Status.TheVariants as status
-use Rattle.stitch_cli.specs.declared.stop.Refusal.{Refusal}
-use Rattle.stitch_cli.specs.declared.stop.Refusal.TheVariants as refusal
 use Rattle.stitch_cli.specs.declared.stop.Stop.{Stop}
 use Rattle.stitch_cli.specs.declared.stop.Stop.TheVariants as stop
 use Rattle.stitch_cli.specs.Changes.{Change}
 use Rattle.stitch_cli.specs.Endings.{Delivers, Ends, OrderEnds, Stops, Tells, all, but_report, made, status_of, stopped, up_to}
-use Rattle.stitch_cli.specs.Orders.{Comes, Makes, Refuses, StepRefuses}
-use Rattle.stitch_cli.specs.Products.{ChangesAmong, Product, names_of}
-use Rattle.stitch_cli.specs.Requests.{Order, RouteOrder, are_apart, input_of, outputs_of, hoop_order, hooping, hooping_by, rewriting, rewriting_by, routing, routing_to, show_order, showing, showing_by, subject_of}
-use Rattle.stitch_cli.specs.Runs.{AsksFor, CallsFor, Fails, IsDecided, IsDone, IsFault, IsMemory, IsQuietRun, IsRefused, IsUsage, KeepsOthers, Sights, failed, memory, missing, refused, unprinted, unread, unwritten, usage}
+use Rattle.stitch_cli.specs.Orders.{Makes}
+use Rattle.stitch_cli.specs.Products.{Product}
+use Rattle.stitch_cli.specs.Requests.{Order, are_apart, input_of, hoop_order, hooping, hooping_by, rewriting, rewriting_by, routing, routing_to, show_order, showing, showing_by, subject_of}
+use Rattle.stitch_cli.specs.Runs.{CallsFor, IsDone, IsFault, IsMemory, IsRefused, IsUsage, Sights, failed, memory, missing, refused, unprinted, unread, unwritten, usage}
 use Rattle.stitch_cli.specs.Sights.{SinkSight, StoreSight}
 use Rattle.stitch_cli.specs.Texts.{stop_line, unprinted_line, unread_line, unwritten_line, usage_text}
 

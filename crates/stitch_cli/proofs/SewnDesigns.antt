@@ -1,5 +1,5 @@
 -- The sewn design of walks, as a design that every format can write.
-use Rattle.std.proofs.Common.{◌≡◌, ◌≢◌, ℕ, zero, suc, ℤ, ◌-ℤ◌, ◌+◌, ◌-◌, ◌*◌, ◌/◌, ◌<◌, ◌≤◌, Bool, true, false, ◌&&◌, List, [], ◌∷◌, ◌++◌, length, map, replicate, All, max, IsTrue, Result, Ok, Err, IsOkAnd, nat_le, unsigned_abs, refl, sym, ap, subst, ◌∙◌, arith, if◌then◌else◌}
+use Rattle.std.proofs.Common.{◌≡◌, ℕ, zero, suc, ℤ, ◌-ℤ◌, ◌+◌, ◌-◌, ◌*◌, ◌/◌, ◌<◌, ◌≤◌, Bool, true, false, ◌&&◌, List, [], ◌∷◌, ◌++◌, length, map, replicate, All, max, IsTrue, Result, Ok, Err, IsOkAnd, nat_le, unsigned_abs, refl, ◌∙◌, arith, if◌then◌else◌}
 use Rattle.std.proofs.lemmas.Int.{ints}
 use Rattle.std.proofs.lemmas.Bool.Decides.{nat_tests}
 use Rattle.std.proofs.lemmas.List.{length-append, length-map, length-replicate}
@@ -59,10 +59,15 @@ apart_few a b one other = omega (arith, ints)
 max_few : (a b most : ℕ) → a ≤ most → b ≤ most → max a b ≤ most
 max_few a b most one other = omega arith
 
+needle_x : (p : Point) → IsNeedlePoint p → unsigned_abs p.x ≤ 30000
+needle_x p within = is_le _ 30000 (left _ (nat_le (unsigned_abs p.y) 30000) within)
+
+needle_y : (p : Point) → IsNeedlePoint p → unsigned_abs p.y ≤ 30000
+needle_y p within = is_le _ 30000 (right (nat_le (unsigned_abs p.x) 30000) _ within)
+
 far_few : (p q : Point) → IsNeedlePoint p → IsNeedlePoint q → size_of (move_between p q) ≤ 60000
-far_few p q one other = max_few _ _ 60000
-    (apart_few p.x q.x (is_le _ 30000 (left _ (nat_le (unsigned_abs p.y) 30000) one)) (is_le _ 30000 (left _ (nat_le (unsigned_abs q.y) 30000) other)))
-    (apart_few p.y q.y (is_le _ 30000 (right (nat_le (unsigned_abs p.x) 30000) _ one)) (is_le _ 30000 (right (nat_le (unsigned_abs q.x) 30000) _ other)))
+far_few p q one other = max_few _ _ 60000 (apart_few p.x q.x (needle_x p one) (needle_x q other))
+    (apart_few p.y q.y (needle_y p one) (needle_y q other))
 
 -- so that 496 moves lead from one to the other in any format
 quotient_few : (limit size : ℕ) → 121 ≤ limit → size ≤ 60000 → (size + (limit - 1)) / limit ≤ 496
@@ -72,7 +77,8 @@ quotient_few limit size least few =
     let is : (size + (limit - 1)) / limit < 497 = (div-lt_iff_lt-mul some).1 less in
     omega (arith, is)
 
-hops_few : (limit : ℕ) (p q : Point) → 121 ≤ limit → IsNeedlePoint p → IsNeedlePoint q → hops limit (move_between p q) ≤ 496
+hops_few : (limit : ℕ) (p q : Point) → 121 ≤ limit → IsNeedlePoint p → IsNeedlePoint q
+    → hops limit (move_between p q) ≤ 496
 hops_few limit p q least one other = quotient_few limit (size_of (move_between p q)) least (far_few p q one other)
 
 by_test : (b : Bool) (jumps : ℕ) → (if b then jumps + 1 else jumps + 2) ≤ jumps + 2
@@ -129,7 +135,8 @@ stitches_go step limit place [] rest stops room more in_range close on =
       room_to = λ n. omega (arith, later.room_to n);
     }
 stitches_go step limit place (p ∷ points) rest stops room more in_range close on =
-    let later = stitches_go step limit p points rest stops room more (All-tail IsNeedlePoint place (p ∷ points) in_range) close.1 on in
+    let behind = All-tail IsNeedlePoint place (p ∷ points) in_range in
+    let later = stitches_go step limit p points rest stops room more behind close.1 on in
     record {
       needles = λ n. both _ _ (within_more step limit (move_between place p) more close.0) (later.needles (n + 1));
       stops_are = λ n. omega (arith, later.stops_are (n + 1));
@@ -177,8 +184,8 @@ module _ (d : DrawingValue) (limit : ℕ) (least : 121 ≤ limit) (more : d.step
       }
 
 -- the sewn design of walks that can be written is plain
-pub sewn_is_plain : (d : DrawingValue) (walks : List (List Pass)) (limit : ℕ) → AreWritable d walks → 121 ≤ limit → d.step ≤ limit
-    → IsPlain limit (sewn_design d walks)
+pub sewn_is_plain : (d : DrawingValue) (walks : List (List Pass)) (limit : ℕ) → AreWritable d walks → 121 ≤ limit
+    → d.step ≤ limit → IsPlain limit (sewn_design d walks)
 sewn_is_plain d walks limit able least more =
     let goes = walks_go d limit least more 0 walks able.near origin refl in
     record {

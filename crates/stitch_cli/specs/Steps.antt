@@ -7,11 +7,9 @@ use Rattle.design_model.specs.declared.point.Point.{Point}
 use Rattle.design_model.specs.Counts.{counts_of}
 use Rattle.design_model.specs.Designs.{DesignValue}
 use Rattle.format_traits.specs.declared.fault.ReadFault.{ReadFault}
-use Rattle.format_traits.specs.declared.format_object.TheConstants.{LEAST_LIMIT}
 use Rattle.format_traits.specs.declared.loaded.Loaded.{Loaded}
 use Rattle.format_traits.specs.Laws.{MovesWithin, ReadsAgain}
 use Rattle.format_traits.specs.Meanings.{Meaning}
-use Rattle.format_traits.specs.PlainDesigns.{IsPlain}
 use Rattle.hoop_check.specs.declared.fitting.Fit.{Fit}
 use Rattle.line_graph.specs.declared.pass.Pass.{Pass}
 use Rattle.line_graph.specs.Drawings.{DrawingValue, block_of}
@@ -203,10 +201,6 @@ line_certs count = map (λ line. record { retraced = 0; walk = along line }) (ra
 pub record IsSewnAlong (d : DrawingValue) (sewn : Sewn) : Type 0 where
   pub design : sewn.design ≡ sewn_design d (along_all d)
   pub pieces : sewn.pieces ≡ map (line_report d) (range_with_len 0 (length d.lines))
-
--- every format whose limit is not below the step can write the design
-abbrev pub IsPlainAbove : ℕ → DesignValue → Type 0
-IsPlainAbove step design = (limit : ℕ) → LEAST_LIMIT ≤ limit → step ≤ limit → IsPlain limit design
 
 -- what is made for a drawing whose lines are loops
 pub record IsMadeOf (format : Meaning) (d : DrawingValue) (routed : Routed) : Type 0 where

@@ -124,9 +124,7 @@ fn put_reason<E: Sink>(
     match why {
         Refusal::TooLong => put_about(err, about.input, b"longer than 67108864 bytes"),
         Refusal::BadDrawing(fault) => put_draw_fault(err, about.input, fault),
-        Refusal::NotOnlyLoops => {
-            put_about(err, about.input, b"a piece is not one closed line")
-        }
+        Refusal::NotOnlyLoops => { put_about(err, about.input, b"a piece is not one closed line") }
         Refusal::StepTooLong { step } => put_step_above(err, about.input, step, format),
         Refusal::Unread(fault) => put_read_fault(err, about.input, fault),
         Refusal::Unwritten(fault) => put_write_fault(err, about.output, format, fault),
@@ -148,7 +146,8 @@ fn put_draw_fault<E: Sink>(err: &mut E, name: &str, fault: DrawFault) -> Result<
 {
     let mut buffer = Buffer::new();
     let digits = buffer.format(fault.number).as_bytes();
-    put_at(err, name.as_bytes(), b": line ", digits, draw_text(fault.kind))
+    let text = draw_text(fault.kind);
+    put_at(err, name.as_bytes(), b": line ", digits, text)
 }
 
 /// What is wrong with a drawing text.

@@ -1,7 +1,7 @@
 use Rattle.std.proofs.Common.{ap}
 use Rattle.std.proofs.lemmas.List.{at_drop_more, drop_all}
 use Rattle.stitch_cli.specs.Steps.{all_written}
-use Rattle.stitch_cli.proofs.DeliveryLemmas.{writes_all, writes_first, writes_on, writes_up_to}
+use Rattle.stitch_cli.proofs.DeliveryLemmas.{writes_all, writes_on, writes_up_to}
 use Rattle.stitch_cli.proofs.delivery.write_all.Goals as goal
 
 pub loop-output-preserved : goal.loop-output-preserved

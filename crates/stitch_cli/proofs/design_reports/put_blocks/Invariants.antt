@@ -1,4 +1,4 @@
-use Rattle.std.proofs.Common.{◌≡◌, ◌++◌, ◌≤◌, drop}
+use Rattle.std.proofs.Common.{◌≡◌, ◌++◌, drop}
 use Rattle.stitch_cli.specs.Shows.{block_lines}
 use Rattle.stitch_cli.proofs.design_reports.put_blocks.Given as goal
 
