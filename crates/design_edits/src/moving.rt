@@ -74,7 +74,8 @@ fn moved_command(command: Command, motion: Motion) -> Command
 /// Moves each point, where all moved points are in their ranges.
 fn move_points(design: &mut Design, motion: Motion)
     requires small { IsTrue (is_small motion) }
-    requires in_range { KeepsLimits design.old → first_out (with_mapped_points (moved motion) design.old).commands ≡ None }
+    requires in_range { KeepsLimits design.old
+        → first_out (with_mapped_points (moved motion) design.old).commands ≡ None }
     ensures { design.new ≡ with_mapped_points (moved motion) design.old }
 {
     for index in 0..design.commands().len() {

@@ -1,6 +1,6 @@
 -- The extent of a design: the least and greatest x and y of its needle points, in tenths of a
 -- millimetre.
-use Rattle.std.specs.Prelude.{◌≡◌, ℤ, ◌≤ℤ◌, List, [], ◌∷◌, Option, Some, None, All, Contains, fold, map}
+use Rattle.std.specs.Prelude.{◌≡◌, ℕ, ℤ, ◌-ℤ◌, ◌≤ℤ◌, unsigned_abs, List, [], ◌∷◌, Option, Some, None, All, Contains, fold, map}
 use Rattle.std.specs.Int.{int_min, int_max}
 use Rattle.std.specs.List.{filter_map}
 use Rattle.design_model.specs.declared.act.NumberedAct.{NumberedAct}
@@ -56,6 +56,15 @@ extent_of d = extent_of_points (needle_points_of d)
 abbrev pub extended : Option Extent → List Point → Option Extent
 extended None points = extent_of_points points
 extended (Some extent) points = Some (grown extent points)
+
+-- how far the points of an extent lie apart to the right, and downwards; without one it is 0
+abbrev pub width_of : Option Extent → ℕ
+width_of None = 0
+width_of (Some extent) = unsigned_abs (extent.max.x -ℤ extent.min.x)
+
+abbrev pub height_of : Option Extent → ℕ
+height_of None = 0
+height_of (Some extent) = unsigned_abs (extent.max.y -ℤ extent.min.y)
 
 -- one of the numbers, and none is less
 pub record IsLeast (number : ℤ) (numbers : List ℤ) : Type 0 where

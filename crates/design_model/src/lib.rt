@@ -25,7 +25,7 @@ pub use act::{Act, NumberedAct};
 pub use act_lists::acts;
 pub use act_walk::ActWalk;
 pub use block_needles::block_counts;
-pub use bounds::Extent;
+pub use bounds::{Extent, height, width};
 pub use command::Command;
 pub use design::{Design, MAX_COMMANDS, MAX_LABEL, MAX_THREADS, ModelFault};
 pub use design_counts::counts;

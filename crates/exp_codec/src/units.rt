@@ -58,7 +58,8 @@ impl RecordReader for Units {
 fn control_event(control: u8, step: Point) -> Option<Event>
     requires { IsTrue (is_within GREATEST_STEP step) }
     ensures value { result ≡ event_of_control control step }
-    ensures small { IfSome result (λ event. IsTrue (list_all (λ move. is_within GREATEST_STEP move) (moves_in event))) }
+    ensures small { IfSome result
+        (λ event. IsTrue (list_all (λ move. is_within GREATEST_STEP move) (moves_in event))) }
 {
     match control {
         STOP => Some(Event::StopBy(step)),

@@ -66,7 +66,8 @@ pub fn put_acts<W: RecordWriter>(
 ) -> Result<Standing, WriteFault>
     requires count { length commands.now ≤ MAX_COMMANDS }
     requires in_range { IsTrue (list_all is_in_range commands.now) }
-    ensures { PutsActs (W.spelling writer.now) (W.reach writer.now) (acts_along commands.now) out.old result out.new }
+    ensures { PutsActs (W.spelling writer.now) (W.reach writer.now) (acts_along commands.now)
+        out.old result out.new }
 {
     let mut standing = Standing::new();
     let mut walk = ActWalk::new();
@@ -93,7 +94,8 @@ fn put_act<W: RecordWriter>(
     requires act { IsTrue (is_act_in_range act.act) }
     requires room { standing.old.room ≤ MAX_COMMANDS }
     requires stops { standing.old.stops ≤ standing.old.room }
-    ensures value { PutsAct (W.spelling writer.now) (W.reach writer.now) standing.old act out.old result standing.new out.new }
+    ensures value { PutsAct (W.spelling writer.now) (W.reach writer.now) standing.old act
+        out.old result standing.new out.new }
 
     // What holds of it goes on holding.
     ensures place { OnOk result (IsTrue (is_within NEEDLE_LIMIT standing.new.place)) }

@@ -1,20 +1,10 @@
 -- Whether a design fits into a hoop. Lengths are in whole tenths of a millimetre. Own rule: the jumps count
 -- for nothing, and a design that fits either way is upright.
-use Rattle.std.specs.Prelude.{ℕ, ◌-◌, ◌-ℤ◌, ◌&&◌, Option, Some, None, nat_le, unsigned_abs, if◌then◌else◌}
-use Rattle.design_model.specs.declared.bounds.Extent.{Extent}
+use Rattle.std.specs.Prelude.{ℕ, ◌-◌, ◌&&◌, nat_le, if◌then◌else◌}
 use Rattle.design_model.specs.Designs.{DesignValue}
-use Rattle.design_model.specs.Extents.{extent_of}
+use Rattle.design_model.specs.Extents.{extent_of, height_of, width_of}
 use Rattle.hoop_check.specs.declared.fitting.Fit.{Fit}
 use Rattle.hoop_check.specs.declared.fitting.Fit.TheVariants as fit
-
--- how far the needles of an extent lie apart to the right, and downwards; no needle takes no room
-abbrev pub width_of : Option Extent → ℕ
-width_of None = 0
-width_of (Some extent) = unsigned_abs (extent.max.x -ℤ extent.min.x)
-
-abbrev pub height_of : Option Extent → ℕ
-height_of None = 0
-height_of (Some extent) = unsigned_abs (extent.max.y -ℤ extent.min.y)
 
 -- how something of that width and height fits into a hoop of w by h: upright, else turned by a quarter, else not,
 -- with what it has above w and above h

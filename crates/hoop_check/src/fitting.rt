@@ -1,7 +1,7 @@
 ghost use Rattle.std.specs.Prelude.{◌≡◌};
-ghost use Rattle.hoop_check.specs.Fits.{fit_of, fit_of_size, height_of, width_of};
+ghost use Rattle.hoop_check.specs.Fits.{fit_of, fit_of_size};
 
-use design_model::{Design, Extent, extent};
+use design_model::{Design, extent, height, width};
 
 /// How a design fits into a hoop.
 #[derive(Clone, Copy, Debug, PartialEq, Eq)]
@@ -35,23 +35,5 @@ fn fit_size(width: u32, height: u32, w: u32, h: u32) -> Fit
     Fit::No {
         over_x: width.saturating_sub(w),
         over_y: height.saturating_sub(h),
-    }
-}
-
-fn width(extent: Option<Extent>) -> u32
-    ensures { result ≡ width_of extent }
-{
-    match extent {
-        Some(Extent { min, max }) => max.x.abs_diff(min.x),
-        None => 0,
-    }
-}
-
-fn height(extent: Option<Extent>) -> u32
-    ensures { result ≡ height_of extent }
-{
-    match extent {
-        Some(Extent { min, max }) => max.y.abs_diff(min.y),
-        None => 0,
     }
 }

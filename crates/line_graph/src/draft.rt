@@ -92,7 +92,8 @@ impl Draft {
     }
 
     fn take_color(&mut self, number: u32, rest: &[u8]) -> Result<(), DrawKind>
-        ensures { Changes (coloured number self.old (only_of_words (words_in rest.now))) self.old result self.new }
+        ensures { Changes (coloured number self.old (only_of_words (words_in rest.now)))
+            self.old result self.new }
     {
         let Some(word) = only_word(rest) else {
             return Err(DrawKind::BadWord);

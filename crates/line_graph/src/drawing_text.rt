@@ -24,7 +24,8 @@ pub fn read_drawing(alloc: Global, bytes: &[u8]) -> Result<Drawing, DrawFault>
 /// The number of the first line behind the header, and the text from there on.
 fn find_body(bytes: &[u8]) -> Result<(u32, &[u8]), DrawFault>
     requires { length bytes.now ≤ MAX_TEXT }
-    ensures ok { IfOk result (λ r. drawing_of bytes.now ≡ drawn_after r.0 first_draft (words_by_line r.1.now)) }
+    ensures ok { IfOk result
+        (λ r. drawing_of bytes.now ≡ drawn_after r.0 first_draft (words_by_line r.1.now)) }
     ensures early { IfOk result (λ r. r.0 + length r.1.now ≤ MAX_TEXT + 1) }
     ensures err { IfErr result (λ fault. drawing_of bytes.now ≡ Err fault) }
 {

@@ -95,7 +95,7 @@ fn texts_of_any_spelling_are_read(rt: HostRuntime) -> Result<(), Fail> {
 }
 
 #[test]
-fn the_first_fault_of_a_text_is_told_with_its_line(rt: HostRuntime) {
+fn the_first_fault_of_a_head_is_told_with_its_line(rt: HostRuntime) {
     let table = [
         ("", 1, DrawKind::BadHeader),
         ("# a\n\n", 3, DrawKind::BadHeader),
@@ -116,6 +116,18 @@ fn the_first_fault_of_a_text_is_told_with_its_line(rt: HostRuntime) {
             DrawKind::OutOfRange,
         ),
         ("redwork 1\nstep 2048\n", 2, DrawKind::OutOfRange),
+    ];
+    for (text, number, kind) in table {
+        assert!(rt;
+            fault(rt.alloc(), text.as_bytes()) == (number, Some(kind)),
+            "{text}"
+        );
+    }
+}
+
+#[test]
+fn the_first_fault_of_a_block_is_told_with_its_line(rt: HostRuntime) {
+    let table = [
         ("redwork 1\ncolor 256\n", 2, DrawKind::OutOfRange),
         ("redwork 1\ncolor 1\n", 2, DrawKind::EmptyBlock),
         ("redwork 1\ncolor 1\n#\ncolor 2\n", 2, DrawKind::EmptyBlock),
@@ -198,11 +210,9 @@ fn repeated(
 }
 
 #[test]
-fn a_drawing_may_reach_its_limits_and_not_pass_them(rt: HostRuntime) -> Result<(), Fail> {
+fn a_drawing_has_so_many_blocks_and_lines(rt: HostRuntime) -> Result<(), Fail> {
     let blocks = "redwork 1\n";
     let lines = "redwork 1\ncolor 1\n";
-    let points = "redwork 1\nstep 2047\ncolor 1\nline";
-    let steps = "redwork 1\nstep 1\ncolor 1\n";
     let cases = [
         (blocks, "color 1\nline 0 0 1 0\n", 255, "", (0, None)),
         (
@@ -220,6 +230,24 @@ fn a_drawing_may_reach_its_limits_and_not_pass_them(rt: HostRuntime) -> Result<(
             "",
             (1_027, Some(DrawKind::TooManyLines)),
         ),
+    ];
+    for (head, middle, times, end, wanted) in cases {
+        let text = repeated(rt.alloc(), head, middle, times, end)
+            .ok()
+            .ok_or("no memory")?;
+        assert!(rt;
+            fault(rt.alloc(), text.as_slice()) == wanted,
+            "{times} times {middle}"
+        );
+    }
+    Ok(())
+}
+
+#[test]
+fn a_drawing_has_so_many_points_and_steps(rt: HostRuntime) -> Result<(), Fail> {
+    let points = "redwork 1\nstep 2047\ncolor 1\nline";
+    let steps = "redwork 1\nstep 1\ncolor 1\n";
+    let cases = [
         (points, " 0 0 1 0", 32_768, "\n", (0, None)),
         (
             points,

@@ -11,9 +11,8 @@ use Rattle.design_model.specs.declared.point.Point.{Point}
 use Rattle.design_model.specs.declared.point.TheConstants.{NEEDLE_LIMIT}
 use Rattle.design_model.specs.Acts.{acts_from}
 use Rattle.design_model.specs.Commands.{is_in_range}
-use Rattle.design_model.specs.Extents.{Bounds, columns, needle_points, rows}
+use Rattle.design_model.specs.Extents.{Bounds, columns, height_of, needle_points, rows, width_of}
 use Rattle.design_model.specs.Points.{is_within}
-use Rattle.pec_codec.specs.Header.{height_of, width_of}
 
 -- a coordinate of a needle
 abbrev IsNear : ℤ → Type 0

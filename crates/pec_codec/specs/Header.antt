@@ -1,12 +1,12 @@
 -- The header of a block: its label and the threads of its blocks of colour in 512 bytes, then 16
 -- bytes with the distance to the thumbnails and the size of the design. Words have the low byte first.
-use Rattle.std.specs.Prelude.{ℕ, ◌+◌, ◌-ℤ◌, unsigned_abs, nat_eq, List, [], ◌∷◌, ◌++◌, take, drop, map, replicate, Option, Some, None, slice_index, ◌==◌, codes, if◌then◌else◌}
+use Rattle.std.specs.Prelude.{ℕ, ◌+◌, nat_eq, List, [], ◌∷◌, ◌++◌, take, drop, map, replicate, Option, slice_index, ◌==◌, codes, if◌then◌else◌}
 use Rattle.std.specs.List.{range_with_len, starts_with}
 use Rattle.byteorder.specs.Endian.{little_bytes}
 use Rattle.design_model.specs.declared.bounds.Extent.{Extent}
 use Rattle.design_model.specs.declared.design.TheConstants.{MAX_LABEL}
 use Rattle.design_model.specs.Designs.{DesignValue, thread_of}
-use Rattle.design_model.specs.Extents.{extent_of}
+use Rattle.design_model.specs.Extents.{extent_of, height_of, width_of}
 use Rattle.format_traits.specs.LabelFields.{filled_right, label_field, label_in}
 use Rattle.pec_codec.specs.declared.block.TheConstants.{LABELS_LENGTH}
 
@@ -18,15 +18,6 @@ threads_of d count = map (thread_of d) (range_with_len 0 count)
 abbrev pub labels_of : DesignValue → ℕ → List ℕ
 labels_of d stops = codes "LA:" ++ label_field d.label ++ 13 ∷ replicate 12 32
     ++ 255 ∷ 0 ∷ 6 ∷ 38 ∷ replicate 12 32 ++ stops ∷ threads_of d (stops + 1)
-
--- the width and the height of an extent, 0 without one
-abbrev pub width_of : Option Extent → ℕ
-width_of None = 0
-width_of (Some extent) = unsigned_abs (extent.max.x -ℤ extent.min.x)
-
-abbrev pub height_of : Option Extent → ℕ
-height_of None = 0
-height_of (Some extent) = unsigned_abs (extent.max.y -ℤ extent.min.y)
 
 -- the distance to the thumbnails, which counts from the beginning of this field
 abbrev pub distance_field : ℕ → List ℕ

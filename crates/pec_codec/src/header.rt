@@ -4,11 +4,11 @@ ghost use Rattle.design_model.specs.declared.design.TheConstants.{MAX_THREADS};
 ghost use Rattle.design_model.specs.Designs.{with_label};
 ghost use Rattle.design_model.specs.Extents.{extent_of};
 ghost use Rattle.pec_codec.specs.declared.block.TheConstants.{HEADER_LENGTH, LABELS_LENGTH, MAX_STOPS};
-ghost use Rattle.pec_codec.specs.Header.{header_of, height_of, label_of, labels_of, distance_field, size_fields, threads_in, threads_of, width_of};
+ghost use Rattle.pec_codec.specs.Header.{header_of, label_of, labels_of, distance_field, size_fields, threads_in, threads_of};
 
 use crate::block::{HEADER_LENGTH, LABELS_LENGTH, MAX_STOPS};
 use byteorder::{ByteOrder, LittleEndian};
-use design_model::{Bytes, Design, Extent, MAX_LABEL, Memory, extent};
+use design_model::{Bytes, Design, MAX_LABEL, Memory, extent, height, width};
 use format_traits::{put_label, put_spaces, read_label};
 use std::alloc::Global;
 
@@ -79,11 +79,18 @@ fn put_sizes(out: &mut Bytes, design: &Design) -> Result<(), Memory>
 {
     let _commands = design.commands();
     let extent = extent(design);
-    put_word16(out, width(extent))?;
-    put_word16(out, height(extent))?;
+    put_word16(out, size_word(width(extent)))?;
+    put_word16(out, size_word(height(extent)))?;
     put_word16(out, HOOP_WIDTH)?;
     put_word16(out, HOOP_HEIGHT)?;
     Ok(())
+}
+
+fn size_word(size: u32) -> u16
+    requires { size < 2 ^ 16 }
+    ensures { result ≡ size }
+{
+    size as u16
 }
 
 fn put_word16(out: &mut Bytes, word: u16) -> Result<(), Memory>
@@ -101,26 +108,6 @@ fn put_word24(out: &mut Bytes, word: u32) -> Result<(), Memory>
     let mut bytes = [0; 3];
     LittleEndian::write_u24(&mut bytes, word);
     out.append(&bytes)
-}
-
-fn width(extent: Option<Extent>) -> u16
-    requires { width_of extent < 2 ^ 16 }
-    ensures { result ≡ width_of extent }
-{
-    match extent {
-        Some(Extent { min, max }) => max.x.abs_diff(min.x) as u16,
-        None => 0,
-    }
-}
-
-fn height(extent: Option<Extent>) -> u16
-    requires { height_of extent < 2 ^ 16 }
-    ensures { result ≡ height_of extent }
-{
-    match extent {
-        Some(Extent { min, max }) => max.y.abs_diff(min.y) as u16,
-        None => 0,
-    }
 }
 
 /// Takes in the label and the threads of a block.

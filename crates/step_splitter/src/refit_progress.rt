@@ -80,7 +80,8 @@ impl Progress {
         requires place { IsNeedlePoint self.old.place }
         requires act { IsTrue (is_act_in_range act.act) }
         requires room { length out.old.commands ≤ MAX_COMMANDS }
-        ensures commands { Adds act.number (commands_of (refitted_act mode limit self.old.loose self.old.place act.act))
+        ensures commands { Adds act.number
+            (commands_of (refitted_act mode limit self.old.loose self.old.place act.act))
             out.old result out.new }
         ensures loose { OnOk result (self.new.loose ≡ is_loose_after act.act) }
         ensures place { OnOk result (self.new.place ≡ place_after self.old.place act.act) }
@@ -106,7 +107,8 @@ fn put_refitted(
     requires place { IsNeedlePoint before.now.place }
     requires act { IsTrue (is_act_in_range act.act) }
     requires room { length out.old.commands ≤ MAX_COMMANDS }
-    ensures { Adds act.number (commands_of (refitted_act mode limit before.now.loose before.now.place act.act))
+    ensures { Adds act.number
+        (commands_of (refitted_act mode limit before.now.loose before.now.place act.act))
         out.old result out.new }
 {
     let number = act.number;

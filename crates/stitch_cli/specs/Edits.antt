@@ -1,5 +1,5 @@
 -- Edits as the program holds them. No public clause cites this file.
-use Rattle.std.specs.Prelude.{ℕ, ◌≤◌, unsigned_abs, List, [], ◌∷◌, map, string_bytes, unwrap_or}
+use Rattle.std.specs.Prelude.{◌≤◌, unsigned_abs, List, [], map, string_bytes, unwrap_or}
 use Rattle.design_edits.specs.declared.motion.TheConstants.{MAX_SHIFT}
 use Rattle.stitch_cli.specs.declared.edit_words.Edit.{Edit}
 use Rattle.stitch_cli.specs.declared.edit_words.Edit.TheVariants as edit

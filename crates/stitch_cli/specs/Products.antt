@@ -1,5 +1,5 @@
 -- What a command leaves behind where all goes well: the contents of its outputs, and its report.
-use Rattle.std.specs.Prelude.{◌≡◌, ◌≢◌, ℕ, List, [], ◌∷◌, ◌++◌, map, Option, Some, None, All}
+use Rattle.std.specs.Prelude.{◌≡◌, ◌≢◌, ℕ, List, [], ◌∷◌, ◌++◌, map, Option, Some, None}
 use Rattle.outside_io.specs.Blames.{write_of}
 use Rattle.outside_io.specs.Causes.{Faults}
 use Rattle.outside_io.specs.Files.{Files, HoldsNow}

@@ -62,7 +62,8 @@ fn prepare<S: Store>(
     store: &mut S,
 ) -> Result<&'static [u8], Stop>
     requires { IsName file.now }
-    ensures done { IfOk result (λ report. Makes (hooping (hoop_order file.now (meaning format.now) width height))
+    ensures done { IfOk result (λ report.
+        Makes (hooping (hoop_order file.now (meaning format.now) width height))
         (S.files store.old) (only_report report.now)) }
     ensures same { OnOk result (
         store_sight (S.files store.new) (S.faults store.new) (S.blame store.new)

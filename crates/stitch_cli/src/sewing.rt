@@ -74,7 +74,8 @@ fn report_of(drawing: &Drawing, line: u32, points: &[Point]) -> PieceReport
 /// Sews on with a walk in a block, after a walk in the block before.
 fn sew_walk(design: &mut Design, before: u32, block: u32, points: &[Point]) -> Result<(), Memory>
     requires in_range { All IsNeedlePoint points.now }
-    requires room { length design.old.commands + length (walk_commands before block points.now) ≤ MAX_COMMANDS }
+    requires room { length design.old.commands
+        + length (walk_commands before block points.now) ≤ MAX_COMMANDS }
     ensures { OnOk result (design.new ≡ with_commands design.old (walk_commands before block points.now)) }
 {
     add_stops(design, before, block)?;

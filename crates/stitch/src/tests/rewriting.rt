@@ -4,9 +4,9 @@ use std::test::Fail;
 use stitch_cli::Status;
 
 #[test]
-fn a_design_is_written_after_its_changes(rt: HostRuntime) -> Result<(), Fail> {
+fn a_conversion_refits_what_it_is_asked_to(rt: HostRuntime) -> Result<(), Fail> {
     // The bytes of an input, the output, words, the report, and the size and the last bytes of the output.
-    let cases: [(&[u8], &str, &[&str], &str, usize, &[u8]); 5] = [
+    let cases: [(&[u8], &str, &[&str], &str, usize, &[u8]); 3] = [
         // A stitch of 122 is split for DST, and one of (-5, 128) for EXP.
         (
             &[0x00, 0x00, 0x7A, 0x00],
@@ -42,6 +42,28 @@ fn a_design_is_written_after_its_changes(rt: HostRuntime) -> Result<(), Fail> {
                 0x00, 0xF3,
             ],
         ),
+    ];
+    for (input, name, words, report, size, output) in cases {
+        let mut store = MemStore::new(rt.alloc());
+        store.put_file("a.exp", input)?;
+        store.prepare(name, 1_000)?;
+        let mut out = MemSink::new(rt.alloc(), 1_000)?;
+        let mut err = MemSink::new(rt.alloc(), 1_000)?;
+        let status = answer(&rt, words, &mut store, &mut out, &mut err)?;
+        assert_eq!(rt; err.taken(), b"".as_slice());
+        assert_eq!(rt; status, Status::Done);
+        assert_eq!(rt; out.taken(), report.as_bytes());
+        let file = store.file(name).ok_or("no output")?;
+        assert_eq!(rt; file.len(), size);
+        assert_eq!(rt; file.ends_with(output), true);
+    }
+    Ok(())
+}
+
+#[test]
+fn an_edit_changes_the_points(rt: HostRuntime) -> Result<(), Fail> {
+    // The bytes of an input, the output, words, the report, and the size and the last bytes of the output.
+    let cases: [(&[u8], &str, &[&str], &str, usize, &[u8]); 2] = [
         // A quarter turn brings what points to the right downwards.
         (
             &[0x00, 0x00, 0x1E, 0x00],
@@ -78,12 +100,12 @@ fn a_design_is_written_after_its_changes(rt: HostRuntime) -> Result<(), Fail> {
 }
 
 #[test]
-fn a_design_that_cannot_be_written_is_refused(rt: HostRuntime) -> Result<(), Fail> {
+fn a_conversion_that_loses_something_is_refused(rt: HostRuntime) -> Result<(), Fail> {
     let float: &[u8] = &[
         0x00, 0x00, 0x80, 0x04, 0x64, 0x00, 0x80, 0x04, 0x64, 0x00, 0x80, 0x04, 0x64, 0x00, 0x80,
         0x04, 0x64, 0x00, 0x00, 0x00,
     ];
-    let cases: [(&[u8], &[&str], &str); 9] = [
+    let cases: [(&[u8], &[&str], &str); 4] = [
         (
             &[0x00, 0x00, 0x7A, 0x00],
             &["convert", "a.exp", "b.dst"],
@@ -104,6 +126,28 @@ fn a_design_that_cannot_be_written_is_refused(rt: HostRuntime) -> Result<(), Fai
             &["convert", "a.exp", "b.dst"],
             "stitch: a.exp: byte 0: control code not known\n",
         ),
+    ];
+    for (input, words, line) in cases {
+        let mut store = MemStore::new(rt.alloc());
+        store.put_file("a.exp", input)?;
+        store.put_file("a.pec", input)?;
+        store.prepare("b.dst", 1_000)?;
+        store.prepare("b.exp", 1_000)?;
+        let mut out = MemSink::new(rt.alloc(), 1_000)?;
+        let mut err = MemSink::new(rt.alloc(), 1_000)?;
+        let status = answer(&rt, words, &mut store, &mut out, &mut err)?;
+        assert_eq!(rt; err.taken(), line.as_bytes());
+        assert_eq!(rt; status, Status::Refused, "{line}");
+        assert_eq!(rt; out.taken(), b"".as_slice());
+        assert_eq!(rt; store.file("b.dst"), None);
+        assert_eq!(rt; store.file("b.exp"), None);
+    }
+    Ok(())
+}
+
+#[test]
+fn an_edit_or_a_hoop_that_says_no_is_refused(rt: HostRuntime) -> Result<(), Fail> {
+    let cases: [(&[u8], &[&str], &str); 5] = [
         (
             &[0x01, 0x00],
             &["edit", "a.exp", "b.exp", "shift=30000,0"],

@@ -1,14 +1,16 @@
-use Rattle.std.proofs.Common.{true, false}
+use Rattle.std.proofs.Common.{ℕ, ◌<◌, ◌^◌, true, false, subst, sym}
 use Rattle.design_model.specs.Extents.{needle_points_of}
-use Rattle.pec_codec.proofs.ExtentLemmas.{needles_near, narrow, low}
+use Rattle.pec_codec.proofs.ExtentLemmas.{low, narrow, needles_near}
 use Rattle.pec_codec.proofs.header.put_sizes.Goals as goal
 
-pub width-requires : goal.width-requires
-width-requires c = narrow (needle_points_of c.args.design.now) c.extent-extent.result
+pub size_word-requires : goal.size_word-requires
+size_word-requires c = subst (λ (n : ℕ). n < 2 ^ 16) (sym c.width.ensures)
+    (narrow (needle_points_of c.args.design.now) c.extent-extent.result
     (needles_near 1 true false c.args.design.now.commands c.commands-commands.ensures.limits.in_range)
-    c.extent-extent.ensures.bounds
+    c.extent-extent.ensures.bounds)
 
-pub height-requires : goal.height-requires
-height-requires c = low (needle_points_of c.args.design.now) c.extent-extent.result
+pub size_word-requires-2 : goal.size_word-requires-2
+size_word-requires-2 c = subst (λ (n : ℕ). n < 2 ^ 16) (sym c.height.ensures)
+    (low (needle_points_of c.args.design.now) c.extent-extent.result
     (needles_near 1 true false c.args.design.now.commands c.commands-commands.ensures.limits.in_range)
-    c.extent-extent.ensures.bounds
+    c.extent-extent.ensures.bounds)
