@@ -57,6 +57,21 @@ fn a_file_is_shown(rt: HostRuntime) -> Result<(), Fail> {
 }
 
 #[test]
+fn a_file_with_another_signature_is_refused(rt: HostRuntime) -> Result<(), Fail> {
+    let mut store = MemStore::new(rt.alloc());
+    store.put_file("a.pec", b"#PAC0001")?;
+    let mut out = MemSink::new(rt.alloc(), 1_000)?;
+    let mut err = MemSink::new(rt.alloc(), 1_000)?;
+    let status = answer(&rt, &["show", "a.pec"], &mut store, &mut out, &mut err)?;
+    assert_eq!(rt; status, Status::Refused);
+    assert_eq!(rt;
+        err.taken(),
+        b"stitch: a.pec: byte 0: signature not known\n".as_slice()
+    );
+    Ok(())
+}
+
+#[test]
 fn a_file_that_is_none_of_its_format_is_refused(rt: HostRuntime) -> Result<(), Fail> {
     let mut far = Vec::new(rt.alloc());
     for _ in 0..248u32 {
