@@ -9,27 +9,45 @@ pub const LIMITS: Limits = Limits { step: 121, stops: 999, float_steps: 3 };
 
 const HEADER: usize = 512;
 
-/// Each part of a move: its size, the byte that holds its two bits, the bit of plus, of minus.
-const X_PARTS: [(i32, usize, u8, u8); 5] =
-    [(81, 2, 0x04, 0x08), (27, 1, 0x04, 0x08), (9, 0, 0x04, 0x08), (3, 1, 0x01, 0x02), (1, 0, 0x01, 0x02)];
-const Y_PARTS: [(i32, usize, u8, u8); 5] =
-    [(81, 2, 0x20, 0x10), (27, 1, 0x20, 0x10), (9, 0, 0x20, 0x10), (3, 1, 0x80, 0x40), (1, 0, 0x80, 0x40)];
-
-fn read_parts(record: &[u8], parts: &[(i32, usize, u8, u8); 5]) -> i32 {
-    let mut sum = 0;
-    for &(size, byte, plus, minus) in parts {
-        if record[byte] & plus != 0 {
-            sum += size;
-        }
-        if record[byte] & minus != 0 {
-            sum -= size;
-        }
-    }
-    sum
+fn bit(byte: u8, place: u32) -> i32 {
+    (byte >> place & 1) as i32
 }
 
-/// Sets the bits of a number from -121 to 121. The sizes below one part sum up to half of it.
-fn write_parts(record: &mut [u8; 3], parts: &[(i32, usize, u8, u8); 5], mut rest: i32) {
+/// The move of a record, in design axes.
+fn read_move(record: &[u8]) -> (i32, i32) {
+    let (a, b, c) = (record[0], record[1], record[2]);
+    let dx = bit(a, 0) - bit(a, 1)
+        + 3 * (bit(b, 0) - bit(b, 1))
+        + 9 * (bit(a, 2) - bit(a, 3))
+        + 27 * (bit(b, 2) - bit(b, 3))
+        + 81 * (bit(c, 2) - bit(c, 3));
+    let up = bit(a, 7) - bit(a, 6)
+        + 3 * (bit(b, 7) - bit(b, 6))
+        + 9 * (bit(a, 5) - bit(a, 4))
+        + 27 * (bit(b, 5) - bit(b, 4))
+        + 81 * (bit(c, 5) - bit(c, 4));
+    (dx, -up)
+}
+
+/// The parts of a move: the size of each, the byte that holds it, its bit for plus and for minus.
+const X_PARTS: [(i32, usize, u8, u8); 5] = [
+    (81, 2, 0x04, 0x08),
+    (27, 1, 0x04, 0x08),
+    (9, 0, 0x04, 0x08),
+    (3, 1, 0x01, 0x02),
+    (1, 0, 0x01, 0x02),
+];
+const UP_PARTS: [(i32, usize, u8, u8); 5] = [
+    (81, 2, 0x20, 0x10),
+    (27, 1, 0x20, 0x10),
+    (9, 0, 0x20, 0x10),
+    (3, 1, 0x80, 0x40),
+    (1, 0, 0x80, 0x40),
+];
+
+/// Sets the bits of a number from -121 to 121. The parts below one sum up to half of its size.
+fn write_parts(record: &mut [u8; 3], parts: &[(i32, usize, u8, u8); 5], number: i32) {
+    let mut rest = number;
     for &(size, byte, plus, minus) in parts {
         if rest > size / 2 {
             record[byte] |= plus;
@@ -53,8 +71,7 @@ pub fn decode(bytes: &[u8]) -> Result<Loaded, ReadFault> {
     for (index, record) in bytes[HEADER..].chunks_exact(3).enumerate() {
         reader.at = HEADER + 3 * index;
         let kind = record[2];
-        let dx = read_parts(record, &X_PARTS);
-        let dy = -read_parts(record, &Y_PARTS);
+        let (dx, dy) = read_move(record);
         if kind & 0xF3 == 0xF3 {
             return Ok(reader.finish(true));
         } else if kind & 0xC3 == 0xC3 {
@@ -84,7 +101,7 @@ impl Writer {
     fn record(&mut self, dx: i32, dy: i32, kind: u8) {
         let mut record = [0, 0, kind];
         write_parts(&mut record, &X_PARTS, dx);
-        write_parts(&mut record, &Y_PARTS, -dy);
+        write_parts(&mut record, &UP_PARTS, -dy);
         self.bytes.extend_from_slice(&record);
     }
 }
