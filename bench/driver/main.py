@@ -22,22 +22,6 @@ def words():
     return parser.parse_args()
 
 
-def measure_all(cases, stitch):
-    """The costs of all cases, and the differences that were met."""
-    measured, differences = [], []
-    for case in cases:
-        try:
-            costs = measuring.measure(case, stitch, BIN / "baseline")
-        except measuring.Different as difference:
-            say(str(difference))
-            differences.append(difference)
-            continue
-        measured.append((case, costs))
-        row = tables.cost_row(case, costs)
-        say(f"{case.size or '':>8} {row[0]}: cpu {row[3]}, memory {row[6]}")
-    return measured, differences
-
-
 def head():
     return (
         f"Processor: {machine.processor()}. Kit: {machine.kit()}. Baseline: {machine.rustc()}, `-O`. "
@@ -56,13 +40,15 @@ def main():
     building.make_inputs(sizes)
 
     first = head()
-    programs = (("`stitch`", stitch), ("plain", BIN / "baseline"), ("`/bin/true`", Path("/bin/true")))
-    starts = [(name, measuring.start_of(program)) for name, program in programs]
+    programs = {"`stitch`": stitch, "plain": BIN / "baseline", "`/bin/true`": Path("/bin/true")}
+    starts = list(zip(programs, measuring.starts_of(programs.values())))
     cases = [case for case in all_cases(sizes) if asked.only in case.name]
-    measured, differences = measure_all(cases, stitch)
+    measured, differences = measuring.measure_all(cases, (stitch, BIN / "baseline"))
     text = tables.report(first, sizes, starts, measured, measuring.commands_of)
     print(text)
     if differences:
+        for difference in differences:
+            say(str(difference))
         say(f"{len(differences)} cases differ, {len(measured)} are equal")
         return 1
     if sizes is FULL and not asked.only:

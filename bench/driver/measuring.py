@@ -3,12 +3,15 @@
 import subprocess
 from dataclasses import dataclass
 
+from building import say
 from places import BIN, INPUTS
 
-ROUNDS = 9
-# A case whose first round takes more seconds than this has fewer rounds.
+# Rounds of a case in one pass over all cases. Passes lie apart in time, so that other work of the
+# machine, which comes and goes, doesn't fall on all rounds of a case.
+ROUNDS = 3
+PASSES = 5
+# A case that takes more cpu seconds than this has one pass.
 SLOW_SECONDS = 5.0
-SLOW_ROUNDS = 2
 
 
 @dataclass(frozen=True)
@@ -48,6 +51,7 @@ def meter(program, words):
 
 
 def run_once(program, case, cost):
+    """What a run leaves; what it took goes into its cost."""
     written = INPUTS / case.output if case.output else None
     if written:
         written.unlink(missing_ok=True)
@@ -78,27 +82,46 @@ def describe(case, name, ours, theirs):
     )
 
 
-def measure(case, stitch, baseline):
-    """The costs of both, least cpu and greatest memory of several rounds."""
-    costs = Cost(), Cost()
-    rounds = ROUNDS
-    done = 0
-    while done < rounds:
-        ours = run_once(stitch, case, costs[0])
-        theirs = run_once(baseline, case, costs[1])
+def measure(case, programs, costs):
+    """One pass of a case: some rounds in which both programs run."""
+    for _ in range(ROUNDS):
+        ours, theirs = [run_once(program, case, cost) for program, cost in zip(programs, costs)]
         parts = ours.differs_in(theirs)
         if parts:
             raise Different("\n".join(describe(case, part, ours, theirs) for part in parts))
-        done += 1
-        if costs[0].cpu + costs[1].cpu > SLOW_SECONDS:
-            rounds = SLOW_ROUNDS
-    return costs
 
 
-def start_of(program, words=(), times=20):
-    """The median wall time of a start, in milliseconds."""
-    walls = sorted(meter(program, words)[3] for _ in range(times))
-    return (walls[times // 2 - 1] + walls[times // 2]) / 2
+def measure_all(cases, programs):
+    """The costs of the cases that are equal, and the differences of all others."""
+    costs = {case: (Cost(), Cost()) for case in cases}
+    differences = {}
+    for turn in range(PASSES):
+        for case in cases:
+            is_slow = turn > 0 and sum(cost.cpu for cost in costs[case]) > SLOW_SECONDS
+            if is_slow or case in differences:
+                continue
+            try:
+                measure(case, programs, costs[case])
+            except Different as difference:
+                differences[case] = difference
+        say(f"pass {turn + 1} of {PASSES}: {len(differences)} of {len(cases)} cases differ")
+    equal = [(case, costs[case]) for case in cases if case not in differences]
+    return equal, list(differences.values())
+
+
+def median(numbers):
+    numbers = sorted(numbers)
+    middle = len(numbers) // 2
+    return (numbers[middle] + numbers[-middle - 1]) / 2
+
+
+def starts_of(programs, times=20):
+    """The median and the least wall time of a start without words, in milliseconds, in turns."""
+    walls = [[] for _ in programs]
+    for _ in range(times):
+        for program, kept in zip(programs, walls):
+            kept.append(meter(program, ())[3])
+    return [(median(kept), min(kept)) for kept in walls]
 
 
 def commands_of(name):

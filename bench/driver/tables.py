@@ -60,8 +60,8 @@ def input_table(sizes, commands_of):
 
 
 def start_table(starts):
-    rows = [[name, marked(wall, HIGHEST_START)] for name, wall in starts]
-    return table(["Start, without words", "median ms"], rows)
+    rows = [[name, marked(median, HIGHEST_START), f"{least:.2f}"] for name, (median, least) in starts]
+    return table(["Start, without words", "median ms", "least ms"], rows)
 
 
 def report(head, sizes, starts, measured, commands_of):
