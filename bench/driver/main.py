@@ -1,0 +1,61 @@
+"""Builds, makes inputs, measures, and tells the numbers."""
+
+import argparse
+import sys
+from pathlib import Path
+
+import building
+import document
+import machine
+import measuring
+import tables
+from building import say
+from cases import FULL, SMALL, all_cases
+from places import BIN, STITCH
+
+
+def words():
+    parser = argparse.ArgumentParser(prog="bench/run")
+    parser.add_argument("--sizes", choices=["full", "small"], default="full")
+    parser.add_argument("--stitch", type=Path, help="a program built elsewhere")
+    parser.add_argument("--only", default="", metavar="WORD", help="cases whose name has this word")
+    return parser.parse_args()
+
+
+def head():
+    return (
+        f"Processor: {machine.processor()}. Kit: {machine.kit()}. Baseline: {machine.rustc()}, `-O`. "
+        f"Date: {machine.date()}. Load of the machine at the start: {machine.load()}."
+    )
+
+
+def main():
+    asked = words()
+    sizes = SMALL if asked.sizes == "small" else FULL
+    stitch = asked.stitch.resolve() if asked.stitch else STITCH
+    if not asked.stitch:
+        building.build_stitch()
+    for name in ("baseline", "inputs", "meter"):
+        building.build_plain(name)
+    building.make_inputs(sizes)
+
+    first = head()
+    programs = {"`stitch`": stitch, "plain": BIN / "baseline", "`/bin/true`": Path("/bin/true")}
+    starts = list(zip(programs, measuring.starts_of(programs.values())))
+    cases = [case for case in all_cases(sizes) if asked.only in case.name]
+    measured, differences = measuring.measure_all(cases, (stitch, BIN / "baseline"))
+    text = tables.report(first, sizes, starts, measured, measuring.commands_of)
+    print(text)
+    if differences:
+        for difference in differences:
+            say(str(difference))
+        say(f"{len(differences)} cases differ, {len(measured)} are equal")
+        return 1
+    if sizes is FULL and not asked.only:
+        document.put(text)
+    say(f"all {len(measured)} cases are equal")
+    return 0
+
+
+if __name__ == "__main__":
+    sys.exit(main())

@@ -1,0 +1,10 @@
+"""Where things stand."""
+
+from pathlib import Path
+
+BENCH = Path(__file__).resolve().parent.parent
+REPOSITORY = BENCH.parent
+BIN = BENCH / "out" / "bin"
+INPUTS = BENCH / "out" / "inputs"
+DOCUMENT = REPOSITORY / "docs" / "PERFORMANCE.md"
+STITCH = REPOSITORY / "crates" / "stitch" / "out" / "stitch"
