@@ -61,6 +61,7 @@ impl<'a, R: Files> Store for DirStore<'a, R> {
         match read_from(self.rt, &mut self.opened, name, at, buf) {
             Ok(count) => Ok(count),
             Err(_) => {
+                self.opened = None;
                 self.log.note(Kind::Read, name);
                 Err(ReadStop::Failed)
             }
@@ -102,32 +103,26 @@ fn read_from<R: Files>(
     requires { length name.now ≤ MAX_NAME }
     ensures { IfOk result (λ count. count ≤ length buf.new) }
 {
-    let mut reading = match opened.take() {
-        Some(before) => stand_at(rt, before, name, at)?,
-        None => open_at(rt, name, at)?,
-    };
-    let count = reading.file.read(buf)?;
+    if let Some(reading) = opened {
+        if reading.at == at && reading.name.as_slice() == name.as_bytes() {
+            return read_on(reading, buf);
+        }
+    }
+    let mut reading = open_at(rt, name, at)?;
+    let count = read_on(&mut reading, buf)?;
     if count > 0 {
-        reading.at = at.saturating_add(count as u64);
         *opened = Some(reading);
     }
     Ok(count)
 }
 
-/// The opened file where it stands there, and else a file that is opened.
-fn stand_at<R: Files>(
-    rt: &R,
-    before: Opened<R::File>,
-    name: &str,
-    at: u64,
-) -> io::Result<Opened<R::File>>
-    requires { length name.now ≤ MAX_NAME }
+/// Reads where the file stands.
+fn read_on<F: Read + Drop>(reading: &mut Opened<F>, buf: &mut [u8]) -> io::Result<usize>
+    ensures { IfOk result (λ count. count ≤ length buf.new) }
 {
-    if before.at == at && before.name.as_slice() == name.as_bytes() {
-        Ok(before)
-    } else {
-        open_at(rt, name, at)
-    }
+    let count = reading.file.read(buf)?;
+    reading.at = reading.at.saturating_add(count as u64);
+    Ok(count)
 }
 
 fn open_at<R: Files>(rt: &R, name: &str, at: u64) -> io::Result<Opened<R::File>>

@@ -69,21 +69,21 @@ fn a_file_grows_within_its_room(rt: HostRuntime) -> Result<(), Fail> {
 
 #[test]
 fn a_whole_file_is_read_up_to_the_limit(rt: HostRuntime) -> Result<(), Fail> {
-    let limit = 10_000;
+    let limit = 40_000;
     for count in [
-        0, 1, 4_095, 4_096, 4_097, 8_192, 9_999, 10_000, 10_001, 20_000,
+        0, 1, 16_383, 16_384, 16_385, 32_768, 39_999, 40_000, 40_001, 65_536,
     ] {
         let bytes = pattern(rt.alloc(), count)?;
         let mut store = MemStore::new(rt.alloc());
         store.put_file("a", bytes.as_slice())?;
         match read_whole(rt.alloc(), &mut store, "a", limit) {
             Ok(got) => {
-                assert!(rt; count <= 10_000, "{count} bytes");
+                assert!(rt; count <= 40_000, "{count} bytes");
                 assert!(rt; got.as_slice() == bytes.as_slice(), "{count} bytes");
             }
             Err(fault) => {
                 assert_eq!(rt; fault, GetFault::TooLong, "{count} bytes");
-                assert!(rt; count > 10_000, "{count} bytes");
+                assert!(rt; count > 40_000, "{count} bytes");
             }
         }
     }

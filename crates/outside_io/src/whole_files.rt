@@ -9,7 +9,7 @@ use design_model::{Bytes, Memory};
 use std::alloc::Global;
 
 /// How many bytes a read asks for.
-const READ_SIZE: usize = 4_096;
+const READ_SIZE: usize = 16_384;
 
 /// Why a whole file wasn't read.
 #[derive(Clone, Copy, Debug, PartialEq, Eq)]

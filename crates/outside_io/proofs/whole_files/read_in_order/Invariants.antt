@@ -9,7 +9,7 @@ invariant-loop-count g l = record {
   same : g.S.Store.files l.store ≡ g.S.Store.files l.fn.store;
   stays : Stays (g.S.Store.faults l.fn.store) (g.S.Store.faults l.store) (g.S.Store.blame l.fn.store) (g.S.Store.blame l.store);
   short : length l.bytes ≤ l.limit;
-  room : length l.buffer ≡ 4096;
+  room : length l.buffer ≡ 16384;
   begins : WhereTold (g.S.Store.files l.fn.store) (λ told. (content : List ℕ) → told l.name ≡ Some content → l.bytes ≡ take (length l.bytes) content);
 }
 
