@@ -30,7 +30,7 @@ cut_three run after at (a ∷ b ∷ c ∷ rest) k m result long of_kind of_move 
         → Cuts (records_from run) (records_from after) at (a ∷ b ∷ c ∷ rest) result
     by_cut (cut.Over ended) cuts = record_reads run at a b c rest k m of_kind of_move ∙ cuts _
     by_cut (cut.Refused f) cuts = record_reads run at a b c rest k m of_kind of_move ∙ cuts _
-    by_cut (cut.Record size event) cuts = record {
+    by_cut (cut.Record event size) cuts = record {
       some = omega (arith, cuts.0);
       there = omega (arith, cuts.0, long);
       is = record_reads run at a b c rest k m of_kind of_move ∙ cuts.2 (records_from (run_after k run) (at + 3) rest)

@@ -14,6 +14,6 @@ use Rattle.dst_codec.specs.Reading.{record_as}
 abbrev pub CutsAs : RecordKind → ℕ → ℕ → Point → Cut → Type 0
 CutsAs k at run m (cut.Over ended) = (rest : Records) → record_as k at run m rest ≡ over ended
 CutsAs k at run m (cut.Refused f) = (rest : Records) → record_as k at run m rest ≡ refused f
-CutsAs k at run m (cut.Record size event) = (size ≡ 3)
+CutsAs k at run m (cut.Record event size) = (size ≡ 3)
     × IsTrue (list_all (λ move. is_within GREATEST_STEP move) (moves_in event))
     × ((rest : Records) → record_as k at run m rest ≡ next at event rest)

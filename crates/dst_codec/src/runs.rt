@@ -44,7 +44,7 @@ fn cut_record(kind: RecordKind, at: u64, jumps: u8, step: Point) -> Cut
         RecordKind::Sequin => return Cut::Refused(ReadFault::Sequin { at }),
         RecordKind::End => return Cut::Over { ended: true },
     };
-    Cut::Record { size: 3, event }
+    Cut::Record { event, size: 3 }
 }
 
 fn run_after(kind: RecordKind, jumps: u8) -> u8

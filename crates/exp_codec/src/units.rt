@@ -40,15 +40,15 @@ impl RecordReader for Units {
         };
         if *first != CONTROL {
             return Cut::Record {
-                size: 2,
                 event: Event::Stitch(move_of(*first, *second)),
+                size: 2,
             };
         }
         let [x, y, ..] = behind else {
             return Cut::Over { ended: false };
         };
         match control_event(*second, move_of(*x, *y)) {
-            Some(event) => Cut::Record { size: 4, event },
+            Some(event) => Cut::Record { event, size: 4 },
             None => Cut::Refused(ReadFault::Control { at }),
         }
     }

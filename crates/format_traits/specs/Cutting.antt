@@ -23,7 +23,7 @@ pub record IsCut (before after : ℕ → List ℕ → Records) (at : ℕ) (bytes
 abbrev pub Cuts : (before after : ℕ → List ℕ → Records) → ℕ → List ℕ → Cut → Type 0
 Cuts before after at bytes (cut.Over ended) = before at bytes ≡ over ended
 Cuts before after at bytes (cut.Refused f) = before at bytes ≡ refused f
-Cuts before after at bytes (cut.Record size event) = IsCut before after at bytes size event
+Cuts before after at bytes (cut.Record event size) = IsCut before after at bytes size event
 
 -- the same design but for its commands
 pub record SameButCommands (old new : DesignValue) : Type 0 where

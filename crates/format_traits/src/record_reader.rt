@@ -24,7 +24,9 @@ pub enum Cut {
     /// What the file is refused for.
     Refused(ReadFault),
     /// A record of so many bytes.
-    Record { size: usize, event: Event },
+    // The event stands first: a number of another variant would else lie across its move, and a cut
+    // would pass through memory.
+    Record { event: Event, size: usize },
 }
 
 /// The records of a format, cut from the bytes of a file in order.
@@ -61,7 +63,7 @@ pub fn read_records<R: RecordReader + Drop>(
         match reader.next(at, rest) {
             Cut::Over { ended } => return Ok(ended),
             Cut::Refused(fault) => return Err(fault),
-            Cut::Record { size, event } => match keep_event(design, at, place, event) {
+            Cut::Record { event, size } => match keep_event(design, at, place, event) {
                 Ok(there) => {
                     place = there;
                     at += size as u64;
@@ -74,6 +76,7 @@ pub fn read_records<R: RecordReader + Drop>(
 }
 
 /// Adds the commands of the record at that offset, and gives the place after it.
+#[inline(always)]
 fn keep_event(design: &mut Design, at: u64, place: Point, event: Event) -> Result<Point, ReadFault>
     requires place { IsTrue (is_within JUMP_LIMIT place) }
     requires small { IsTrue (list_all (λ move. is_within GREATEST_STEP move) (moves_in event)) }
@@ -102,6 +105,7 @@ fn place_after(place: Point, event: Event) -> Point
 }
 
 /// Adds the commands of an event after which the hoop is there.
+#[inline(always)]
 fn keep_commands(design: &mut Design, at: u64, event: Event, there: Point) -> Result<(), ReadFault>
     ensures { Keeps at (commands_at event there) design.old result design.new }
 {

@@ -69,6 +69,7 @@ impl Standing {
 
 impl Reach {
     /// Why the format cannot write an act, if it can't. `number` is that of the act's command.
+    #[inline(always)]
     pub fn refusal(&self, before: &Standing, number: u32, act: Act) -> Option<WriteFault>
         requires least { LEAST_LIMIT ≤ self.now.limit }
         requires most { self.now.limit ≤ GREATEST_LIMIT }

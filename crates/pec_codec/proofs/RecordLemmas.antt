@@ -22,14 +22,14 @@ cut_first : (at : ℕ) (byte : ℕ) (rest : List ℕ) (c : Cut) → c ≡ cut_of
 cut_first at byte rest c is = ap (λ c. cut_before c at (records_behind (length_behind c) (at + 1) rest)) (sym is)
 
 -- a record of so many bytes and those behind it
-pub record_first : (at size : ℕ) (event : Event) (bytes : List ℕ) → cut.Record size event ≡ cut_of bytes
+pub record_first : (at size : ℕ) (event : Event) (bytes : List ℕ) → cut.Record event size ≡ cut_of bytes
     → 0 < size → size ≤ length bytes → pec_records at bytes ≡ next at event (pec_records (at + size) (drop size bytes))
 record_first at zero event bytes is some there = absurd (omega arith)
 record_first at (suc n) event [] is some there = absurd (omega arith)
 record_first at (suc n) event (byte ∷ rest) is some there =
     let less : suc n - 1 ≡ n = omega arith in
     let place : at + 1 + n ≡ at + suc n = omega arith in
-    cut_first at byte rest (cut.Record (suc n) event) is
+    cut_first at byte rest (cut.Record event (suc n)) is
     ∙ ap (λ k. next at event (records_behind k (at + 1) rest)) less
     ∙ ap (next at event) (skipped n (at + 1) rest (omega arith))
     ∙ ap (λ k. next at event (pec_records k (drop n rest))) place
@@ -41,7 +41,7 @@ cuts_record at [] (cut.Over ended) is fits = let none : ended ≡ false = cc in 
 cuts_record at (byte ∷ rest) (cut.Over ended) is fits = cut_first at byte rest (cut.Over ended) is
 cuts_record at [] (cut.Refused f) is fits = cc
 cuts_record at (byte ∷ rest) (cut.Refused f) is fits = cut_first at byte rest (cut.Refused f) is
-cuts_record at bytes (cut.Record size event) is fits = record {
+cuts_record at bytes (cut.Record event size) is fits = record {
   some = fits.0;
   there = fits.1;
   is = record_first at size event bytes is fits.0 fits.1;

@@ -19,7 +19,7 @@ use Rattle.pec_codec.proofs.SpellingLemmas.{coordinate_at, coordinate_in-long, c
 -- two coordinates of which the first is neither the end nor a stop
 cut_of-pair : (first second : ℕ) (rest : List ℕ) (x y : Coordinate) → first < 254
     → coordinate_in (first ∷ second ∷ rest) ≡ Some x → coordinate_in (drop x.size (first ∷ second ∷ rest)) ≡ Some y
-    → cut_of (first ∷ second ∷ rest) ≡ cut.Record (x.size + y.size) (event_of x y)
+    → cut_of (first ∷ second ∷ rest) ≡ cut.Record (event_of x y) (x.size + y.size)
 cut_of-pair first second rest x y small of_x of_y =
     let bytes = first ∷ second ∷ rest in
     let no_end : first ≡ 255 → ⊥ = λ is. omega (arith, is, small) in

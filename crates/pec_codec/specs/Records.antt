@@ -24,7 +24,7 @@ event_of x y =
 -- a record of two coordinates, where both are there
 abbrev pub cut_pair : Coordinate → Option Coordinate → Cut
 cut_pair x None = cut.Over false
-cut_pair x (Some y) = cut.Record (x.size + y.size) (event_of x y)
+cut_pair x (Some y) = cut.Record (event_of x y) (x.size + y.size)
 
 abbrev pub cut_move : Option Coordinate → List ℕ → Cut
 cut_move None bytes = cut.Over false
@@ -32,7 +32,7 @@ cut_move (Some x) bytes = cut_pair x (coordinate_in (drop x.size bytes))
 
 -- a stop takes a third byte, whatever it is
 abbrev pub cut_stop : List ℕ → Cut
-cut_stop (first ∷ second ∷ third ∷ rest) = cut.Record 3 event.Stop
+cut_stop (first ∷ second ∷ third ∷ rest) = cut.Record event.Stop 3
 cut_stop _ = cut.Over false
 
 -- the two bytes with which a stop begins
@@ -56,13 +56,13 @@ cut_of bytes =
 abbrev pub length_behind : Cut → ℕ
 length_behind (cut.Over ended) = 0
 length_behind (cut.Refused f) = 0
-length_behind (cut.Record size event) = size - 1
+length_behind (cut.Record event size) = size - 1
 
 -- what was cut, and the records behind it
 abbrev pub cut_before : Cut → ℕ → Records → Records
 cut_before (cut.Over ended) at rest = over ended
 cut_before (cut.Refused f) at rest = refused f
-cut_before (cut.Record size event) at rest = next at event rest
+cut_before (cut.Record event size) at rest = next at event rest
 
 -- the records from that offset on, where so many bytes more belong to the record before
 abbrev pub records_behind : ℕ → ℕ → List ℕ → Records

@@ -17,7 +17,7 @@ use Rattle.pec_codec.specs.Writing.{body_of, reach}
 abbrev pub FitsIn : List ℕ → Cut → Type 0
 FitsIn bytes (cut.Over ended) = Unit {0}
 FitsIn bytes (cut.Refused f) = Unit {0}
-FitsIn bytes (cut.Record size event) = (0 < size) × (size ≤ length bytes)
+FitsIn bytes (cut.Record event size) = (0 < size) × (size ≤ length bytes)
     × IsTrue (list_all (λ move. is_within GREATEST_STEP move) (moves_in event))
 
 -- adding the records of a design and their end gives the number of its stops, or the refusal

@@ -31,8 +31,8 @@ fn cut_stop(bytes: &[u8]) -> Cut
         return Cut::Over { ended: false };
     }
     Cut::Record {
-        size: 3,
         event: Event::Stop,
+        size: 3,
     }
 }
 
@@ -47,8 +47,8 @@ fn cut_move(bytes: &[u8]) -> Cut
         return Cut::Over { ended: false };
     };
     Cut::Record {
-        size: x.size + y.size,
         event: event_of(x, y),
+        size: x.size + y.size,
     }
 }
 
