@@ -2,6 +2,7 @@
 //! them keeps; and what all of them do alike with records and acts.
 #![tactic(auto)]
 
+mod act_writing;
 mod boxed;
 mod event;
 mod fault;
@@ -16,6 +17,7 @@ mod record_reader;
 mod record_writer;
 mod standing;
 
+pub use act_writing::put_acts;
 pub use boxed::{decode_by, encode_by, ext_of, limit_of};
 pub use event::Event;
 pub use fault::{ReadFault, WriteFault};
@@ -30,5 +32,5 @@ pub use loaded::Loaded;
 pub use lookup::find;
 pub use placing::{GREATEST_MOVE, MOST_HOPS, hops, move_between, moved, part_move, size_of};
 pub use record_reader::{Cut, GREATEST_STEP, RecordReader, read_records};
-pub use record_writer::{RecordWriter, put_acts};
+pub use record_writer::RecordWriter;
 pub use standing::{Reach, Standing};

@@ -8,7 +8,7 @@ use Rattle.design_model.specs.Commands.{is_in_range}
 use Rattle.design_model.specs.Points.{is_within}
 use Rattle.format_traits.specs.Refusals.{refusal_from, first_refusal, beginning}
 use Rattle.format_traits.specs.Spellings.{records_from, records_of, standing_along}
-use Rattle.format_traits.proofs.record_writer.put_acts.Given as goal
+use Rattle.format_traits.proofs.act_writing.put_acts.Given as goal
 
 -- the records so far and those of the acts that are left are all records; so with the refusals
 abbrev pub invariant-loop-rest : goal.invariant-loop-rest

@@ -1,6 +1,6 @@
 use Rattle.std.proofs.Common.{◌++◌, ap, ◌∙◌}
 use Rattle.format_traits.proofs.WriterLemmas.{jump_more}
-use Rattle.format_traits.proofs.record_writer.put_jumps.Goals as goal
+use Rattle.format_traits.proofs.act_writing.put_jumps.Goals as goal
 
 pub loop-done-preserved : goal.loop-done-preserved
 loop-done-preserved g c =

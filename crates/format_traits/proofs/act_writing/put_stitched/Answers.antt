@@ -3,7 +3,7 @@ use Rattle.design_model.specs.Points.{move_between}
 use Rattle.format_traits.specs.Placing.{parts_from, part_of}
 use Rattle.format_traits.proofs.WriterLemmas.{jumps_and}
 use Rattle.format_traits.proofs.rereading.Parts.{part_all}
-use Rattle.format_traits.proofs.record_writer.put_stitched.Goals as goal
+use Rattle.format_traits.proofs.act_writing.put_stitched.Goals as goal
 
 pub returns : goal.returns
 returns g c =

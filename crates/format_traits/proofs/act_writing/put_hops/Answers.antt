@@ -2,7 +2,7 @@ use Rattle.std.proofs.Common.{map}
 use Rattle.design_model.specs.Points.{origin}
 use Rattle.format_traits.specs.Placing.{parts}
 use Rattle.format_traits.proofs.WriterLemmas.{jumps_and}
-use Rattle.format_traits.proofs.record_writer.put_hops.Goals as goal
+use Rattle.format_traits.proofs.act_writing.put_hops.Goals as goal
 
 pub returns : goal.returns
 returns g c =

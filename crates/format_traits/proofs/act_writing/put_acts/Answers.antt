@@ -4,7 +4,7 @@ use Rattle.design_model.specs.ActWalks.{acts_after}
 use Rattle.format_traits.specs.Refusals.{refusal_from}
 use Rattle.format_traits.specs.Spellings.{records_from, standing_along}
 use Rattle.format_traits.proofs.WriterLemmas.{rest_of, length-rest_of, rest_in_range, acts_split, written_rest, refusal_rest, stands_rest}
-use Rattle.format_traits.proofs.record_writer.put_acts.Goals as goal
+use Rattle.format_traits.proofs.act_writing.put_acts.Goals as goal
 
 pub loop-rest-preserved-in_default-put_act : goal.loop-rest-preserved-in_default-put_act
 loop-rest-preserved-in_default-put_act g c =

@@ -1,7 +1,7 @@
 use Rattle.std.proofs.Common.{◌≡◌, ◌-◌, ◌++◌, map}
 use Rattle.std.specs.List.{concat}
 use Rattle.format_traits.specs.Placing.{parts_from}
-use Rattle.format_traits.proofs.record_writer.put_jumps.Given as goal
+use Rattle.format_traits.proofs.act_writing.put_jumps.Given as goal
 
 -- the jumps so far, and those of the parts that are left
 abbrev pub invariant-loop-done : goal.invariant-loop-done

@@ -1,0 +1,206 @@
+ghost use Rattle.std.specs.Prelude.{◌≡◌, ◌<◌, ◌≤◌, ◌*◌, ◌++◌, ◌||◌, map, length, IsTrue, OnOk};
+ghost use Rattle.std.specs.List.{concat, list_all};
+ghost use Rattle.design_model.specs.declared.design.TheConstants.{MAX_COMMANDS};
+ghost use Rattle.design_model.specs.declared.point.TheConstants.{NEEDLE_LIMIT};
+ghost use Rattle.design_model.specs.Acts.{acts_along};
+ghost use Rattle.design_model.specs.ActPlaces.{is_act_in_range};
+ghost use Rattle.design_model.specs.Commands.{is_in_range};
+ghost use Rattle.design_model.specs.Points.{is_within, size_of as size};
+ghost use Rattle.format_traits.specs.declared.placing.TheConstants.{GREATEST_MOVE, MOST_HOPS};
+ghost use Rattle.format_traits.specs.Placing.{parts_from};
+ghost use Rattle.format_traits.specs.Spellings.{IsAccepted, PutsAct, PutsActs, float_records, hop_records, is_most as is_most_of, needle_records, records_of_act, stitched_records};
+
+use crate::fault::WriteFault;
+use crate::placing::{GREATEST_MOVE, MOST_HOPS, hops, move_between, part_move};
+use crate::record_writer::RecordWriter;
+use crate::standing::Standing;
+use design_model::{
+    Act, ActWalk, Bytes, Command, MAX_COMMANDS, Memory, NEEDLE_LIMIT, NumberedAct, Point,
+};
+
+/// Adds the records of a design's acts, up to the first that the format cannot write, and says how it
+/// stands after them.
+pub fn put_acts<W: RecordWriter>(
+    writer: &W,
+    out: &mut Bytes,
+    commands: &[Command],
+) -> Result<Standing, WriteFault>
+    requires count { length commands.now ≤ MAX_COMMANDS }
+    requires in_range { IsTrue (list_all is_in_range commands.now) }
+    ensures { PutsActs (W.spelling writer.now) (W.reach writer.now) (acts_along commands.now)
+        out.old result out.new }
+{
+    let mut standing = Standing::new();
+    let mut walk = ActWalk::new();
+    let mut rest = commands;
+    while let [command, after @ ..] = rest {
+        if let Some(act) = walk.next(*command) {
+            if let Err(fault) = put_act(writer, out, &mut standing, act) {
+                return Err(fault);
+            }
+        }
+        rest = after;
+    }
+    Ok(standing)
+}
+
+/// Adds the records of an act, after which it stands otherwise, or says why the format cannot write it.
+fn put_act<W: RecordWriter>(
+    writer: &W,
+    out: &mut Bytes,
+    standing: &mut Standing,
+    act: NumberedAct,
+) -> Result<(), WriteFault>
+    requires place { IsTrue (is_within NEEDLE_LIMIT standing.old.place) }
+    requires act { IsTrue (is_act_in_range act.act) }
+    requires room { standing.old.room ≤ MAX_COMMANDS }
+    requires stops { standing.old.stops ≤ standing.old.room }
+    ensures value { PutsAct (W.spelling writer.now) (W.reach writer.now) standing.old act
+        out.old result standing.new out.new }
+
+    // What holds of it goes on holding.
+    ensures place { OnOk result (IsTrue (is_within NEEDLE_LIMIT standing.new.place)) }
+    ensures room { OnOk result (standing.new.room ≤ MAX_COMMANDS) }
+    ensures stops { OnOk result (standing.new.stops ≤ standing.new.room) }
+{
+    let reach = writer.reach();
+    if let Some(fault) = reach.refusal(standing, act.number, act.act) {
+        return Err(fault);
+    }
+    put_act_records(writer, out, standing, act.act)?;
+    *standing = standing.after(reach.limit, act.act);
+    Ok(())
+}
+
+fn put_act_records<W: RecordWriter>(
+    writer: &W,
+    out: &mut Bytes,
+    before: &Standing,
+    act: Act,
+) -> Result<(), Memory>
+    requires place { IsTrue (is_within NEEDLE_LIMIT before.now.place) }
+    requires act { IsTrue (is_act_in_range act) }
+    requires accepted { IsAccepted (W.reach writer.now) before.now act }
+    ensures { OnOk result (out.new ≡ out.old
+        ++ concat (records_of_act (W.spelling writer.now) (W.reach writer.now) before.now act)) }
+{
+    match act {
+        Act::Needle { at, float } => put_needle(
+            writer,
+            out,
+            before.loose,
+            float,
+            move_between(before.place, at),
+        ),
+        Act::Trim => writer.put_trim(out),
+        Act::Stop => writer.put_stop(out, before.stops),
+    }
+}
+
+fn put_needle<W: RecordWriter>(
+    writer: &W,
+    out: &mut Bytes,
+    loose: bool,
+    float: bool,
+    step: Point,
+) -> Result<(), Memory>
+    requires size { size step ≤ GREATEST_MOVE }
+    requires accepted { IsTrue (loose || float || is_within (W.reach writer.now).limit step) }
+    ensures { OnOk result (out.new ≡ out.old
+        ++ concat (needle_records (W.spelling writer.now) (W.reach writer.now) loose float step)) }
+{
+    if loose {
+        return put_hops(writer, out, hops(writer.reach().limit, step), step);
+    }
+    if float {
+        return put_float(writer, out, hops(writer.reach().limit, step).max(1), step);
+    }
+    writer.put_stitch(out, step)
+}
+
+/// Adds the records of a float of so many jumps.
+fn put_float<W: RecordWriter>(
+    writer: &W,
+    out: &mut Bytes,
+    count: u32,
+    step: Point,
+) -> Result<(), Memory>
+    requires size { size step ≤ GREATEST_MOVE }
+    requires some { 0 < count }
+    requires most { count ≤ MOST_HOPS }
+    requires enough { size step ≤ (W.reach writer.now).limit * count }
+    ensures { OnOk result (out.new ≡ out.old
+        ++ concat (float_records (W.spelling writer.now) (W.reach writer.now) count step)) }
+{
+    if is_most(writer.reach().float_hops, count) {
+        return put_stitched(writer, out, count, step);
+    }
+    put_hops(writer, out, count, step)
+}
+
+/// Says whether a number is the most that is allowed.
+fn is_most(most: Option<u32>, number: u32) -> bool
+    ensures { result ≡ is_most_of most number }
+{
+    match most {
+        Some(most) => number == most,
+        None => false,
+    }
+}
+
+/// Adds jumps that make up a move, and a stitch in the place of the last of so many.
+fn put_stitched<W: RecordWriter>(
+    writer: &W,
+    out: &mut Bytes,
+    count: u32,
+    step: Point,
+) -> Result<(), Memory>
+    requires size { size step ≤ GREATEST_MOVE }
+    requires some { 0 < count }
+    requires most { count ≤ MOST_HOPS }
+    requires enough { size step ≤ (W.reach writer.now).limit * count }
+    ensures { OnOk result (out.new ≡ out.old
+        ++ concat (stitched_records (W.spelling writer.now) count step)) }
+{
+    put_jumps(writer, out, count, count - 1, step)?;
+    writer.put_stitch(out, part_move(step, count, count - 1))?;
+    Ok(())
+}
+
+/// Adds so many jumps that make up a move, and a stitch on the spot.
+fn put_hops<W: RecordWriter>(
+    writer: &W,
+    out: &mut Bytes,
+    count: u32,
+    step: Point,
+) -> Result<(), Memory>
+    requires size { size step ≤ GREATEST_MOVE }
+    requires most { count ≤ MOST_HOPS }
+    requires enough { size step ≤ (W.reach writer.now).limit * count }
+    ensures { OnOk result (out.new ≡ out.old ++ concat (hop_records (W.spelling writer.now) count step)) }
+{
+    put_jumps(writer, out, count, count, step)?;
+    writer.put_stitch(out, Point { x: 0, y: 0 })?;
+    Ok(())
+}
+
+/// Adds the jumps of the first `wanted` of the `count` equal parts of a move.
+fn put_jumps<W: RecordWriter>(
+    writer: &W,
+    out: &mut Bytes,
+    count: u32,
+    wanted: u32,
+    step: Point,
+) -> Result<(), Memory>
+    requires size { size step ≤ GREATEST_MOVE }
+    requires wanted { wanted ≤ count }
+    requires most { count ≤ MOST_HOPS }
+    requires enough { size step ≤ (W.reach writer.now).limit * count }
+    ensures { OnOk result (out.new ≡ out.old
+        ++ concat (map (W.spelling writer.now).jump (parts_from step count 0 wanted))) }
+{
+    for done in 0..wanted {
+        writer.put_jump(out, part_move(step, count, done))?;
+    }
+    Ok(())
+}
