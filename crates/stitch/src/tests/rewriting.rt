@@ -15,6 +15,32 @@ const CUT_FLOAT: [u8; 30] = [
     0x04, 0x87, 0x09, 0x04, 0x87, 0x09, 0x04, 0x87, 0x00, 0x00, 0x03, 0x00, 0x00, 0xF3,
 ];
 
+/// What an answer left.
+#[derive(Drop)]
+struct After {
+    status: Status,
+    store: MemStore,
+    out: MemSink,
+    err: MemSink,
+}
+
+/// The answer to the words where `a.exp` has those bytes.
+fn answer_on(rt: &HostRuntime, input: &[u8], words: &[&str]) -> Result<After, Fail> {
+    let mut store = MemStore::new(rt.alloc());
+    store.put_file("a.exp", input)?;
+    store.prepare("b.dst", 1_000)?;
+    store.prepare("b.exp", 1_000)?;
+    let mut out = MemSink::new(rt.alloc(), 1_000)?;
+    let mut err = MemSink::new(rt.alloc(), 1_000)?;
+    let status = answer(rt, words, &mut store, &mut out, &mut err)?;
+    Ok(After {
+        status,
+        store,
+        out,
+        err,
+    })
+}
+
 #[test]
 fn a_conversion_refits_what_it_is_asked_to(rt: HostRuntime) -> Result<(), Fail> {
     // The bytes of an input, the output, words, the report, and the size and the last bytes of the output.
@@ -49,16 +75,11 @@ fn a_conversion_refits_what_it_is_asked_to(rt: HostRuntime) -> Result<(), Fail> 
         ),
     ];
     for (input, name, words, report, size, output) in cases {
-        let mut store = MemStore::new(rt.alloc());
-        store.put_file("a.exp", input)?;
-        store.prepare(name, 1_000)?;
-        let mut out = MemSink::new(rt.alloc(), 1_000)?;
-        let mut err = MemSink::new(rt.alloc(), 1_000)?;
-        let status = answer(&rt, words, &mut store, &mut out, &mut err)?;
-        assert_eq!(rt; err.taken(), b"".as_slice());
-        assert_eq!(rt; status, Status::Done);
-        assert_eq!(rt; out.taken(), report.as_bytes());
-        let file = store.file(name).ok_or("no output")?;
+        let after = answer_on(&rt, input, words)?;
+        assert_eq!(rt; after.err.taken(), b"".as_slice());
+        assert_eq!(rt; after.status, Status::Done);
+        assert_eq!(rt; after.out.taken(), report.as_bytes());
+        let file = after.store.file(name).ok_or("no output")?;
         assert_eq!(rt; file.len(), size);
         assert_eq!(rt; file.ends_with(output), true);
     }
@@ -88,16 +109,11 @@ fn an_edit_changes_the_points(rt: HostRuntime) -> Result<(), Fail> {
         ),
     ];
     for (input, name, words, report, size, output) in cases {
-        let mut store = MemStore::new(rt.alloc());
-        store.put_file("a.exp", input)?;
-        store.prepare(name, 1_000)?;
-        let mut out = MemSink::new(rt.alloc(), 1_000)?;
-        let mut err = MemSink::new(rt.alloc(), 1_000)?;
-        let status = answer(&rt, words, &mut store, &mut out, &mut err)?;
-        assert_eq!(rt; err.taken(), b"".as_slice());
-        assert_eq!(rt; status, Status::Done);
-        assert_eq!(rt; out.taken(), report.as_bytes());
-        let file = store.file(name).ok_or("no output")?;
+        let after = answer_on(&rt, input, words)?;
+        assert_eq!(rt; after.err.taken(), b"".as_slice());
+        assert_eq!(rt; after.status, Status::Done);
+        assert_eq!(rt; after.out.taken(), report.as_bytes());
+        let file = after.store.file(name).ok_or("no output")?;
         assert_eq!(rt; file.len(), size);
         assert_eq!(rt; file.ends_with(output), true);
     }
@@ -130,19 +146,12 @@ fn a_conversion_that_loses_something_is_refused(rt: HostRuntime) -> Result<(), F
         ),
     ];
     for (input, words, line) in cases {
-        let mut store = MemStore::new(rt.alloc());
-        store.put_file("a.exp", input)?;
-        store.put_file("a.pec", input)?;
-        store.prepare("b.dst", 1_000)?;
-        store.prepare("b.exp", 1_000)?;
-        let mut out = MemSink::new(rt.alloc(), 1_000)?;
-        let mut err = MemSink::new(rt.alloc(), 1_000)?;
-        let status = answer(&rt, words, &mut store, &mut out, &mut err)?;
-        assert_eq!(rt; err.taken(), line.as_bytes());
-        assert_eq!(rt; status, Status::Refused, "{line}");
-        assert_eq!(rt; out.taken(), b"".as_slice());
-        assert_eq!(rt; store.file("b.dst"), None);
-        assert_eq!(rt; store.file("b.exp"), None);
+        let after = answer_on(&rt, input, words)?;
+        assert_eq!(rt; after.err.taken(), line.as_bytes());
+        assert_eq!(rt; after.status, Status::Refused, "{line}");
+        assert_eq!(rt; after.out.taken(), b"".as_slice());
+        assert_eq!(rt; after.store.file("b.dst"), None);
+        assert_eq!(rt; after.store.file("b.exp"), None);
     }
     Ok(())
 }
@@ -180,19 +189,12 @@ fn an_edit_or_a_hoop_that_says_no_is_refused(rt: HostRuntime) -> Result<(), Fail
         ),
     ];
     for (input, words, line) in cases {
-        let mut store = MemStore::new(rt.alloc());
-        store.put_file("a.exp", input)?;
-        store.put_file("a.pec", input)?;
-        store.prepare("b.dst", 1_000)?;
-        store.prepare("b.exp", 1_000)?;
-        let mut out = MemSink::new(rt.alloc(), 1_000)?;
-        let mut err = MemSink::new(rt.alloc(), 1_000)?;
-        let status = answer(&rt, words, &mut store, &mut out, &mut err)?;
-        assert_eq!(rt; err.taken(), line.as_bytes());
-        assert_eq!(rt; status, Status::Refused, "{line}");
-        assert_eq!(rt; out.taken(), b"".as_slice());
-        assert_eq!(rt; store.file("b.dst"), None);
-        assert_eq!(rt; store.file("b.exp"), None);
+        let after = answer_on(&rt, input, words)?;
+        assert_eq!(rt; after.err.taken(), line.as_bytes());
+        assert_eq!(rt; after.status, Status::Refused, "{line}");
+        assert_eq!(rt; after.out.taken(), b"".as_slice());
+        assert_eq!(rt; after.store.file("b.dst"), None);
+        assert_eq!(rt; after.store.file("b.exp"), None);
     }
     Ok(())
 }
@@ -209,14 +211,10 @@ fn a_design_fits_into_a_hoop_upright_or_turned(rt: HostRuntime) -> Result<(), Fa
         (&[0x00, 0x00, 0x1E, 0x00], "10", "30", "fits turned\n"),
     ];
     for (input, width, height, report) in cases {
-        let mut store = MemStore::new(rt.alloc());
-        store.put_file("a.exp", input)?;
-        let mut out = MemSink::new(rt.alloc(), 1_000)?;
-        let mut err = MemSink::new(rt.alloc(), 0)?;
-        let words = ["hoop", "a.exp", width, height];
-        let status = answer(&rt, &words, &mut store, &mut out, &mut err)?;
-        assert_eq!(rt; status, Status::Done);
-        assert_eq!(rt; out.taken(), report.as_bytes());
+        let after = answer_on(&rt, input, &["hoop", "a.exp", width, height])?;
+        assert_eq!(rt; after.err.taken(), b"".as_slice());
+        assert_eq!(rt; after.status, Status::Done);
+        assert_eq!(rt; after.out.taken(), report.as_bytes());
     }
     Ok(())
 }
