@@ -6,7 +6,6 @@ pub mod DeliveryLemmas
 pub mod RunLemmas
 pub mod KeepLemmas
 pub mod RewriteLemmas
-pub mod WordLemmas
 pub mod EditLemmas
 pub mod ChangeLemmas
 pub mod DecisionLemmas

@@ -14,7 +14,7 @@ use Rattle.stitch_cli.specs.declared.stop.Refusal.{Refusal}
 use Rattle.stitch_cli.specs.declared.stop.Refusal.TheVariants as refusal
 use Rattle.stitch_cli.specs.Certificates.{line_end}
 use Rattle.stitch_cli.specs.Products.{Product, only_report}
-use Rattle.stitch_cli.specs.Requests.{ShowOrder}
+use Rattle.stitch_cli.specs.Orders.{ShowOrder}
 
 -- a word and a number
 abbrev pub number_text : List ℕ → ℕ → List ℕ

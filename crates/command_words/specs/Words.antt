@@ -6,11 +6,19 @@ use Rattle.design_model.specs.declared.whole_number.Whole.{Whole}
 use Rattle.design_model.specs.declared.whole_number.Whole.TheVariants as whole
 use Rattle.design_model.specs.WholeNumbers.{whole_of}
 use Rattle.outside_io.specs.declared.limits.TheConstants.{MAX_NAME}
-use Rattle.stitch_cli.specs.Changes.{Change, cut, mirror, shift, split, thread, turn}
+use Rattle.command_words.specs.declared.request_words.TheConstants.{MAX_SIDE}
+use Rattle.command_words.specs.Changes.{Change, cut, mirror, shift, split, thread, turn}
 
 -- the word may name a file
 abbrev pub is_name : List ℕ → Bool
 is_name word = nat_le 1 (length word) && nat_le (length word) MAX_NAME
+
+-- the bytes that part a word
+abbrev pub comma : ℕ
+comma = 44
+
+abbrev pub equals_sign : ℕ
+equals_sign = 61
 
 -- a byte before the first of two parts
 abbrev pub behind : ℕ → Option (List ℕ × List ℕ) → Option (List ℕ × List ℕ)
@@ -21,11 +29,6 @@ behind byte (Some (before, after)) = Some (byte ∷ before, after)
 abbrev pub parted_at : ℕ → List ℕ → Option (List ℕ × List ℕ)
 parted_at c [] = None
 parted_at c (byte ∷ rest) = if byte == c then Some ([], rest) else behind byte (parted_at c rest)
-
--- parts behind a text
-abbrev pub joined : List ℕ → Option (List ℕ × List ℕ) → Option (List ℕ × List ℕ)
-joined text None = None
-joined text (Some (before, after)) = Some (text ++ before, after)
 
 -- a number that is not too large in size
 abbrev pub sized : ℕ → Whole → Option ℤ
@@ -44,11 +47,11 @@ bounded least most whole.Outside = None
 bounded least most (whole.Value (pos n)) = number_within least most n
 bounded least most (whole.Value (negsuc n)) = None
 
--- a side of a hoop, from 1 to 60,000
+-- a side of a hoop, from 1 to the greatest
 abbrev pub side_of : List ℕ → Option ℕ
-side_of word = bounded 1 60000 (whole_of word)
+side_of word = bounded 1 MAX_SIDE (whole_of word)
 
--- a shift by two numbers from -60,000 to 60,000
+-- a shift by two numbers, each at most the limit of a shift in size
 abbrev pub shift_by : Option ℤ → Option ℤ → Option Change
 shift_by (Some dx) (Some dy) = Some (shift dx dy)
 shift_by None dy = None
@@ -83,10 +86,10 @@ thread_in (Some (place, number)) = thread_by (bounded 1 255 (whole_of place)) (b
 -- the change that a word of this name and this value spells
 abbrev pub edit_of : List ℕ → List ℕ → Option Change
 edit_of name value =
-    if bytes_eq name (codes "shift") then shift_in (parted_at 44 value)
+    if bytes_eq name (codes "shift") then shift_in (parted_at comma value)
     else (if bytes_eq name (codes "turn") then turn_by (bounded 0 3 (whole_of value))
     else (if bytes_eq name (codes "mirror") then mirror_in value
-    else (if bytes_eq name (codes "thread") then thread_in (parted_at 44 value)
+    else (if bytes_eq name (codes "thread") then thread_in (parted_at comma value)
     else None)))
 
 -- name and value stand around the first equals sign
@@ -96,7 +99,7 @@ edit_in (Some (name, value)) = edit_of name value
 
 -- the edit that a word spells: `shift=DX,DY`, `turn=Q`, `mirror=x`, `mirror=y` or `thread=P,T`
 abbrev pub edit_spelled : List ℕ → Option Change
-edit_spelled word = edit_in (parted_at 61 word)
+edit_spelled word = edit_in (parted_at equals_sign word)
 
 -- a change before others
 abbrev pub before_edits : Option Change → Option (List Change) → Option (List Change)
