@@ -1,4 +1,5 @@
 pub mod RouteFacts
+pub mod ShowFacts
 pub mod SewnDesigns
 pub mod LineWalks
 pub mod PutLemmas
