@@ -20,19 +20,20 @@ pub record Comes (files : Option Files) (name : List ℕ) (Of : List ℕ → Res
   pub short : length bytes ≤ MAX_FILE
   pub is : Of bytes result
 
+-- what comes of the bytes of the file that an order reads
+abbrev pub OutcomeOf : Order → List ℕ → Result Product Refusal → Type 0
+OutcomeOf (routing order) = RouteOf order
+OutcomeOf (rewriting order) = RewriteOf order
+OutcomeOf (showing order) = ShowOf order
+OutcomeOf (hooping order) = HoopOf order
+
 -- the order is accepted, and makes this
 abbrev pub Makes : Order → Option Files → Product → Type 0
-Makes (routing order) files product = Comes files order.drawing (RouteOf order) (Ok product)
-Makes (rewriting order) files product = Comes files order.input (RewriteOf order) (Ok product)
-Makes (showing order) files product = Comes files order.file (ShowOf order) (Ok product)
-Makes (hooping order) files product = Comes files order.file (HoopOf order) (Ok product)
+Makes order files product = Comes files (input_of order) (OutcomeOf order) (Ok product)
 
 -- a step of the order that comes after the reading of its file refuses
 abbrev pub StepRefuses : Order → Option Files → Refusal → Type 0
-StepRefuses (routing order) files why = Comes files order.drawing (RouteOf order) (Err why)
-StepRefuses (rewriting order) files why = Comes files order.input (RewriteOf order) (Err why)
-StepRefuses (showing order) files why = Comes files order.file (ShowOf order) (Err why)
-StepRefuses (hooping order) files why = Comes files order.file (HoopOf order) (Err why)
+StepRefuses order files why = Comes files (input_of order) (OutcomeOf order) (Err why)
 
 -- the file that an order reads is longer than 64 MiB
 pub record IsTooLong (order : Order) (files : Option Files) (why : Refusal) : Type 0 where
