@@ -37,6 +37,7 @@ convert_with input output None = None
 convert_with input output (Some (splits, cuts)) = if is_name input && is_name output
     then Some (convert input output splits cuts) else None
 
+-- the conversion of two words that are names, and of words for refits
 abbrev pub asked_convert : List (List ℕ) → Option Asked
 asked_convert (input ∷ output ∷ flags) = convert_with input output (refits_spelled flags)
 asked_convert _ = None
@@ -52,6 +53,7 @@ edit_with input output None = None
 edit_with input output (Some edits) = if is_name input && is_name output
     then Some (edit input output edits) else None
 
+-- the edit of two words that are names, and of one word or more for edits
 abbrev pub asked_edit : List (List ℕ) → Option Asked
 asked_edit (input ∷ output ∷ first ∷ later) = edit_with input output (edits_spelled (first ∷ later))
 asked_edit _ = None
@@ -62,6 +64,7 @@ hoop_with file None height = None
 hoop_with file (Some width) None = None
 hoop_with file (Some width) (Some height) = if is_name file then Some (hoop file width height) else None
 
+-- the check of a word that is a name, and of two words for the sides
 abbrev pub asked_hoop : List (List ℕ) → Option Asked
 asked_hoop (file ∷ width ∷ height ∷ []) = hoop_with file (side_of width) (side_of height)
 asked_hoop _ = None

@@ -13,10 +13,11 @@ use Rattle.command_words.specs.Changes.{Change, cut, mirror, shift, split, threa
 abbrev pub is_name : List ℕ → Bool
 is_name word = nat_le 1 (length word) && nat_le (length word) MAX_NAME
 
--- the bytes that part a word
+-- the byte between two numbers
 abbrev pub comma : ℕ
 comma = 44
 
+-- the byte between the name of an edit and its value
 abbrev pub equals_sign : ℕ
 equals_sign = 61
 
@@ -51,17 +52,18 @@ bounded least most (whole.Value (negsuc n)) = None
 abbrev pub side_of : List ℕ → Option ℕ
 side_of word = bounded 1 MAX_SIDE (whole_of word)
 
--- a shift by two numbers, each at most the limit of a shift in size
+-- a shift by two numbers, where there are both
 abbrev pub shift_by : Option ℤ → Option ℤ → Option Change
 shift_by (Some dx) (Some dy) = Some (shift dx dy)
 shift_by None dy = None
 shift_by (Some dx) None = None
 
+-- a shift by the numbers before and after a comma, each at most the limit of a shift in size
 abbrev pub shift_in : Option (List ℕ × List ℕ) → Option Change
 shift_in None = None
 shift_in (Some (dx, dy)) = shift_by (sized MAX_SHIFT (whole_of dx)) (sized MAX_SHIFT (whole_of dy))
 
--- a turn by 0 to 3 quarters
+-- a turn by quarters, where there is their number
 abbrev pub turn_by : Option ℕ → Option Change
 turn_by None = None
 turn_by (Some quarters) = Some (turn quarters)
@@ -73,17 +75,18 @@ mirror_in value =
     else (if bytes_eq value (codes "y") then Some (mirror Y)
     else None)
 
--- a thread from 0 to 255 for a block from 1 to 255
+-- a thread for the block of a place, where there are both numbers
 abbrev pub thread_by : Option ℕ → Option ℕ → Option Change
 thread_by (Some place) (Some number) = Some (thread place number)
 thread_by None number = None
 thread_by (Some place) None = None
 
+-- a thread by the numbers before and after a comma: a place from 1 to 255, and a thread from 0 to 255
 abbrev pub thread_in : Option (List ℕ × List ℕ) → Option Change
 thread_in None = None
 thread_in (Some (place, number)) = thread_by (bounded 1 255 (whole_of place)) (bounded 0 255 (whole_of number))
 
--- the change that a word of this name and this value spells
+-- the change that a word of this name and this value spells; a turn has 0 to 3 quarters
 abbrev pub edit_of : List ℕ → List ℕ → Option Change
 edit_of name value =
     if bytes_eq name (codes "shift") then shift_in (parted_at comma value)
