@@ -9,8 +9,8 @@ use Rattle.step_splitter.specs.declared.refitting.RefitMode.TheVariants as mode
 use Rattle.stitch_cli.specs.declared.stop.Refusal.{Refusal}
 use Rattle.stitch_cli.specs.declared.stop.Refusal.TheVariants as refusal
 use Rattle.stitch_cli.specs.ChangedDesigns.{Becomes, BecomesAll, RefitsTo}
-use Rattle.stitch_cli.specs.Products.{Product}
 use Rattle.stitch_cli.specs.Orders.{RewriteOrder}
+use Rattle.stitch_cli.specs.Products.{Product}
 use Rattle.stitch_cli.specs.Rewrites.{NotRewritten, Rewritten, unchanged, unread, unwritten}
 
 -- one value is one design, and not a refusal

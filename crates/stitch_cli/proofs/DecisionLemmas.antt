@@ -14,12 +14,12 @@ use Rattle.stitch_cli.specs.declared.stop.Refusal.TheVariants as refusal
 use Rattle.stitch_cli.specs.declared.stop.Stop.{Stop}
 use Rattle.stitch_cli.specs.declared.stop.Stop.TheVariants as stop
 use Rattle.stitch_cli.specs.Endings.{Ends, OrderEnds, Stops, all, but_report, made, status_of, stopped, up_to}
+use Rattle.stitch_cli.specs.Orders.{Order, RouteOrder, hooping, input_of, rewriting, routing, showing}
 use Rattle.stitch_cli.specs.Outcomes.{Comes, Makes, OutcomeOf, Refuses}
 use Rattle.stitch_cli.specs.Products.{Product}
-use Rattle.stitch_cli.proofs.ChangeLemmas.{rewritten_not_both}
-use Rattle.stitch_cli.specs.Orders.{Order, RouteOrder, hooping, input_of, rewriting, routing, showing}
 use Rattle.stitch_cli.specs.Routes.{Accepts, RouteRefuses}
 use Rattle.stitch_cli.specs.Runs.{AsksFor, IsDecided, IsQuietRun, Sights}
+use Rattle.stitch_cli.proofs.ChangeLemmas.{rewritten_not_both}
 
 -- where the count is quiet it did not rise
 no_rise : (before after : ℕ) → IsQuiet before after → Rose before after → ⊥

@@ -5,9 +5,9 @@ use Rattle.outside_io.specs.Files.{Files, HoldsNow, WhereTold}
 use Rattle.outside_io.specs.declared.limits.TheConstants.{MAX_FILE}
 use Rattle.stitch_cli.specs.declared.stop.Refusal.{Refusal}
 use Rattle.stitch_cli.specs.declared.stop.Refusal.TheVariants as refusal
-use Rattle.stitch_cli.specs.Products.{Product}
-use Rattle.stitch_cli.specs.Orders.{Order, hooping, input_of, rewriting, routing, showing}
 use Rattle.stitch_cli.specs.Hoops.{HoopOf}
+use Rattle.stitch_cli.specs.Orders.{Order, hooping, input_of, rewriting, routing, showing}
+use Rattle.stitch_cli.specs.Products.{Product}
 use Rattle.stitch_cli.specs.Rewrites.{RewriteOf}
 use Rattle.stitch_cli.specs.Routes.{RouteOf}
 use Rattle.stitch_cli.specs.Shows.{ShowOf}

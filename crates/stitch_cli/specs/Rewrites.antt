@@ -10,8 +10,8 @@ use Rattle.format_traits.specs.Laws.{MovesWithin, ReadsAgain}
 use Rattle.stitch_cli.specs.declared.stop.Refusal.{Refusal}
 use Rattle.stitch_cli.specs.declared.stop.Refusal.TheVariants as refusal
 use Rattle.stitch_cli.specs.ChangedDesigns.{BecomesAll}
-use Rattle.stitch_cli.specs.Products.{Product, one_output}
 use Rattle.stitch_cli.specs.Orders.{RewriteOrder}
+use Rattle.stitch_cli.specs.Products.{Product, one_output}
 use Rattle.stitch_cli.specs.Shows.{number_line, number_text}
 
 -- the report on a design that was written

@@ -1,11 +1,11 @@
 ghost use Rattle.std.specs.Prelude.{◌≡◌, ◌≤◌, IfErr, IfOk, OnOk};
 ghost use Rattle.command_words.specs.Requests.{BothAreNames};
 ghost use Rattle.step_splitter.specs.declared.segment.TheConstants.{MAX_STEP};
-ghost use Rattle.stitch_cli.specs.RewriteSteps.{AreSound, ChangesTo, IsRemade, changes_by};
 ghost use Rattle.stitch_cli.specs.Endings.{OrderEnds, Stops};
+ghost use Rattle.stitch_cli.specs.Orders.{rewrite_order, rewriting};
 ghost use Rattle.stitch_cli.specs.Outcomes.{Makes};
 ghost use Rattle.stitch_cli.specs.Products.{one_output};
-ghost use Rattle.stitch_cli.specs.Orders.{rewrite_order, rewriting};
+ghost use Rattle.stitch_cli.specs.RewriteSteps.{AreSound, ChangesTo, IsRemade, changes_by};
 ghost use Rattle.stitch_cli.specs.Runs.{sights};
 ghost use Rattle.stitch_cli.specs.Sights.{store_sight};
 

@@ -2,8 +2,8 @@ ghost use Rattle.std.specs.Prelude.{◌≡◌, ◌≢◌, ◌≤◌, IfErr, IfOk
 ghost use Rattle.command_words.specs.Requests.{AreNames};
 ghost use Rattle.outside_io.specs.declared.limits.TheConstants.{MAX_FILE};
 ghost use Rattle.stitch_cli.specs.Endings.{Delivers, OrderEnds, Stops};
-ghost use Rattle.stitch_cli.specs.Outcomes.{Makes};
 ghost use Rattle.stitch_cli.specs.Orders.{route_order, routing};
+ghost use Rattle.stitch_cli.specs.Outcomes.{Makes};
 ghost use Rattle.stitch_cli.specs.Runs.{sights};
 ghost use Rattle.stitch_cli.specs.Sights.{store_sight};
 ghost use Rattle.stitch_cli.specs.Steps.{ReadsLoops, routed_product};

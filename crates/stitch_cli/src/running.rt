@@ -2,9 +2,9 @@ ghost use Rattle.std.specs.Prelude.{◌≡◌, ◌≢◌, map, option_map, strin
 ghost use Rattle.std.specs.Bool.{OnTrue};
 ghost use Rattle.command_words.specs.Requests.{AreNames, BothAreNames};
 ghost use Rattle.outside_io.specs.Files.{IsName};
+ghost use Rattle.stitch_cli.specs.Endings.{Ends};
 ghost use Rattle.stitch_cli.specs.Orders.{are_apart as names_are_apart, format_of, hooping_by, order_of, rewriting_by, routing_to, showing_by};
 ghost use Rattle.stitch_cli.specs.RewriteSteps.{AreSound, changes_by};
-ghost use Rattle.stitch_cli.specs.Endings.{Ends};
 ghost use Rattle.stitch_cli.specs.Runs.{IsDecided, IsDone, IsFault, IsMemory, IsQuietRun, IsRefused, IsUsage, KeepsOthers, sights};
 
 use crate::hooping::hoop;

@@ -1,9 +1,9 @@
 ghost use Rattle.std.specs.Prelude.{◌≡◌, IfErr, IfOk, OnOk};
 ghost use Rattle.outside_io.specs.Files.{IsName};
 ghost use Rattle.stitch_cli.specs.Endings.{OrderEnds, Stops};
+ghost use Rattle.stitch_cli.specs.Orders.{show_order, showing};
 ghost use Rattle.stitch_cli.specs.Outcomes.{Makes};
 ghost use Rattle.stitch_cli.specs.Products.{only_report};
-ghost use Rattle.stitch_cli.specs.Orders.{show_order, showing};
 ghost use Rattle.stitch_cli.specs.Runs.{sights};
 ghost use Rattle.stitch_cli.specs.Sights.{store_sight};
 
