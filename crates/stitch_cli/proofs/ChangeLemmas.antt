@@ -1,5 +1,6 @@
 -- Changes decide: they make one design of another, or are refused.
 use Rattle.std.proofs.Common.{◌≡◌, ℕ, inl, inr, List, [], ◌∷◌, Result, Ok, Err, sym, ◌∙◌, subst, arith}
+use Rattle.command_words.specs.Changes.{Change, cut, mirror, shift, split, thread, turn}
 use Rattle.design_model.specs.Designs.{DesignValue}
 use Rattle.format_traits.specs.declared.fault.ReadFault.{ReadFault}
 use Rattle.format_traits.specs.declared.loaded.Loaded.{Loaded}
@@ -7,9 +8,9 @@ use Rattle.step_splitter.specs.declared.refitting.RefitMode.{RefitMode}
 use Rattle.step_splitter.specs.declared.refitting.RefitMode.TheVariants as mode
 use Rattle.stitch_cli.specs.declared.stop.Refusal.{Refusal}
 use Rattle.stitch_cli.specs.declared.stop.Refusal.TheVariants as refusal
-use Rattle.stitch_cli.specs.Changes.{Becomes, BecomesAll, Change, RefitsTo, cut, mirror, shift, split, thread, turn}
+use Rattle.stitch_cli.specs.ChangedDesigns.{Becomes, BecomesAll, RefitsTo}
+use Rattle.stitch_cli.specs.Orders.{RewriteOrder}
 use Rattle.stitch_cli.specs.Products.{Product}
-use Rattle.stitch_cli.specs.Requests.{RewriteOrder}
 use Rattle.stitch_cli.specs.Rewrites.{NotRewritten, Rewritten, unchanged, unread, unwritten}
 
 -- one value is one design, and not a refusal

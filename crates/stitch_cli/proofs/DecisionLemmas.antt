@@ -14,15 +14,12 @@ use Rattle.stitch_cli.specs.declared.stop.Refusal.TheVariants as refusal
 use Rattle.stitch_cli.specs.declared.stop.Stop.{Stop}
 use Rattle.stitch_cli.specs.declared.stop.Stop.TheVariants as stop
 use Rattle.stitch_cli.specs.Endings.{Ends, OrderEnds, Stops, all, but_report, made, status_of, stopped, up_to}
-use Rattle.stitch_cli.specs.Orders.{Comes, Makes, Refuses}
-use Rattle.stitch_cli.specs.Hoops.{HoopOf}
+use Rattle.stitch_cli.specs.Orders.{Order, RouteOrder, hooping, input_of, rewriting, routing, showing}
+use Rattle.stitch_cli.specs.Outcomes.{Comes, Makes, OutcomeOf, Refuses}
 use Rattle.stitch_cli.specs.Products.{Product}
-use Rattle.stitch_cli.specs.Rewrites.{RewriteOf}
-use Rattle.stitch_cli.specs.Shows.{ShowOf}
-use Rattle.stitch_cli.proofs.ChangeLemmas.{rewritten_not_both}
-use Rattle.stitch_cli.specs.Requests.{Order, RouteOrder, hooping, input_of, rewriting, routing, showing}
-use Rattle.stitch_cli.specs.Routes.{Accepts, RouteOf, RouteRefuses}
+use Rattle.stitch_cli.specs.Routes.{Accepts, RouteRefuses}
 use Rattle.stitch_cli.specs.Runs.{AsksFor, IsDecided, IsQuietRun, Sights}
+use Rattle.stitch_cli.proofs.ChangeLemmas.{rewritten_not_both}
 
 -- where the count is quiet it did not rise
 no_rise : (before after : ℕ) → IsQuiet before after → Rose before after → ⊥
@@ -105,49 +102,35 @@ route_not_both order bytes d (refusal.MovedOut number) accepts never = never
 route_not_both order bytes d (refusal.NoPlace place count) accepts never = never
 route_not_both order bytes d (refusal.TooLarge x y) accepts never = never
 
+-- what comes of bytes is a product or a refusal
+outcome_not_both : (order : Order) (product : Product) (why : Refusal) (bytes : List ℕ)
+    → OutcomeOf order bytes (Ok product) → OutcomeOf order bytes (Err why) → ⊥
+outcome_not_both (routing order) product why bytes one other =
+    route_not_both order bytes one.drawing why one.accepted other
+outcome_not_both (rewriting order) product why bytes one other =
+    rewritten_not_both order bytes product why one other
+outcome_not_both (showing order) product why bytes one other = not_both _ product why one other
+outcome_not_both (hooping order) product why bytes one other = not_both _ product why one other
+
 -- what is accepted isn't refused
 not_refused : (order : Order) (files : Option Files) (product : Product) (why : Refusal)
     → IsSome files → Makes order files product → Refuses order files why → ⊥
-not_refused (routing order) files product why told makes (inl long) =
-    not_longer files order.drawing makes.bytes told makes.held makes.short long.longer
-not_refused (routing order) files product why told makes (inr refuses) =
-    comes_not_both files order.drawing (RouteOf order) product why
-    (λ bytes one other. route_not_both order bytes one.drawing why one.accepted other) told makes refuses
-not_refused (rewriting order) files product why told makes (inl long) =
-    not_longer files order.input makes.bytes told makes.held makes.short long.longer
-not_refused (rewriting order) files product why told makes (inr refuses) =
-    comes_not_both files order.input (RewriteOf order) product why
-    (λ bytes one other. rewritten_not_both order bytes product why one other) told makes refuses
-not_refused (showing order) files product why told makes (inl long) =
-    not_longer files order.file makes.bytes told makes.held makes.short long.longer
-not_refused (showing order) files product why told makes (inr refuses) =
-    comes_not_both files order.file (ShowOf order) product why
-    (λ bytes one other. not_both _ product why one other) told makes refuses
-not_refused (hooping order) files product why told makes (inl long) =
-    not_longer files order.file makes.bytes told makes.held makes.short long.longer
-not_refused (hooping order) files product why told makes (inr refuses) =
-    comes_not_both files order.file (HoopOf order) product why
-    (λ bytes one other. not_both _ product why one other) told makes refuses
+not_refused order files product why told makes (inl long) =
+    not_longer files (input_of order) makes.bytes told makes.held makes.short long.longer
+not_refused order files product why told makes (inr refuses) = comes_not_both files (input_of order) (OutcomeOf order)
+    product why (outcome_not_both order product why) told makes refuses
 
 -- what is refused is there
 refused_is_there : (order : Order) (files : Option Files) (why : Refusal) → Refuses order files why
     → Lacks files (input_of order) → ⊥
-refused_is_there (routing order) files why (inl long) lacks = longer_is_there files order.drawing long.longer lacks
-refused_is_there (routing order) files why (inr refuses) lacks = not_missing files order.drawing refuses.bytes lacks refuses.held
-refused_is_there (rewriting order) files why (inl long) lacks = longer_is_there files order.input long.longer lacks
-refused_is_there (rewriting order) files why (inr refuses) lacks = not_missing files order.input refuses.bytes lacks refuses.held
-refused_is_there (showing order) files why (inl long) lacks = longer_is_there files order.file long.longer lacks
-refused_is_there (showing order) files why (inr refuses) lacks = not_missing files order.file refuses.bytes lacks refuses.held
-refused_is_there (hooping order) files why (inl long) lacks = longer_is_there files order.file long.longer lacks
-refused_is_there (hooping order) files why (inr refuses) lacks = not_missing files order.file refuses.bytes lacks refuses.held
+refused_is_there order files why (inl long) lacks = longer_is_there files (input_of order) long.longer lacks
+refused_is_there order files why (inr refuses) lacks =
+    not_missing files (input_of order) refuses.bytes lacks refuses.held
 
 -- what is accepted is there
 made_is_there : (order : Order) (files : Option Files) (product : Product) → Makes order files product
     → Lacks files (input_of order) → ⊥
-made_is_there (routing order) files product makes lacks = not_missing files order.drawing makes.bytes lacks makes.held
-made_is_there (rewriting order) files product makes lacks = not_missing files order.input makes.bytes lacks makes.held
-made_is_there (hooping order) files product makes lacks = not_missing files order.file makes.bytes lacks makes.held
-made_is_there (showing order) files product makes lacks = not_missing files order.file makes.bytes lacks makes.held
+made_is_there order files product makes lacks = not_missing files (input_of order) makes.bytes lacks makes.held
 
 -- what an order came to, where no count rose
 data Came (order : Order) (files : Option Files) (s : Status) : Type 0 where

@@ -1,10 +1,11 @@
 -- Edits one after another.
 use Rattle.std.proofs.Common.{◌≡◌, ℕ, List, [], ◌∷◌, Option, Some, None, IfSome, IsSome, inl, inr, Result, Ok, Err, refl, sym, subst}
 use Rattle.std.specs.Prelude.{unwrap_or}
+use Rattle.command_words.specs.Changes.{Change}
+use Rattle.command_words.specs.Words.{before_edits, edit_spelled, edits_spelled}
 use Rattle.design_model.specs.Designs.{DesignValue}
 use Rattle.stitch_cli.specs.declared.stop.Refusal.{Refusal}
-use Rattle.stitch_cli.specs.Changes.{Becomes, BecomesAll, Change}
-use Rattle.stitch_cli.specs.Words.{before_edits, edit_spelled, edits_spelled}
+use Rattle.stitch_cli.specs.ChangedDesigns.{Becomes, BecomesAll}
 
 -- what the words that are left make of the design now, all words make of the first
 pub record GoesOn (words left : List (List ℕ)) (first now : DesignValue) : Type 0 where

@@ -12,9 +12,9 @@ use Rattle.stitch_cli.specs.declared.stop.Stop.{Stop}
 use Rattle.stitch_cli.specs.declared.stop.Stop.TheVariants as stop
 use Rattle.stitch_cli.specs.Endings.{Delivers, Ends, Stops, all, but_report, made, stopped, up_to}
 use Rattle.stitch_cli.specs.Hoops.{fitted_as, hooped_as}
-use Rattle.stitch_cli.specs.Orders.{Makes}
+use Rattle.stitch_cli.specs.Orders.{Order, hooping, outputs_of, rewriting, routing, showing}
+use Rattle.stitch_cli.specs.Outcomes.{Makes}
 use Rattle.stitch_cli.specs.Products.{ChangesAmong, IsNoneOf, Product, names_of, only_report}
-use Rattle.stitch_cli.specs.Requests.{Order, hooping, outputs_of, rewriting, routing, showing}
 use Rattle.stitch_cli.specs.Runs.{KeepsOthers, Sights}
 use Rattle.stitch_cli.specs.Shows.{show_report, shown_as}
 use Rattle.stitch_cli.proofs.DeliveryLemmas.{none_before}

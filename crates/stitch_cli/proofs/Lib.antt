@@ -1,4 +1,5 @@
 pub mod RouteFacts
+pub mod ShowFacts
 pub mod SewnDesigns
 pub mod LineWalks
 pub mod PutLemmas
@@ -6,7 +7,6 @@ pub mod DeliveryLemmas
 pub mod RunLemmas
 pub mod KeepLemmas
 pub mod RewriteLemmas
-pub mod WordLemmas
 pub mod EditLemmas
 pub mod ChangeLemmas
 pub mod DecisionLemmas

@@ -7,10 +7,11 @@ use Rattle.stitch_cli.specs.declared.stop.Refusal.TheVariants as refusal
 use Rattle.stitch_cli.specs.declared.stop.Stop.{Stop}
 use Rattle.stitch_cli.specs.declared.stop.Stop.TheVariants as stop
 use Rattle.stitch_cli.specs.Endings.{Stops}
-use Rattle.stitch_cli.specs.Requests.{RewriteOrder, rewriting}
+use Rattle.stitch_cli.specs.Orders.{RewriteOrder, rewriting}
+use Rattle.stitch_cli.specs.RewriteSteps.{ChangesTo, IsRemade}
 use Rattle.stitch_cli.specs.Rewrites.{unchanged, unread, unwritten}
 use Rattle.stitch_cli.specs.Sights.{StoreSight}
-use Rattle.stitch_cli.specs.Steps.{ChangesTo, IsRead, IsRemade, ReadsDesign}
+use Rattle.stitch_cli.specs.Steps.{IsRead, ReadsDesign}
 
 -- a file that was not read
 pub read_stops : (order : RewriteOrder) (store store' : StoreSight) (why : Stop)

@@ -1,15 +1,15 @@
 -- What the end of a run means.
 use Rattle.std.proofs.Common.{◌≡◌, ℕ, inl, inr, Bool, true, false, List, Option, Some, None, refl, sym, subst, if◌then◌else◌, bytes_eq}
+use Rattle.command_words.specs.Changes.{Change}
 use Rattle.format_traits.specs.Meanings.{Meaning}
 use Rattle.stitch_cli.specs.declared.status.Status.{Status}
 use Rattle.stitch_cli.specs.declared.status.Status.TheVariants as status
 use Rattle.stitch_cli.specs.declared.stop.Stop.{Stop}
 use Rattle.stitch_cli.specs.declared.stop.Stop.TheVariants as stop
-use Rattle.stitch_cli.specs.Changes.{Change}
 use Rattle.stitch_cli.specs.Endings.{Delivers, Ends, OrderEnds, Stops, Tells, all, but_report, made, status_of, stopped, up_to}
-use Rattle.stitch_cli.specs.Orders.{Makes}
+use Rattle.stitch_cli.specs.Orders.{Order, are_apart, input_of, hoop_order, hooping, hooping_by, rewriting, rewriting_by, routing, routing_to, show_order, showing, showing_by, subject_of}
+use Rattle.stitch_cli.specs.Outcomes.{Makes}
 use Rattle.stitch_cli.specs.Products.{Product}
-use Rattle.stitch_cli.specs.Requests.{Order, are_apart, input_of, hoop_order, hooping, hooping_by, rewriting, rewriting_by, routing, routing_to, show_order, showing, showing_by, subject_of}
 use Rattle.stitch_cli.specs.Runs.{CallsFor, IsDone, IsFault, IsMemory, IsRefused, IsUsage, Sights, failed, memory, missing, refused, unprinted, unread, unwritten, usage}
 use Rattle.stitch_cli.specs.Sights.{SinkSight, StoreSight}
 use Rattle.stitch_cli.specs.Texts.{stop_line, unprinted_line, unread_line, unwritten_line, usage_text}

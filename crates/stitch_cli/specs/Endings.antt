@@ -7,9 +7,9 @@ use Rattle.stitch_cli.specs.declared.status.Status.{Status}
 use Rattle.stitch_cli.specs.declared.status.Status.TheVariants as status
 use Rattle.stitch_cli.specs.declared.stop.Stop.{Stop}
 use Rattle.stitch_cli.specs.declared.stop.Stop.TheVariants as stop
-use Rattle.stitch_cli.specs.Orders.{Makes, Refuses}
+use Rattle.stitch_cli.specs.Orders.{Order, input_of, subject_of}
+use Rattle.stitch_cli.specs.Outcomes.{Makes, Refuses}
 use Rattle.stitch_cli.specs.Products.{Product, Wrote, WroteUpTo}
-use Rattle.stitch_cli.specs.Requests.{Order, input_of, subject_of}
 use Rattle.stitch_cli.specs.Runs.{Sights}
 use Rattle.stitch_cli.specs.Sights.{Broke, SinkSight, StoreSight, fed}
 use Rattle.stitch_cli.specs.Texts.{stop_line, unprinted_line, unwritten_line, usage_text}

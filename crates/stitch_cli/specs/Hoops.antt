@@ -8,8 +8,8 @@ use Rattle.hoop_check.specs.Fits.{fit_of}
 use Rattle.stitch_cli.specs.declared.stop.Refusal.{Refusal}
 use Rattle.stitch_cli.specs.declared.stop.Refusal.TheVariants as refusal
 use Rattle.stitch_cli.specs.Certificates.{line_end}
+use Rattle.stitch_cli.specs.Orders.{HoopOrder}
 use Rattle.stitch_cli.specs.Products.{Product, only_report}
-use Rattle.stitch_cli.specs.Requests.{HoopOrder}
 
 -- the report on a design that fits into a hoop, or by how much it is too large
 abbrev pub fitted_as : Fit → Result Product Refusal

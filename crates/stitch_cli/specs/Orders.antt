@@ -1,44 +1,157 @@
--- What each order comes to, by the file that it reads.
-use Rattle.std.specs.Prelude.{◌≡◌, ◌⊎◌, ℕ, ◌≤◌, List, length, Option, Result, Ok, Err}
-use Rattle.outside_io.specs.Causes.{IsLonger}
-use Rattle.outside_io.specs.Files.{Files, HoldsNow, WhereTold}
-use Rattle.outside_io.specs.declared.limits.TheConstants.{MAX_FILE}
-use Rattle.stitch_cli.specs.declared.stop.Refusal.{Refusal}
-use Rattle.stitch_cli.specs.declared.stop.Refusal.TheVariants as refusal
-use Rattle.stitch_cli.specs.Products.{Product}
-use Rattle.stitch_cli.specs.Requests.{Order, hooping, input_of, rewriting, routing, showing}
-use Rattle.stitch_cli.specs.Hoops.{HoopOf}
-use Rattle.stitch_cli.specs.Rewrites.{RewriteOf}
-use Rattle.stitch_cli.specs.Routes.{RouteOf}
-use Rattle.stitch_cli.specs.Shows.{ShowOf}
+-- Requests that are complete: the formats that they need are there, and their names differ.
+use Rattle.std.specs.Prelude.{ℕ, Bool, ◌&&◌, not, List, [], ◌∷◌, Option, Some, None, bytes_eq, slice_get, if◌then◌else◌}
+use Rattle.std.specs.Option.{option_and_then}
+use Rattle.command_words.specs.declared.requests.Names.{Names}
+use Rattle.command_words.specs.declared.requests.RouteNames.{RouteNames}
+use Rattle.command_words.specs.Changes.{Change}
+use Rattle.command_words.specs.Requests.{Asked, asked_of, convert, edit, hoop, route, show}
+use Rattle.command_words.specs.Words.{refits}
+use Rattle.format_traits.specs.Meanings.{Meaning}
+use Rattle.format_traits.specs.Endings.{found_in}
 
--- the named file, where it is told, has bytes of which this comes
-pub record Comes (files : Option Files) (name : List ℕ) (Of : List ℕ → Result Product Refusal → Type 0)
-    (result : Result Product Refusal) : Type 0 where
-  pub bytes : List ℕ
-  pub held : HoldsNow files name bytes
-  pub short : length bytes ≤ MAX_FILE
-  pub is : Of bytes result
+-- the files that a route names, and what the format of its output means
+pub record RouteOrder : Type 0 where
+  pub drawing : List ℕ
+  pub out : List ℕ
+  pub cert : List ℕ
+  pub format : Meaning
 
--- the order is accepted, and makes this
-abbrev pub Makes : Order → Option Files → Product → Type 0
-Makes (routing order) files product = Comes files order.drawing (RouteOf order) (Ok product)
-Makes (rewriting order) files product = Comes files order.input (RewriteOf order) (Ok product)
-Makes (showing order) files product = Comes files order.file (ShowOf order) (Ok product)
-Makes (hooping order) files product = Comes files order.file (HoopOf order) (Ok product)
+-- the file that is shown, and what its format means
+pub record ShowOrder : Type 0 where
+  pub file : List ℕ
+  pub format : Meaning
 
--- a step of the order that comes after the reading of its file refuses
-abbrev pub StepRefuses : Order → Option Files → Refusal → Type 0
-StepRefuses (routing order) files why = Comes files order.drawing (RouteOf order) (Err why)
-StepRefuses (rewriting order) files why = Comes files order.input (RewriteOf order) (Err why)
-StepRefuses (showing order) files why = Comes files order.file (ShowOf order) (Err why)
-StepRefuses (hooping order) files why = Comes files order.file (HoopOf order) (Err why)
+-- the file that is read and the one that is written, what their formats mean, and the changes between
+pub record RewriteOrder : Type 0 where
+  pub input : List ℕ
+  pub output : List ℕ
+  pub source : Meaning
+  pub target : Meaning
+  pub changes : List Change
 
--- the file that an order reads is longer than 64 MiB
-pub record IsTooLong (order : Order) (files : Option Files) (why : Refusal) : Type 0 where
-  pub is : why ≡ refusal.TooLong
-  pub longer : WhereTold files (λ told. IsLonger (told (input_of order)) MAX_FILE)
+-- the file whose design is to fit into a hoop, what its format means, and the hoop's sides
+pub record HoopOrder : Type 0 where
+  pub file : List ℕ
+  pub format : Meaning
+  pub width : ℕ
+  pub height : ℕ
 
--- the order is refused: its file is too long, or a later step refuses
-abbrev pub Refuses : Order → Option Files → Refusal → Type 0
-Refuses order files why = IsTooLong order files why ⊎ StepRefuses order files why
+-- the order of a route by its names and by what its format means
+abbrev pub route_order : RouteNames → Meaning → RouteOrder
+route_order names format = record {
+  drawing = names.drawing.now;
+  out = names.out.now;
+  cert = names.cert.now;
+  format = format;
+}
+
+-- the order of showing a file by what its format means
+abbrev pub show_order : List ℕ → Meaning → ShowOrder
+show_order file format = record { file = file; format = format }
+
+-- the order of a rewriting by its names, by what their formats mean, and by its changes
+abbrev pub rewrite_order : Names → Meaning → Meaning → List Change → RewriteOrder
+rewrite_order names source target changes = record {
+  input = names.input.now;
+  output = names.output.now;
+  source = source;
+  target = target;
+  changes = changes;
+}
+
+-- the order of checking a hoop
+abbrev pub hoop_order : List ℕ → Meaning → ℕ → ℕ → HoopOrder
+hoop_order file format width height =
+    record { file = file; format = format; width = width; height = height }
+
+-- no two of the three names are equal
+abbrev pub are_apart : List ℕ → List ℕ → List ℕ → Bool
+are_apart a b c = not (bytes_eq a b) && (not (bytes_eq a c) && not (bytes_eq b c))
+
+-- what the format of that name means, where it has one
+abbrev pub format_of : List Meaning → List ℕ → Option Meaning
+format_of formats name = option_and_then (λ place. slice_get formats place) (found_in formats name)
+
+-- a complete request: the formats that it needs are there, and its names differ
+pub data Order : Type 0 where
+  routing : RouteOrder → Order
+  rewriting : RewriteOrder → Order
+  showing : ShowOrder → Order
+  hooping : HoopOrder → Order
+
+-- the route of these names to that format, where there is one
+abbrev pub routing_to : (drawing out cert : List ℕ) → Option Meaning → Option Order
+routing_to drawing out cert None = None
+routing_to drawing out cert (Some format) = if are_apart drawing out cert
+    then Some (routing (record { drawing = drawing; out = out; cert = cert; format = format }))
+    else None
+
+-- the showing of that file by that format, where there is one
+abbrev pub showing_by : List ℕ → Option Meaning → Option Order
+showing_by file None = None
+showing_by file (Some format) = Some (showing (record { file = file; format = format }))
+
+-- the rewriting between those files by these formats, where there are both and the names differ
+abbrev pub rewriting_by : (input output : List ℕ) → List Change → Option Meaning → Option Meaning → Option Order
+rewriting_by input output changes None target = None
+rewriting_by input output changes (Some source) None = None
+rewriting_by input output changes (Some source) (Some target) =
+    if bytes_eq input output then None
+    else Some (rewriting (record {
+      input = input;
+      output = output;
+      source = source;
+      target = target;
+      changes = changes;
+    }))
+
+-- the check of that file by that format, where there is one
+abbrev pub hooping_by : List ℕ → ℕ → ℕ → Option Meaning → Option Order
+hooping_by file width height None = None
+hooping_by file width height (Some format) =
+    Some (hooping (record { file = file; format = format; width = width; height = height }))
+
+-- the request made complete, where it can be
+abbrev pub completed : List Meaning → Option Asked → Option Order
+completed formats None = None
+completed formats (Some (route drawing out cert)) =
+    routing_to drawing out cert (format_of formats out)
+completed formats (Some (convert input output splits cuts)) =
+    rewriting_by input output (refits splits cuts) (format_of formats input) (format_of formats output)
+completed formats (Some (show file)) = showing_by file (format_of formats file)
+completed formats (Some (edit input output edits)) =
+    rewriting_by input output edits (format_of formats input) (format_of formats output)
+completed formats (Some (hoop file width height)) = hooping_by file width height (format_of formats file)
+
+-- the complete request that the words spell, where they spell one
+abbrev pub order_of : List Meaning → List (List ℕ) → Option Order
+order_of formats words = completed formats (asked_of words)
+
+-- the file that an order reads, the design that it writes, and the format that it works with: of these
+-- the lines on standard error speak
+pub record Subject : Type 0 where
+  pub input : List ℕ
+  pub output : List ℕ
+  pub format : Meaning
+
+-- an order's subject
+abbrev pub subject_of : Order → Subject
+subject_of (routing order) = record { input = order.drawing; output = order.out; format = order.format }
+subject_of (rewriting order) = record { input = order.input; output = order.output; format = order.target }
+subject_of (showing order) = record { input = order.file; output = []; format = order.format }
+subject_of (hooping order) = record { input = order.file; output = []; format = order.format }
+
+-- the file that an order reads
+abbrev pub input_of : Order → List ℕ
+input_of order = (subject_of order).input
+
+-- the files that an order writes, in this order
+abbrev pub outputs_of : Order → List (List ℕ)
+outputs_of (routing order) = order.cert ∷ order.out ∷ []
+outputs_of (rewriting order) = order.output ∷ []
+outputs_of (showing order) = []
+outputs_of (hooping order) = []
+
+-- a subject, by its names and by what its format means
+abbrev pub subject_by : Names → Meaning → Subject
+subject_by names format = record { input = names.input.now; output = names.output.now; format = format }

@@ -9,9 +9,9 @@ use Rattle.format_traits.specs.declared.loaded.Loaded.{Loaded}
 use Rattle.format_traits.specs.Laws.{MovesWithin, ReadsAgain}
 use Rattle.stitch_cli.specs.declared.stop.Refusal.{Refusal}
 use Rattle.stitch_cli.specs.declared.stop.Refusal.TheVariants as refusal
-use Rattle.stitch_cli.specs.Changes.{BecomesAll}
+use Rattle.stitch_cli.specs.ChangedDesigns.{BecomesAll}
+use Rattle.stitch_cli.specs.Orders.{RewriteOrder}
 use Rattle.stitch_cli.specs.Products.{Product, one_output}
-use Rattle.stitch_cli.specs.Requests.{RewriteOrder}
 use Rattle.stitch_cli.specs.Shows.{number_line, number_text}
 
 -- the report on a design that was written

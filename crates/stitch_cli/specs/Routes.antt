@@ -15,8 +15,8 @@ use Rattle.stitch_cli.specs.declared.reports.PieceReport.{PieceReport}
 use Rattle.stitch_cli.specs.declared.stop.Refusal.{Refusal}
 use Rattle.stitch_cli.specs.declared.stop.Refusal.TheVariants as refusal
 use Rattle.stitch_cli.specs.Certificates.{PieceCert, certificate_text}
+use Rattle.stitch_cli.specs.Orders.{RouteOrder}
 use Rattle.stitch_cli.specs.Products.{Product}
-use Rattle.stitch_cli.specs.Requests.{RouteOrder}
 use Rattle.stitch_cli.specs.Texts.{route_report}
 
 -- the route accepts the drawing that these bytes say: each of its pieces is one closed line, and its

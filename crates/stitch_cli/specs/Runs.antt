@@ -7,9 +7,9 @@ use Rattle.outside_io.specs.Files.{Files, Lacks}
 use Rattle.stitch_cli.specs.declared.status.Status.{Status}
 use Rattle.stitch_cli.specs.declared.status.Status.TheVariants as status
 use Rattle.stitch_cli.specs.declared.stop.Refusal.{Refusal}
-use Rattle.stitch_cli.specs.Orders.{Makes, Refuses}
+use Rattle.stitch_cli.specs.Orders.{Order, input_of, outputs_of}
+use Rattle.stitch_cli.specs.Outcomes.{Makes, Refuses}
 use Rattle.stitch_cli.specs.Products.{ChangesAmong, Product, Wrote, WroteUpTo}
-use Rattle.stitch_cli.specs.Requests.{Order, input_of, outputs_of}
 use Rattle.stitch_cli.specs.Sights.{Broke, SinkSight, StoreSight, fed, sink_sight, store_sight}
 use Rattle.stitch_cli.specs.Texts.{memory_line, refusal_line, unprinted_line, unread_line, unwritten_line, usage_text}
 

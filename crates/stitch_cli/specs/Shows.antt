@@ -13,8 +13,8 @@ use Rattle.format_traits.specs.declared.loaded.Loaded.{Loaded}
 use Rattle.stitch_cli.specs.declared.stop.Refusal.{Refusal}
 use Rattle.stitch_cli.specs.declared.stop.Refusal.TheVariants as refusal
 use Rattle.stitch_cli.specs.Certificates.{line_end}
+use Rattle.stitch_cli.specs.Orders.{ShowOrder}
 use Rattle.stitch_cli.specs.Products.{Product, only_report}
-use Rattle.stitch_cli.specs.Requests.{ShowOrder}
 
 -- a word and a number
 abbrev pub number_text : List ℕ → ℕ → List ℕ

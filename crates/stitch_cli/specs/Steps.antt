@@ -1,14 +1,13 @@
 -- What the inner steps of the commands answer. No public clause cites this file.
-use Rattle.std.specs.Prelude.{◌≡◌, ℕ, ◌+◌, ◌-◌, ◌<◌, ◌≤◌, true, List, [], ◌∷◌, ◌++◌, length, map, replicate, Result, Ok, Err, string_bytes}
+use Rattle.std.specs.Prelude.{◌≡◌, ℕ, ◌+◌, ◌-◌, ◌<◌, ◌≤◌, true, List, [], ◌∷◌, ◌++◌, length, map, replicate, Result, Ok, Err}
 use Rattle.std.specs.List.{range_with_len}
+use Rattle.command_words.specs.declared.requests.RouteNames.{RouteNames}
 use Rattle.design_model.specs.declared.command.Command.{Command}
 use Rattle.design_model.specs.declared.command.Command.TheVariants as command
 use Rattle.design_model.specs.declared.point.Point.{Point}
-use Rattle.design_model.specs.Counts.{counts_of}
 use Rattle.design_model.specs.Designs.{DesignValue}
 use Rattle.format_traits.specs.declared.fault.ReadFault.{ReadFault}
 use Rattle.format_traits.specs.declared.loaded.Loaded.{Loaded}
-use Rattle.format_traits.specs.Laws.{MovesWithin, ReadsAgain}
 use Rattle.format_traits.specs.Meanings.{Meaning}
 use Rattle.hoop_check.specs.declared.fitting.Fit.{Fit}
 use Rattle.line_graph.specs.declared.pass.Pass.{Pass}
@@ -22,26 +21,16 @@ use Rattle.outside_io.specs.Blames.{read_of}
 use Rattle.outside_io.specs.Causes.{Faults, IsLonger}
 use Rattle.outside_io.specs.Files.{HoldsNow, IsName, Lacks, WhereTold}
 use Rattle.outside_io.specs.declared.limits.TheConstants.{MAX_FILE}
-use Rattle.step_splitter.specs.declared.refitting.RefitMode.{RefitMode}
-use Rattle.step_splitter.specs.declared.refitting.RefitMode.TheVariants as mode
 use Rattle.stitch_cli.specs.declared.delivery.Output.{Output}
-use Rattle.stitch_cli.specs.declared.making.Made.{Made}
 use Rattle.stitch_cli.specs.declared.making.Routed.{Routed}
 use Rattle.stitch_cli.specs.declared.reports.PieceReport.{PieceReport}
-use Rattle.stitch_cli.specs.declared.requests.RouteNames.{RouteNames}
-use Rattle.stitch_cli.specs.declared.rewriting.Changes.{Changes}
-use Rattle.stitch_cli.specs.declared.rewriting.Changes.TheVariants as changes
 use Rattle.stitch_cli.specs.declared.sewing.Sewn.{Sewn}
-use Rattle.stitch_cli.specs.declared.stop.Refusal.{Refusal}
 use Rattle.stitch_cli.specs.declared.stop.Refusal.TheVariants as refusal
 use Rattle.stitch_cli.specs.declared.stop.Stop.{Stop}
 use Rattle.stitch_cli.specs.declared.stop.Stop.TheVariants as stop
 use Rattle.stitch_cli.specs.Certificates.{PieceCert}
-use Rattle.stitch_cli.specs.Changes.{Becomes, BecomesAll, Change, cut, split}
 use Rattle.stitch_cli.specs.Hoops.{fitted_as}
 use Rattle.stitch_cli.specs.Products.{Product, Written}
-use Rattle.stitch_cli.specs.Requests.{SpellEdits}
-use Rattle.stitch_cli.specs.Rewrites.{written_report}
 use Rattle.stitch_cli.specs.Routes.{HasOtherPieces, IsRouted}
 use Rattle.stitch_cli.specs.Sights.{StoreSight}
 
@@ -124,45 +113,6 @@ FitStops fit (stop.Refused why) = fitted_as fit ≡ Err why
 FitStops fit stop.Missing = ⊥
 FitStops fit stop.NotRead = ⊥
 FitStops fit stop.Memory = ⊥
-
--- the words of a rewriting's changes spell edits
-abbrev pub AreSound : Changes → Type 0
-AreSound (changes.Refits splits cuts) = Unit {0}
-AreSound (changes.Edits words) = SpellEdits (map (λ word. string_bytes word) words.now)
-
--- the change that a refit is
-abbrev pub refit_change : RefitMode → Change
-refit_change mode.Split = split
-refit_change mode.Cut = cut
-
--- what changes make of a design
-abbrev pub ChangesTo : ℕ → List Change → DesignValue → Result DesignValue Stop → Type 0
-ChangesTo limit changes d (Ok changed) = BecomesAll limit changes d (Ok changed)
-ChangesTo limit changes d (Err (stop.Refused why)) = BecomesAll limit changes d (Err why)
-ChangesTo limit changes d (Err stop.Missing) = ⊥
-ChangesTo limit changes d (Err stop.NotRead) = ⊥
-ChangesTo limit changes d (Err stop.Memory) = Unit {0}
-
--- what one edit makes of a design in place
-abbrev pub EditsTo : {T : Type 0} → ℕ → Change → DesignValue → Result T Refusal → DesignValue → Type 0
-EditsTo limit change old (Ok _) new = Becomes limit change old (Ok new)
-EditsTo limit change old (Err why) new = Becomes limit change old (Err why)
-
--- what is written for a design
-pub record IsRemadeOf (target : Meaning) (d : DesignValue) (made : Made) : Type 0 where
-  pub written : target.writes d ≡ Ok made.bytes
-  pub again : ReadsAgain target d made.bytes
-  pub within : MovesWithin target made.bytes
-  pub report : made.report ≡ written_report (counts_of d)
-
--- the writing of a design
-abbrev pub IsRemade : Meaning → DesignValue → Result Made Stop → Type 0
-IsRemade target d (Ok made) = IsRemadeOf target d made
-IsRemade target d (Err (stop.Refused (refusal.Unwritten f))) = target.writes d ≡ Err f
-IsRemade target d (Err (stop.Refused _)) = ⊥
-IsRemade target d (Err stop.Missing) = ⊥
-IsRemade target d (Err stop.NotRead) = ⊥
-IsRemade target d (Err stop.Memory) = Unit {0}
 
 -- the design with further commands
 abbrev pub with_commands : DesignValue → List Command → DesignValue

@@ -14,7 +14,7 @@ use Rattle.stitch_cli.specs.declared.stop.Stop.TheVariants as stop
 use Rattle.stitch_cli.specs.declared.stop.Refusal.{Refusal}
 use Rattle.stitch_cli.specs.declared.stop.Refusal.TheVariants as refusal
 use Rattle.stitch_cli.specs.Certificates.{line_end}
-use Rattle.stitch_cli.specs.Requests.{Order, Subject, subject_of}
+use Rattle.stitch_cli.specs.Orders.{Order, Subject, subject_of}
 
 -- what the words may be
 abbrev pub usage_text : List ℕ

@@ -1,14 +1,14 @@
 ghost use Rattle.std.specs.Prelude.{◌≡◌, ◌≤◌, ℕ, [], ◌∷◌, IfSome, IsSome, map, string_bytes, unsigned_abs, unwrap_or, if◌then◌else◌};
-ghost use Rattle.stitch_cli.specs.Changes.{shift as shift_by, thread as thread_at};
-ghost use Rattle.stitch_cli.specs.Edits.{IsSmallEdit, change_by};
-ghost use Rattle.stitch_cli.specs.Requests.{SpellEdits};
-ghost use Rattle.stitch_cli.specs.Steps.{ChangesTo, EditsTo, refit_change};
-ghost use Rattle.stitch_cli.specs.Words.{edit_spelled as edit_spelled_by, edits_spelled, refits};
+ghost use Rattle.command_words.specs.Changes.{shift as shift_by, thread as thread_at};
+ghost use Rattle.command_words.specs.Edits.{IsSmallEdit, change_by};
+ghost use Rattle.command_words.specs.Requests.{SpellEdits};
+ghost use Rattle.command_words.specs.Words.{edit_spelled as edit_spelled_by, edits_spelled, refits};
 ghost use Rattle.design_edits.specs.declared.motion.TheConstants.{MAX_SHIFT};
 ghost use Rattle.step_splitter.specs.declared.segment.TheConstants.{MAX_STEP};
+ghost use Rattle.stitch_cli.specs.RewriteSteps.{ChangesTo, EditsTo, refit_change};
 
-use crate::edit_words::{Edit, edit_spelled};
 use crate::stop::{Refusal, Stop};
+use command_words::{Edit, edit_spelled};
 use design_edits::{EditFault, mirror, recolour, shift, turn};
 use design_model::{Design, Point};
 use std::alloc::Global;

@@ -1,15 +1,15 @@
 ghost use Rattle.std.specs.Prelude.{◌≡◌, OnErr, OnOk, decimal};
 ghost use Rattle.stitch_cli.specs.declared.status.Status.TheVariants as status;
 ghost use Rattle.stitch_cli.specs.Endings.{Tells, status_of};
-ghost use Rattle.stitch_cli.specs.Requests.{subject_by};
+ghost use Rattle.stitch_cli.specs.Orders.{subject_by};
 ghost use Rattle.stitch_cli.specs.Sights.{Puts, sink_sight};
 ghost use Rattle.stitch_cli.specs.Texts.{byte_line, command_line, draw_line, draw_text as draw_text_of, large_text, line_about, line_at, long_text, memory_line, place_text, read_line, reason_line, step_line, step_text, stop_line, unprinted_line, unread_line, unwritten_line, usage_text, write_line};
 
 use crate::putting::{put_five, put_four, put_one, put_three};
-use crate::requests::Names;
 use crate::status::Status;
 use crate::stop::{Refusal, Stop};
 use crate::usage::usage;
+use command_words::Names;
 use format_traits::{Format, ReadFault, WriteFault, ext_of, limit_of};
 use itoa::Buffer;
 use line_graph::{DrawFault, DrawKind};

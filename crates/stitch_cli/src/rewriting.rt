@@ -1,13 +1,13 @@
 ghost use Rattle.std.specs.Prelude.{◌≡◌, ◌≤◌, IfErr, IfOk, OnOk};
+ghost use Rattle.command_words.specs.Requests.{BothAreNames};
 ghost use Rattle.step_splitter.specs.declared.segment.TheConstants.{MAX_STEP};
-ghost use Rattle.stitch_cli.specs.Edits.{changes_by};
 ghost use Rattle.stitch_cli.specs.Endings.{OrderEnds, Stops};
-ghost use Rattle.stitch_cli.specs.Orders.{Makes};
+ghost use Rattle.stitch_cli.specs.Orders.{rewrite_order, rewriting};
+ghost use Rattle.stitch_cli.specs.Outcomes.{Makes};
 ghost use Rattle.stitch_cli.specs.Products.{one_output};
-ghost use Rattle.stitch_cli.specs.Requests.{BothAreNames, rewrite_order, rewriting};
+ghost use Rattle.stitch_cli.specs.RewriteSteps.{AreSound, ChangesTo, IsRemade, changes_by};
 ghost use Rattle.stitch_cli.specs.Runs.{sights};
 ghost use Rattle.stitch_cli.specs.Sights.{store_sight};
-ghost use Rattle.stitch_cli.specs.Steps.{AreSound, ChangesTo, IsRemade};
 
 use crate::changing::{edited, refitted};
 use crate::delivery::{Output, deliver};
@@ -15,9 +15,9 @@ use crate::design_reports::print_written;
 use crate::making::Made;
 use crate::messages::tell_stop;
 use crate::reading::read_design;
-use crate::requests::Names;
 use crate::status::Status;
 use crate::stop::{Refusal, Stop};
+use command_words::Names;
 use design_model::{Design, counts};
 use format_traits::{Format, Loaded, WriteFault, encode_by, limit_of};
 use outside_io::{Sink, Store};

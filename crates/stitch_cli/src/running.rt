@@ -1,20 +1,19 @@
 ghost use Rattle.std.specs.Prelude.{◌≡◌, ◌≢◌, map, option_map, string_bytes};
 ghost use Rattle.std.specs.Bool.{OnTrue};
+ghost use Rattle.command_words.specs.Requests.{AreNames, BothAreNames};
 ghost use Rattle.outside_io.specs.Files.{IsName};
-ghost use Rattle.stitch_cli.specs.Requests.{AreNames, are_apart as names_are_apart, BothAreNames, format_of, hooping_by, order_of, rewriting_by, routing_to, showing_by};
-ghost use Rattle.stitch_cli.specs.Edits.{changes_by};
 ghost use Rattle.stitch_cli.specs.Endings.{Ends};
+ghost use Rattle.stitch_cli.specs.Orders.{are_apart as names_are_apart, format_of, hooping_by, order_of, rewriting_by, routing_to, showing_by};
+ghost use Rattle.stitch_cli.specs.RewriteSteps.{AreSound, changes_by};
 ghost use Rattle.stitch_cli.specs.Runs.{IsDecided, IsDone, IsFault, IsMemory, IsQuietRun, IsRefused, IsUsage, KeepsOthers, sights};
-ghost use Rattle.stitch_cli.specs.Steps.{AreSound};
 
-use crate::command_words::request;
 use crate::hooping::hoop;
 use crate::messages::tell_usage;
-use crate::requests::{Names, Request, RouteNames};
 use crate::rewriting::{Changes, rewrite};
 use crate::routing::route;
 use crate::showing::show;
 use crate::status::Status;
+use command_words::{Names, Request, RouteNames, request};
 use format_traits::{Format, find};
 use outside_io::{Sink, Store};
 use std::alloc::Global;

@@ -1,9 +1,9 @@
 ghost use Rattle.std.specs.Prelude.{◌≡◌, IfErr, IfOk, OnOk};
 ghost use Rattle.outside_io.specs.Files.{IsName};
 ghost use Rattle.stitch_cli.specs.Endings.{OrderEnds, Stops};
-ghost use Rattle.stitch_cli.specs.Orders.{Makes};
+ghost use Rattle.stitch_cli.specs.Orders.{show_order, showing};
+ghost use Rattle.stitch_cli.specs.Outcomes.{Makes};
 ghost use Rattle.stitch_cli.specs.Products.{only_report};
-ghost use Rattle.stitch_cli.specs.Requests.{show_order, showing};
 ghost use Rattle.stitch_cli.specs.Runs.{sights};
 ghost use Rattle.stitch_cli.specs.Sights.{store_sight};
 
@@ -11,9 +11,9 @@ use crate::delivery::deliver;
 use crate::design_reports::print_loaded;
 use crate::messages::tell_stop;
 use crate::reading::read_design;
-use crate::requests::Names;
 use crate::status::Status;
 use crate::stop::Stop;
+use command_words::Names;
 use design_model::Bytes;
 use format_traits::{Format, ext_of};
 use outside_io::{Sink, Store};

@@ -6,11 +6,20 @@ use Rattle.design_model.specs.declared.whole_number.Whole.{Whole}
 use Rattle.design_model.specs.declared.whole_number.Whole.TheVariants as whole
 use Rattle.design_model.specs.WholeNumbers.{whole_of}
 use Rattle.outside_io.specs.declared.limits.TheConstants.{MAX_NAME}
-use Rattle.stitch_cli.specs.Changes.{Change, cut, mirror, shift, split, thread, turn}
+use Rattle.command_words.specs.declared.request_words.TheConstants.{MAX_SIDE}
+use Rattle.command_words.specs.Changes.{Change, cut, mirror, shift, split, thread, turn}
 
 -- the word may name a file
 abbrev pub is_name : List ℕ → Bool
 is_name word = nat_le 1 (length word) && nat_le (length word) MAX_NAME
+
+-- the byte between two numbers
+abbrev pub comma : ℕ
+comma = 44
+
+-- the byte between the name of an edit and its value
+abbrev pub equals_sign : ℕ
+equals_sign = 61
 
 -- a byte before the first of two parts
 abbrev pub behind : ℕ → Option (List ℕ × List ℕ) → Option (List ℕ × List ℕ)
@@ -21,11 +30,6 @@ behind byte (Some (before, after)) = Some (byte ∷ before, after)
 abbrev pub parted_at : ℕ → List ℕ → Option (List ℕ × List ℕ)
 parted_at c [] = None
 parted_at c (byte ∷ rest) = if byte == c then Some ([], rest) else behind byte (parted_at c rest)
-
--- parts behind a text
-abbrev pub joined : List ℕ → Option (List ℕ × List ℕ) → Option (List ℕ × List ℕ)
-joined text None = None
-joined text (Some (before, after)) = Some (text ++ before, after)
 
 -- a number that is not too large in size
 abbrev pub sized : ℕ → Whole → Option ℤ
@@ -44,21 +48,22 @@ bounded least most whole.Outside = None
 bounded least most (whole.Value (pos n)) = number_within least most n
 bounded least most (whole.Value (negsuc n)) = None
 
--- a side of a hoop, from 1 to 60,000
+-- a side of a hoop, from 1 to the greatest
 abbrev pub side_of : List ℕ → Option ℕ
-side_of word = bounded 1 60000 (whole_of word)
+side_of word = bounded 1 MAX_SIDE (whole_of word)
 
--- a shift by two numbers from -60,000 to 60,000
+-- a shift by two numbers, where there are both
 abbrev pub shift_by : Option ℤ → Option ℤ → Option Change
 shift_by (Some dx) (Some dy) = Some (shift dx dy)
 shift_by None dy = None
 shift_by (Some dx) None = None
 
+-- a shift by the numbers before and after a comma, each at most the limit of a shift in size
 abbrev pub shift_in : Option (List ℕ × List ℕ) → Option Change
 shift_in None = None
 shift_in (Some (dx, dy)) = shift_by (sized MAX_SHIFT (whole_of dx)) (sized MAX_SHIFT (whole_of dy))
 
--- a turn by 0 to 3 quarters
+-- a turn by quarters, where there is their number
 abbrev pub turn_by : Option ℕ → Option Change
 turn_by None = None
 turn_by (Some quarters) = Some (turn quarters)
@@ -70,23 +75,24 @@ mirror_in value =
     else (if bytes_eq value (codes "y") then Some (mirror Y)
     else None)
 
--- a thread from 0 to 255 for a block from 1 to 255
+-- a thread for the block of a place, where there are both numbers
 abbrev pub thread_by : Option ℕ → Option ℕ → Option Change
 thread_by (Some place) (Some number) = Some (thread place number)
 thread_by None number = None
 thread_by (Some place) None = None
 
+-- a thread by the numbers before and after a comma: a place from 1 to 255, and a thread from 0 to 255
 abbrev pub thread_in : Option (List ℕ × List ℕ) → Option Change
 thread_in None = None
 thread_in (Some (place, number)) = thread_by (bounded 1 255 (whole_of place)) (bounded 0 255 (whole_of number))
 
--- the change that a word of this name and this value spells
+-- the change that a word of this name and this value spells; a turn has 0 to 3 quarters
 abbrev pub edit_of : List ℕ → List ℕ → Option Change
 edit_of name value =
-    if bytes_eq name (codes "shift") then shift_in (parted_at 44 value)
+    if bytes_eq name (codes "shift") then shift_in (parted_at comma value)
     else (if bytes_eq name (codes "turn") then turn_by (bounded 0 3 (whole_of value))
     else (if bytes_eq name (codes "mirror") then mirror_in value
-    else (if bytes_eq name (codes "thread") then thread_in (parted_at 44 value)
+    else (if bytes_eq name (codes "thread") then thread_in (parted_at comma value)
     else None)))
 
 -- name and value stand around the first equals sign
@@ -96,7 +102,7 @@ edit_in (Some (name, value)) = edit_of name value
 
 -- the edit that a word spells: `shift=DX,DY`, `turn=Q`, `mirror=x`, `mirror=y` or `thread=P,T`
 abbrev pub edit_spelled : List ℕ → Option Change
-edit_spelled word = edit_in (parted_at 61 word)
+edit_spelled word = edit_in (parted_at equals_sign word)
 
 -- a change before others
 abbrev pub before_edits : Option Change → Option (List Change) → Option (List Change)

@@ -1,25 +1,15 @@
--- Changes of a design that was read, before it is written: what it becomes, or why it is refused.
-use Rattle.std.specs.Prelude.{◌≡◌, ◌⊎◌, ℕ, ◌-◌, ℤ, nat_lt, List, [], ◌∷◌, Option, Some, None, Result, Ok, Err, if◌then◌else◌}
-use Rattle.design_model.specs.Designs.{DesignValue}
-use Rattle.design_edits.specs.declared.axis.Axis.{Axis}
+-- What a design that was read becomes by changes, before it is written, or why it is refused.
+use Rattle.std.specs.Prelude.{◌≡◌, ◌⊎◌, ℕ, ◌-◌, nat_lt, List, [], ◌∷◌, Option, Some, None, Result, Ok, Err, if◌then◌else◌}
+use Rattle.command_words.specs.Changes.{Change, cut, mirror, shift, split, thread, turn}
 use Rattle.design_edits.specs.Colours.{place_count, recoloured}
 use Rattle.design_edits.specs.Moves.{first_outside, mirrored, shifted, turned}
+use Rattle.design_model.specs.Designs.{DesignValue}
 use Rattle.step_splitter.specs.declared.refitting.RefitFault.TheVariants as fault
 use Rattle.step_splitter.specs.declared.refitting.RefitMode.{RefitMode}
 use Rattle.step_splitter.specs.declared.refitting.RefitMode.TheVariants as mode
 use Rattle.step_splitter.specs.Refits.{Refits}
 use Rattle.stitch_cli.specs.declared.stop.Refusal.{Refusal}
 use Rattle.stitch_cli.specs.declared.stop.Refusal.TheVariants as refusal
-
--- a change: long stitches are split, long floats are cut, the design is moved or turned or mirrored, or
--- a block, counted from 1, gets another thread
-pub data Change : Type 0 where
-  split : Change
-  cut : Change
-  shift : (dx dy : ℤ) → Change
-  turn : (quarters : ℕ) → Change
-  mirror : Axis → Change
-  thread : (place number : ℕ) → Change
 
 -- what a refit at that limit makes of a design
 abbrev pub RefitsTo : RefitMode → ℕ → DesignValue → Result DesignValue Refusal → Type 0

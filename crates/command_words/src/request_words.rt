@@ -1,6 +1,6 @@
 ghost use Rattle.std.specs.Prelude.{◌≡◌, IfSome, codes, is_some, map, option_map, string_bytes};
-ghost use Rattle.stitch_cli.specs.Requests.{IsSound, asked_as, asked_by, asked_convert, asked_edit, asked_hoop, asked_of, asked_route, asked_show, hoop_with};
-ghost use Rattle.stitch_cli.specs.Words.{are_both as are_both_words, edits_spelled, is_name as word_is_name, refits_spelled, side_of};
+ghost use Rattle.command_words.specs.Requests.{IsSound, asked_as, asked_by, asked_convert, asked_edit, asked_hoop, asked_of, asked_route, asked_show, hoop_with};
+ghost use Rattle.command_words.specs.Words.{are_both as are_both_words, edits_spelled, is_name as word_is_name, refits_spelled, side_of};
 
 use crate::edit_words::edit_spelled;
 use crate::number_words::bounded;
@@ -8,7 +8,7 @@ use crate::requests::{Names, Request, RouteNames};
 use outside_io::MAX_NAME;
 
 /// The greatest side of a hoop, in tenths of a millimetre.
-const MAX_SIDE: u32 = 60_000;
+pub const MAX_SIDE: u32 = 60_000;
 
 /// The request that the words spell: `route DRAWING OUT CERT`, `convert IN OUT [--split] [--cut]`,
 /// `show FILE`, `edit IN OUT EDIT...` or `hoop FILE WIDTH HEIGHT`. It takes no memory.

@@ -2,9 +2,9 @@
 use Rattle.std.proofs.Common.{◌≡◌, ◌<◌, ℕ, true, false, nat_lt, List, [], ◌∷◌, length, map, Option, Some, None, refl, arith}
 use Rattle.std.proofs.lemmas.Bool.{ltb-true}
 use Rattle.std.specs.Prelude.{is_some}
-use Rattle.stitch_cli.specs.Changes.{Change}
-use Rattle.stitch_cli.specs.Requests.{asked_edit, asked_hoop}
-use Rattle.stitch_cli.specs.Words.{before_edits}
+use Rattle.command_words.specs.Changes.{Change}
+use Rattle.command_words.specs.Requests.{asked_edit, asked_hoop}
+use Rattle.command_words.specs.Words.{before_edits}
 
 pub few_no_hoop : {X : Type 0} (f : X → List ℕ) (words : List X) → nat_lt (length words) 3 ≡ true
     → None ≡ asked_hoop (map f words)

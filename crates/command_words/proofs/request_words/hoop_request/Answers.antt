@@ -1,6 +1,6 @@
-use Rattle.stitch_cli.proofs.WordLemmas.{few_no_hoop, many_no_hoop}
-use Rattle.stitch_cli.proofs.command_words.hoop_request.Goals as goal
-use Rattle.stitch_cli.proofs.command_words.hoop_request.Goals.{in_default-via-then-words-lt3, in_default-via-else-words-lt3+else-words-lt4}
+use Rattle.command_words.proofs.WordLemmas.{few_no_hoop, many_no_hoop}
+use Rattle.command_words.proofs.request_words.hoop_request.Goals as goal
+use Rattle.command_words.proofs.request_words.hoop_request.Goals.{in_default-via-then-words-lt3, in_default-via-else-words-lt3+else-words-lt4}
 
 pub returns-in_default-clause-value : goal.returns-in_default-clause-value
 returns-in_default-clause-value c = elim c.in_default.branch [

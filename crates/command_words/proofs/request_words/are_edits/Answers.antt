@@ -1,9 +1,9 @@
 use Rattle.std.proofs.Common.{map, string_bytes, sym, ◌∙◌}
 use Rattle.std.proofs.lemmas.List.{at_drop_more}
 use Rattle.std.specs.Prelude.{is_some}
-use Rattle.stitch_cli.specs.Words.{edits_spelled}
-use Rattle.stitch_cli.proofs.WordLemmas.{spelled_before}
-use Rattle.stitch_cli.proofs.command_words.are_edits.Goals as goal
+use Rattle.command_words.specs.Words.{edits_spelled}
+use Rattle.command_words.proofs.WordLemmas.{spelled_before}
+use Rattle.command_words.proofs.request_words.are_edits.Goals as goal
 
 pub loop-word-preserved : goal.loop-word-preserved
 loop-word-preserved c = spelled_before _ _ _ (rw (c.as_bytes.ensures.value, c.word-item.is) at c.in-Some.ensures.value)

@@ -1,7 +1,7 @@
 ghost use Rattle.std.specs.Prelude.{◌≡◌, IfSome, option_map};
-ghost use Rattle.stitch_cli.specs.Edits.{IsSmallEdit, change_by};
+ghost use Rattle.command_words.specs.Edits.{IsSmallEdit, change_by};
 ghost use Rattle.design_model.specs.WholeNumbers.{whole_of};
-ghost use Rattle.stitch_cli.specs.Words.{bounded as bounded_by, edit_of, edit_spelled as edit_spelled_by, mirror_in, parted_at as parted, shift_in, thread_in, turn_by};
+ghost use Rattle.command_words.specs.Words.{bounded as bounded_by, comma, edit_of, edit_spelled as edit_spelled_by, mirror_in, parted_at as parted, shift_in, thread_in, turn_by};
 
 use crate::number_words::{bounded, sized};
 use design_edits::{Axis, MAX_SHIFT};
@@ -9,7 +9,7 @@ use design_model::Point;
 
 /// An edit of a design.
 #[derive(Clone, Copy, Debug, PartialEq, Eq)]
-pub(crate) enum Edit {
+pub enum Edit {
     /// Move all points, by tenths of a millimetre.
     Shift(Point),
     /// Turn about the origin, clockwise by quarters.
@@ -21,7 +21,7 @@ pub(crate) enum Edit {
 }
 
 /// The edit that a word spells: `shift=DX,DY`, `turn=Q`, `mirror=x`, `mirror=y` or `thread=P,T`.
-pub(crate) fn edit_spelled(word: &[u8]) -> Option<Edit>
+pub fn edit_spelled(word: &[u8]) -> Option<Edit>
     ensures value { option_map change_by result ≡ edit_spelled_by word.now }
     ensures small { IfSome result IsSmallEdit }
 {
@@ -51,7 +51,7 @@ fn edit_named(name: &[u8], value: &[u8]) -> Option<Edit>
 }
 
 fn shift_spelled(value: &[u8]) -> Option<Edit>
-    ensures value { option_map change_by result ≡ shift_in (parted 44 value.now) }
+    ensures value { option_map change_by result ≡ shift_in (parted comma value.now) }
     ensures small { IfSome result IsSmallEdit }
 {
     let Some((across, down)) = parted_at(value, b',') else {
@@ -90,7 +90,7 @@ fn mirror_spelled(value: &[u8]) -> Option<Edit>
 }
 
 fn thread_spelled(value: &[u8]) -> Option<Edit>
-    ensures value { option_map change_by result ≡ thread_in (parted 44 value.now) }
+    ensures value { option_map change_by result ≡ thread_in (parted comma value.now) }
     ensures small { IfSome result IsSmallEdit }
 {
     let Some((block, number)) = parted_at(value, b',') else {

@@ -1,6 +1,6 @@
 ghost use Rattle.std.specs.Prelude.{◌≡◌, ◌≤◌, IfSome, unsigned_abs};
 ghost use Rattle.design_model.specs.WholeNumbers.{whole_of};
-ghost use Rattle.stitch_cli.specs.Words.{bounded as bounded_by, number_within, sized as sized_by};
+ghost use Rattle.command_words.specs.Words.{bounded as bounded_by, number_within, sized as sized_by};
 
 use design_model::{Whole, parse_whole};
 

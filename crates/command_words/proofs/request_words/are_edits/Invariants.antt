@@ -1,7 +1,7 @@
 use Rattle.std.proofs.Common.{◌≡◌, drop, map, string_bytes}
 use Rattle.std.specs.Prelude.{is_some}
-use Rattle.stitch_cli.specs.Words.{edits_spelled}
-use Rattle.stitch_cli.proofs.command_words.are_edits.Given as goal
+use Rattle.command_words.specs.Words.{edits_spelled}
+use Rattle.command_words.proofs.request_words.are_edits.Given as goal
 
 -- all words spell edits where those that are left do
 abbrev pub invariant-loop-word : goal.invariant-loop-word

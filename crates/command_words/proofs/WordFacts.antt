@@ -1,0 +1,240 @@
+-- Worked values of what words spell and ask for.
+use Rattle.std.proofs.Common.{◌≡◌, pos, negsuc, true, false, [], ◌∷◌, Some, None, replicate, refl}
+use Rattle.std.specs.Prelude.{codes}
+use Rattle.design_edits.specs.declared.axis.Axis.TheVariants.{X, Y}
+use Rattle.command_words.specs.Changes.{cut, mirror, shift, split, thread, turn}
+use Rattle.command_words.specs.Requests.{asked_of, convert, edit, hoop, route, show}
+use Rattle.command_words.specs.Words.{edit_spelled, edits_spelled, is_name, refits, refits_spelled, side_of}
+
+-- a name has from 1 to 4,096 bytes
+pub known_names : is_name (codes "a.dst") ≡ true
+known_names = refl
+
+pub known_empty_name : is_name [] ≡ false
+known_empty_name = refl
+
+pub known_longest_name : is_name (replicate 4096 97) ≡ true
+known_longest_name = refl
+
+pub known_longer_name : is_name (replicate 4097 97) ≡ false
+known_longer_name = refl
+
+-- a shift by two numbers from -60,000 to 60,000
+pub known_shift : edit_spelled (codes "shift=12,-7") ≡ Some (shift (pos 12) (negsuc 6))
+known_shift = refl
+
+pub known_greatest_shift : edit_spelled (codes "shift=-60000,60000") ≡ Some (shift (negsuc 59999) (pos 60000))
+known_greatest_shift = refl
+
+pub known_shift_beyond : edit_spelled (codes "shift=0,60001") ≡ None
+known_shift_beyond = refl
+
+pub known_shift_below : edit_spelled (codes "shift=-60001,0") ≡ None
+known_shift_below = refl
+
+pub known_one_number : edit_spelled (codes "shift=1") ≡ None
+known_one_number = refl
+
+pub known_three_numbers : edit_spelled (codes "shift=1,2,3") ≡ None
+known_three_numbers = refl
+
+-- a turn by 0 to 3 quarters
+pub known_no_turn : edit_spelled (codes "turn=0") ≡ Some (turn 0)
+known_no_turn = refl
+
+pub known_greatest_turn : edit_spelled (codes "turn=3") ≡ Some (turn 3)
+known_greatest_turn = refl
+
+pub known_turn_beyond : edit_spelled (codes "turn=4") ≡ None
+known_turn_beyond = refl
+
+pub known_turn_back : edit_spelled (codes "turn=-1") ≡ None
+known_turn_back = refl
+
+-- a mirroring of x or of y
+pub known_mirror_x : edit_spelled (codes "mirror=x") ≡ Some (mirror X)
+known_mirror_x = refl
+
+pub known_mirror_y : edit_spelled (codes "mirror=y") ≡ Some (mirror Y)
+known_mirror_y = refl
+
+pub known_mirror_z : edit_spelled (codes "mirror=z") ≡ None
+known_mirror_z = refl
+
+-- a thread from 0 to 255 for the block of a place from 1 to 255
+pub known_least_thread : edit_spelled (codes "thread=1,0") ≡ Some (thread 1 0)
+known_least_thread = refl
+
+pub known_greatest_thread : edit_spelled (codes "thread=255,255") ≡ Some (thread 255 255)
+known_greatest_thread = refl
+
+pub known_place_zero : edit_spelled (codes "thread=0,1") ≡ None
+known_place_zero = refl
+
+pub known_place_beyond : edit_spelled (codes "thread=256,1") ≡ None
+known_place_beyond = refl
+
+pub known_thread_beyond : edit_spelled (codes "thread=1,256") ≡ None
+known_thread_beyond = refl
+
+-- no value, no name, no equals sign, two of them, and a name that no edit has
+pub known_no_value : edit_spelled (codes "turn=") ≡ None
+known_no_value = refl
+
+pub known_no_numbers : edit_spelled (codes "shift=,") ≡ None
+known_no_numbers = refl
+
+pub known_no_name : edit_spelled (codes "=1") ≡ None
+known_no_name = refl
+
+pub known_no_sign : edit_spelled (codes "turn1") ≡ None
+known_no_sign = refl
+
+pub known_two_signs : edit_spelled (codes "turn==1") ≡ None
+known_two_signs = refl
+
+pub known_sign_behind : edit_spelled (codes "mirror=x=") ≡ None
+known_sign_behind = refl
+
+pub known_other_name : edit_spelled (codes "turns=1") ≡ None
+known_other_name = refl
+
+-- words spell edits in their order, where each spells one
+pub known_no_edits : edits_spelled [] ≡ Some []
+known_no_edits = refl
+
+pub known_two_edits : edits_spelled (codes "turn=1" ∷ codes "mirror=x" ∷ []) ≡ Some (turn 1 ∷ mirror X ∷ [])
+known_two_edits = refl
+
+pub known_bad_edit : edits_spelled (codes "turn=1" ∷ codes "mirror=z" ∷ codes "turn=2" ∷ []) ≡ None
+known_bad_edit = refl
+
+-- `--split` and `--cut`, each at most once, in any order: stitches are split before floats are cut
+pub known_no_refits : refits_spelled [] ≡ Some (false, false)
+known_no_refits = refl
+
+pub known_split : refits_spelled (codes "--split" ∷ []) ≡ Some (true, false)
+known_split = refl
+
+pub known_cut : refits_spelled (codes "--cut" ∷ []) ≡ Some (false, true)
+known_cut = refl
+
+pub known_split_first : refits_spelled (codes "--split" ∷ codes "--cut" ∷ []) ≡ Some (true, true)
+known_split_first = refl
+
+pub known_cut_first : refits_spelled (codes "--cut" ∷ codes "--split" ∷ []) ≡ Some (true, true)
+known_cut_first = refl
+
+pub known_split_twice : refits_spelled (codes "--split" ∷ codes "--split" ∷ []) ≡ None
+known_split_twice = refl
+
+pub known_cut_twice : refits_spelled (codes "--cut" ∷ codes "--cut" ∷ []) ≡ None
+known_cut_twice = refl
+
+pub known_three_refits : refits_spelled (codes "--split" ∷ codes "--cut" ∷ codes "--split" ∷ []) ≡ None
+known_three_refits = refl
+
+pub known_other_refit : refits_spelled (codes "--Split" ∷ []) ≡ None
+known_other_refit = refl
+
+pub known_refits : refits true true ≡ split ∷ cut ∷ []
+known_refits = refl
+
+-- a side from 1 to 60,000, without a sign
+pub known_least_side : side_of (codes "1") ≡ Some 1
+known_least_side = refl
+
+pub known_greatest_side : side_of (codes "60000") ≡ Some 60000
+known_greatest_side = refl
+
+pub known_no_side : side_of (codes "0") ≡ None
+known_no_side = refl
+
+pub known_side_beyond : side_of (codes "60001") ≡ None
+known_side_beyond = refl
+
+pub known_negative_side : side_of (codes "-1") ≡ None
+known_negative_side = refl
+
+-- `route` has three names
+pub known_route : asked_of (codes "route" ∷ codes "a.rw" ∷ codes "b.dst" ∷ codes "c" ∷ [])
+    ≡ Some (route (codes "a.rw") (codes "b.dst") (codes "c"))
+known_route = refl
+
+pub known_route_few : asked_of (codes "route" ∷ codes "a.rw" ∷ codes "b.dst" ∷ []) ≡ None
+known_route_few = refl
+
+pub known_route_many : asked_of (codes "route" ∷ codes "a.rw" ∷ codes "b.dst" ∷ codes "c" ∷ codes "d" ∷ []) ≡ None
+known_route_many = refl
+
+pub known_route_unnamed : asked_of (codes "route" ∷ codes "a.rw" ∷ [] ∷ codes "c" ∷ []) ≡ None
+known_route_unnamed = refl
+
+-- `convert` has two names and refits
+pub known_convert : asked_of (codes "convert" ∷ codes "a.dst" ∷ codes "b.exp" ∷ [])
+    ≡ Some (convert (codes "a.dst") (codes "b.exp") false false)
+known_convert = refl
+
+pub known_convert_cut : asked_of (codes "convert" ∷ codes "a.dst" ∷ codes "b.exp" ∷ codes "--cut" ∷ [])
+    ≡ Some (convert (codes "a.dst") (codes "b.exp") false true)
+known_convert_cut = refl
+
+pub known_convert_few : asked_of (codes "convert" ∷ codes "a.dst" ∷ []) ≡ None
+known_convert_few = refl
+
+pub known_convert_many : asked_of (codes "convert" ∷ codes "a.dst" ∷ codes "b.exp" ∷ codes "c.pes" ∷ []) ≡ None
+known_convert_many = refl
+
+pub known_convert_unnamed : asked_of (codes "convert" ∷ codes "a.dst" ∷ [] ∷ codes "--cut" ∷ []) ≡ None
+known_convert_unnamed = refl
+
+-- `show` has one name
+pub known_show : asked_of (codes "show" ∷ codes "a.dst" ∷ []) ≡ Some (show (codes "a.dst"))
+known_show = refl
+
+pub known_show_few : asked_of (codes "show" ∷ []) ≡ None
+known_show_few = refl
+
+pub known_show_many : asked_of (codes "show" ∷ codes "a.dst" ∷ codes "b.dst" ∷ []) ≡ None
+known_show_many = refl
+
+pub known_show_unnamed : asked_of (codes "show" ∷ [] ∷ []) ≡ None
+known_show_unnamed = refl
+
+-- `edit` has two names and one edit or more
+pub known_edit : asked_of (codes "edit" ∷ codes "a.dst" ∷ codes "b.exp" ∷ codes "turn=1" ∷ codes "thread=1,20" ∷ [])
+    ≡ Some (edit (codes "a.dst") (codes "b.exp") (turn 1 ∷ thread 1 20 ∷ []))
+known_edit = refl
+
+pub known_edit_few : asked_of (codes "edit" ∷ codes "a.dst" ∷ codes "b.exp" ∷ []) ≡ None
+known_edit_few = refl
+
+pub known_edit_many : asked_of (codes "edit" ∷ codes "a.dst" ∷ codes "b.exp" ∷ codes "turn=1" ∷ codes "c.pes" ∷ []) ≡ None
+known_edit_many = refl
+
+pub known_edit_unnamed : asked_of (codes "edit" ∷ [] ∷ codes "b.exp" ∷ codes "turn=1" ∷ []) ≡ None
+known_edit_unnamed = refl
+
+-- `hoop` has a name, a width and a height
+pub known_hoop : asked_of (codes "hoop" ∷ codes "a.dst" ∷ codes "1000" ∷ codes "900" ∷ [])
+    ≡ Some (hoop (codes "a.dst") 1000 900)
+known_hoop = refl
+
+pub known_hoop_few : asked_of (codes "hoop" ∷ codes "a.dst" ∷ codes "1000" ∷ []) ≡ None
+known_hoop_few = refl
+
+pub known_hoop_many : asked_of (codes "hoop" ∷ codes "a.dst" ∷ codes "1000" ∷ codes "900" ∷ codes "800" ∷ []) ≡ None
+known_hoop_many = refl
+
+pub known_hoop_unnamed : asked_of (codes "hoop" ∷ [] ∷ codes "1000" ∷ codes "900" ∷ []) ≡ None
+known_hoop_unnamed = refl
+
+-- no word, and words that no command has
+pub known_no_word : asked_of [] ≡ None
+known_no_word = refl
+
+pub known_other_command : asked_of (codes "sample" ∷ codes "1" ∷ codes "a.rw" ∷ []) ≡ None
+known_other_command = refl
+
+pub known_large_letter : asked_of (codes "Show" ∷ codes "a.dst" ∷ []) ≡ None
+known_large_letter = refl

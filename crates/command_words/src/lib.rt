@@ -1,0 +1,14 @@
+//! What the words after the program's name ask for: requests, the names in them, and edits of a
+//! design. None takes memory.
+#![tactic(auto)]
+
+mod edit_words;
+mod laws;
+mod number_words;
+mod request_words;
+mod requests;
+
+pub use edit_words::{Edit, edit_spelled};
+pub use laws::the_limit_of_sides;
+pub use request_words::{MAX_SIDE, request};
+pub use requests::{Names, Request, RouteNames};

@@ -1,0 +1,94 @@
+-- Worked values of what is printed of a design, and of the lines of refusals that have numbers.
+use Rattle.std.proofs.Common.{◌≡◌, ℤ, pos, negsuc, true, false, [], ◌∷◌, ◌++◌, Ok, Err, refl}
+use Rattle.std.specs.Fmt.{digits}
+use Rattle.std.specs.Prelude.{codes, decimal}
+use Rattle.design_model.specs.declared.command.Command.TheVariants.{Stitch, Jump, Trim, Stop}
+use Rattle.design_model.specs.declared.point.Point.{Point}
+use Rattle.design_model.specs.Counts.{counts_of}
+use Rattle.design_model.specs.Designs.{DesignValue, empty_design}
+use Rattle.hoop_check.specs.declared.fitting.Fit.TheVariants as fit
+use Rattle.stitch_cli.specs.declared.stop.Refusal.TheVariants as refusal
+use Rattle.stitch_cli.specs.Certificates.{line_end}
+use Rattle.stitch_cli.specs.Hoops.{fitted_as}
+use Rattle.stitch_cli.specs.Products.{only_report}
+use Rattle.stitch_cli.specs.Rewrites.{written_report}
+use Rattle.stitch_cli.specs.Shows.{show_report}
+use Rattle.stitch_cli.specs.Texts.{large_text, long_text, place_text}
+
+abbrev place : ℤ → ℤ → Point
+place x y = record { x = x; y = y }
+
+-- the square of sides 30 as its DST file is read: five needles, and a trim within three jumps
+abbrev square : DesignValue
+square = record {
+  label = [];
+  threads = [];
+  commands = Stitch (place (pos 0) (pos 0)) ∷ Stitch (place (pos 30) (pos 0)) ∷ Stitch (place (pos 30) (pos 30))
+      ∷ Stitch (place (pos 0) (pos 30)) ∷ Stitch (place (pos 0) (pos 0)) ∷ Jump (place (pos 2) (pos 2))
+      ∷ Jump (place (negsuc 1) (negsuc 1)) ∷ Trim ∷ Jump (place (pos 0) (pos 0)) ∷ [];
+}
+
+-- two blocks, of which the first alone keeps a thread
+abbrev two_blocks : DesignValue
+two_blocks = record {
+  label = codes "AB";
+  threads = 20 ∷ [];
+  commands = Jump (place (pos 10) (pos 0)) ∷ Stitch (place (pos 10) (pos 0)) ∷ Stitch (place (pos 10) (pos 25))
+      ∷ Trim ∷ Stop ∷ Stitch (place (negsuc 4) (pos 3)) ∷ [];
+}
+
+pub known_square : show_report (codes "dst") (record { design = square; ended = true })
+    ≡ codes "format dst" ++ (line_end ++ (codes "label []" ++ (line_end ++ (codes "commands 9" ++ (line_end
+    ++ (codes "needles 5" ++ (line_end ++ (codes "trims 1" ++ (line_end ++ (codes "stops 0" ++ (line_end
+    ++ (codes "extent 0 0 30 30" ++ (line_end ++ (codes "ended yes" ++ (line_end
+    ++ (codes "block 1 thread 1 needles 5" ++ line_end))))))))))))))))
+unfolding digits
+known_square = refl
+
+pub known_two_blocks : show_report (codes "pes") (record { design = two_blocks; ended = false })
+    ≡ codes "format pes" ++ (line_end ++ (codes "label [AB]" ++ (line_end ++ (codes "commands 6" ++ (line_end
+    ++ (codes "needles 3" ++ (line_end ++ (codes "trims 1" ++ (line_end ++ (codes "stops 1" ++ (line_end
+    ++ (codes "extent -5 0 10 25" ++ (line_end ++ (codes "ended no" ++ (line_end
+    ++ (codes "block 1 thread 20 needles 2" ++ (line_end
+    ++ (codes "block 2 thread 2 needles 1" ++ line_end))))))))))))))))))
+unfolding digits
+known_two_blocks = refl
+
+-- a design without commands has one block, and no extent
+pub known_nothing : show_report (codes "exp") (record { design = empty_design; ended = true })
+    ≡ codes "format exp" ++ (line_end ++ (codes "label []" ++ (line_end ++ (codes "commands 0" ++ (line_end
+    ++ (codes "needles 0" ++ (line_end ++ (codes "trims 0" ++ (line_end ++ (codes "stops 0" ++ (line_end
+    ++ (codes "extent none" ++ (line_end ++ (codes "ended yes" ++ (line_end
+    ++ (codes "block 1 thread 1 needles 0" ++ line_end))))))))))))))))
+unfolding digits
+known_nothing = refl
+
+-- the report on a design that was written
+pub known_written : written_report (counts_of two_blocks) ≡ codes "needles 3 trims 1 stops 1" ++ line_end
+unfolding digits
+known_written = refl
+
+-- a design that fits has a report, and one that doesn't is refused with how much it is too large by
+pub known_upright : fitted_as fit.Upright ≡ Ok (only_report (codes "fits upright" ++ line_end))
+known_upright = refl
+
+pub known_turned : fitted_as fit.Turned ≡ Ok (only_report (codes "fits turned" ++ line_end))
+known_turned = refl
+
+pub known_too_large : fitted_as (fit.No 40 0) ≡ Err (refusal.TooLarge 40 0)
+known_too_large = refl
+
+pub known_large_text : large_text (decimal 40) (decimal 0) ≡ codes "stitch: too large by 40 0" ++ line_end
+unfolding digits
+known_large_text = refl
+
+-- a place for a thread that isn't there, and a stitch that is too long
+pub known_place_text : place_text (codes "a.pes") (decimal 9) (decimal 2)
+    ≡ codes "stitch: a.pes: no colour place 9, there are 2" ++ line_end
+unfolding digits
+known_place_text = refl
+
+pub known_long_text : long_text (codes "long.dst") (decimal 2) (decimal 121)
+    ≡ codes "stitch: long.dst: command 2: stitch longer than 121" ++ line_end
+unfolding digits
+known_long_text = refl
