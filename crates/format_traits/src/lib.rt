@@ -22,7 +22,6 @@ pub use boxed::{decode_by, encode_by, ext_of, limit_of};
 pub use event::Event;
 pub use fault::{ReadFault, WriteFault};
 pub use format_object::{Format, GREATEST_LIMIT, LEAST_LIMIT};
-pub use keeping::{keep, keep_both};
 pub use label_fields::{put_label, put_spaces, read_label};
 pub use laws::{
     an_accepted_design_is_small, codecs_keep_the_laws, label_fields_read_back,
