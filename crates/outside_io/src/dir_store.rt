@@ -67,7 +67,8 @@ impl<'a, R: Files> Store for DirStore<'a, R> {
         ensures same { untold self.new ≡ untold self.old }
         ensures bound { IfOk result (λ count. count ≤ length buf.new) }
         ensures gives { ReadGives (untold self.old) name.now at buf.new result }
-        ensures cause { ReadCause name.now self.old.count self.new.count self.old.last self.new.last result }
+        ensures cause { ReadCause name.now self.old.count self.new.count
+            self.old.last self.new.last result }
         ensures exact { Notes (read_of name.now) self.old self.new result }
     {
         match read_from(self.rt, &mut self.opened, name, at, buf) {
@@ -83,7 +84,8 @@ impl<'a, R: Files> Store for DirStore<'a, R> {
         requires name { IsName name.now }
         ensures empty { OnOk result (HoldsNow (untold self.new) name.now []) }
         ensures others { ChangesOnly (untold self.old) (untold self.new) name.now }
-        ensures cause { WriteCause name.now self.old.count self.new.count self.old.last self.new.last result }
+        ensures cause { WriteCause name.now self.old.count self.new.count
+            self.old.last self.new.last result }
         ensures exact { Notes (write_of name.now) self.old self.new result }
     {
         self.opened = None;
@@ -101,7 +103,8 @@ impl<'a, R: Files> Store for DirStore<'a, R> {
         requires there { IsThere (untold self.old) name.now }
         ensures added { OnOk result (Adds (untold self.old) (untold self.new) name.now bytes.now) }
         ensures others { ChangesOnly (untold self.old) (untold self.new) name.now }
-        ensures cause { WriteCause name.now self.old.count self.new.count self.old.last self.new.last result }
+        ensures cause { WriteCause name.now self.old.count self.new.count
+            self.old.last self.new.last result }
         ensures exact { Notes (write_of name.now) self.old self.new result }
     {
         self.opened = None;

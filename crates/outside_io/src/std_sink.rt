@@ -8,8 +8,8 @@ use crate::writing::write_all;
 use std::io::Write;
 use std::marker::Model;
 
-/// A stream of the system, as standard output. The sink itself tells no bytes; what its writer holds
-/// grows by what is put, where that is known.
+/// A stream of the system, as standard output. The sink tells no bytes; what its writer holds grows by
+/// what is put, where that is known.
 #[derive(Drop)]
 pub struct StdSink<W: Write + Drop> {
     writer: W,
