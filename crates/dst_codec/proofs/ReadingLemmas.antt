@@ -50,12 +50,12 @@ refused_file f bytes d d' long read = as_refused f
     (subst (λ body. ReadsRecords (records_from 0 HEADER_LENGTH body) d (Err f) d') (whole_tail HEADER_LENGTH bytes) read)
   where
     as_refused : (f : ReadFault) → ReadsRecords (records_in bytes) d (Err f) d' → Reads (reads bytes) (Err f)
-    as_refused (fault.Short at) read = reads-long bytes long ∙ ap (loaded_with (label_of bytes) []) read
-    as_refused (fault.Signature at) read = reads-long bytes long ∙ ap (loaded_with (label_of bytes) []) read
-    as_refused (fault.Sequin at) read = reads-long bytes long ∙ ap (loaded_with (label_of bytes) []) read
-    as_refused (fault.Control at) read = reads-long bytes long ∙ ap (loaded_with (label_of bytes) []) read
-    as_refused (fault.Range at) read = reads-long bytes long ∙ ap (loaded_with (label_of bytes) []) read
-    as_refused (fault.TooMany at) read = reads-long bytes long ∙ ap (loaded_with (label_of bytes) []) read
+    as_refused (fault.Short at) read = reads-long bytes long ∙ ap (loaded_with (label_of bytes) []) read.1
+    as_refused (fault.Signature at) read = reads-long bytes long ∙ ap (loaded_with (label_of bytes) []) read.1
+    as_refused (fault.Sequin at) read = reads-long bytes long ∙ ap (loaded_with (label_of bytes) []) read.1
+    as_refused (fault.Control at) read = reads-long bytes long ∙ ap (loaded_with (label_of bytes) []) read.1
+    as_refused (fault.Range at) read = reads-long bytes long ∙ ap (loaded_with (label_of bytes) []) read.1
+    as_refused (fault.TooMany at) read = reads-long bytes long ∙ ap (loaded_with (label_of bytes) []) read.1
     as_refused fault.Memory read = tt
 
 drop-header : (head body : List ℕ) → length head ≡ HEADER_LENGTH → drop HEADER_LENGTH (head ++ body) ≡ body

@@ -1,4 +1,5 @@
 mod EndingFacts
+pub mod KeepingLemmas
 pub mod LabelLemmas
 pub mod EndingLemmas
 pub mod PointLemmas

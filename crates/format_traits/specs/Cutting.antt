@@ -9,6 +9,7 @@ use Rattle.format_traits.specs.declared.fault.ReadFault.TheVariants as fault
 use Rattle.format_traits.specs.declared.record_reader.Cut.{Cut}
 use Rattle.format_traits.specs.declared.record_reader.Cut.TheVariants as cut
 use Rattle.format_traits.specs.declared.record_reader.TheConstants.{GREATEST_STEP}
+use Rattle.format_traits.specs.Keeping.{SameButCommands}
 use Rattle.format_traits.specs.Records.{Records, over, refused, next, moves_in, course_of}
 
 -- the records of a reader before and after the cut: one of so many bytes stands at the offset, and
@@ -25,11 +26,6 @@ Cuts before after at bytes (cut.Over ended) = before at bytes ≡ over ended
 Cuts before after at bytes (cut.Refused f) = before at bytes ≡ refused f
 Cuts before after at bytes (cut.Record event size) = IsCut before after at bytes size event
 
--- the same design but for its commands
-pub record SameButCommands (old new : DesignValue) : Type 0 where
-  pub label : new.label ≡ old.label
-  pub threads : new.threads ≡ old.threads
-
 -- the refusal is the model's, unless memory ran out
 abbrev pub RefusesAs : {T : Type 0} → Result T ReadFault → ReadFault → Type 0
 RefusesAs model (fault.Short at) = model ≡ Err (fault.Short at)
@@ -40,8 +36,8 @@ RefusesAs model (fault.Range at) = model ≡ Err (fault.Range at)
 RefusesAs model (fault.TooMany at) = model ≡ Err (fault.TooMany at)
 RefusesAs model fault.Memory = Unit {0}
 
--- what an answer of reading all records into a design without commands means
+-- what an answer of reading all records into a design without commands means; its label and its threads stay
 abbrev pub ReadsRecords : Records → DesignValue → Result Bool ReadFault → DesignValue → Type 0
 ReadsRecords records d (Ok ended) d' =
     SameButCommands d d' × (course_of records ≡ Ok (record { commands = d'.commands; ended = ended }))
-ReadsRecords records d (Err f) d' = RefusesAs (course_of records) f
+ReadsRecords records d (Err f) d' = SameButCommands d d' × RefusesAs (course_of records) f

@@ -9,6 +9,11 @@ use Rattle.format_traits.specs.declared.fault.ReadFault.{ReadFault}
 use Rattle.format_traits.specs.declared.fault.ReadFault.TheVariants as fault
 use Rattle.format_traits.specs.Readings.{Course, tries}
 
+-- the same design but for its commands
+pub record SameButCommands (old new : DesignValue) : Type 0 where
+  pub label : new.label ≡ old.label
+  pub threads : new.threads ≡ old.threads
+
 -- the design with further commands
 abbrev pub with_commands : DesignValue → List Command → DesignValue
 with_commands d more = record d { commands = d.commands ++ more }

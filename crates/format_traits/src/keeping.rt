@@ -1,12 +1,16 @@
-ghost use Rattle.std.specs.Prelude.{[], ◌∷◌};
-ghost use Rattle.format_traits.specs.Keeping.{Keeps};
+ghost use Rattle.std.specs.Prelude.{◌≡◌, ◌⊎◌, [], ◌∷◌, OnErr};
+ghost use Rattle.design_model.specs.Designs.{with_command};
+ghost use Rattle.format_traits.specs.Keeping.{Keeps, SameButCommands};
 
 use crate::fault::ReadFault;
 use design_model::{Command, Design, ModelFault};
 
-/// Adds the command of the record at that offset. `Range` is tested first.
+/// Adds the command of the record at that offset. `Range` is tested first. A refusal leaves the design
+/// as it was.
 pub fn keep(design: &mut Design, at: u64, command: Command) -> Result<(), ReadFault>
-    ensures { Keeps at (command ∷ []) design.old result design.new }
+    ensures value { Keeps at (command ∷ []) design.old result design.new }
+    ensures err { OnErr result (design.new ≡ design.old) }
+    ensures others { SameButCommands design.old design.new }
 {
     match design.push(command) {
         Ok(()) => Ok(()),
@@ -16,14 +20,19 @@ pub fn keep(design: &mut Design, at: u64, command: Command) -> Result<(), ReadFa
     }
 }
 
-/// Adds the two commands of the record at that offset, in order.
+/// Adds the two commands of the record at that offset, in order. Where the second is refused, the first
+/// stays.
+#[tactic(auto, using(crate::proofs::KeepingLemmas::same_on))]
 pub fn keep_both(
     design: &mut Design,
     at: u64,
     first: Command,
     second: Command,
 ) -> Result<(), ReadFault>
-    ensures { Keeps at (first ∷ second ∷ []) design.old result design.new }
+    ensures value { Keeps at (first ∷ second ∷ []) design.old result design.new }
+    ensures err { OnErr result
+        ((design.new ≡ design.old) ⊎ (design.new ≡ with_command design.old first)) }
+    ensures others { SameButCommands design.old design.new }
 {
     if let Err(fault) = keep(design, at, first) {
         return Err(fault);

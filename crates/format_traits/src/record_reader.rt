@@ -4,7 +4,7 @@ ghost use Rattle.design_model.specs.declared.point.TheConstants.{JUMP_LIMIT};
 ghost use Rattle.design_model.specs.Points.{is_within};
 ghost use Rattle.format_traits.specs.declared.record_reader.TheConstants.{GREATEST_STEP};
 ghost use Rattle.format_traits.specs.Cutting.{ReadsRecords};
-ghost use Rattle.format_traits.specs.Keeping.{Keeps};
+ghost use Rattle.format_traits.specs.Keeping.{Keeps, SameButCommands};
 ghost use Rattle.format_traits.specs.Records.{commands_at, commands_of, moves_in, place_by};
 
 use crate::event::Event;
@@ -44,7 +44,8 @@ pub trait RecordReader {
 }
 
 /// Adds the commands of all records, which begin at an offset, to a design that has none, and says
-/// whether the file has an end.
+/// whether the file has an end. The label and the threads stay, also where a record is refused.
+#[tactic(auto, using(crate::proofs::KeepingLemmas::same_on))]
 pub fn read_records<R: RecordReader + Drop>(
     design: &mut Design,
     reader: R,
@@ -83,6 +84,7 @@ fn keep_event(design: &mut Design, at: u64, place: Point, event: Event) -> Resul
     ensures value { Keeps at (commands_of event place) design.old result design.new }
     ensures place { IfOk result (λ there. there ≡ place_by event place) }
     ensures range { IfOk result (λ there. IsTrue (is_within JUMP_LIMIT there)) }
+    ensures others { SameButCommands design.old design.new }
 {
     let there = place_after(place, event);
     match keep_commands(design, at, event, there) {
@@ -107,7 +109,8 @@ fn place_after(place: Point, event: Event) -> Point
 /// Adds the commands of an event after which the hoop is there.
 #[inline(always)]
 fn keep_commands(design: &mut Design, at: u64, event: Event, there: Point) -> Result<(), ReadFault>
-    ensures { Keeps at (commands_at event there) design.old result design.new }
+    ensures value { Keeps at (commands_at event there) design.old result design.new }
+    ensures others { SameButCommands design.old design.new }
 {
     match event {
         Event::Stitch(_) => keep(design, at, Command::Stitch(there)),

@@ -5,3 +5,4 @@ pub mod EntryPlaces
 pub mod EntryFiles
 pub mod WholeFiles
 pub mod WholeAnswers
+pub mod StreamLemmas

@@ -1,5 +1,5 @@
 -- Whom a fault of a store is laid at: the kind and the name of the last call that failed.
-use Rattle.std.specs.Prelude.{ℕ, List, Option, Some, None}
+use Rattle.std.specs.Prelude.{◌≡◌, ℕ, List, Option, Some, None, Result, Ok, Err}
 use Rattle.outside_io.specs.declared.blame.Kind.{Kind}
 use Rattle.outside_io.specs.declared.blame.Kind.TheVariants.{Read, Write}
 use Rattle.outside_io.specs.Counts.{counted_on}
@@ -38,3 +38,8 @@ no_faults = record { count = 0; last = None }
 -- the same after one more call failed
 abbrev pub noted : FaultsSoFar → Blame → FaultsSoFar
 noted so_far call = record { count = counted_on so_far.count; last = Some call }
+
+-- a call that failed is noted once, and one that did not fail leaves all as it was
+abbrev pub Notes : {T E : Type 0} → Blame → FaultsSoFar → FaultsSoFar → Result T E → Type 0
+Notes call old new (Ok _) = new ≡ old
+Notes call old new (Err _) = new ≡ noted old call

@@ -7,3 +7,4 @@ pub mod Causes
 pub mod MemStores
 pub mod Places
 pub mod MemSinks
+pub mod Streams

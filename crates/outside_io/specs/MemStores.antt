@@ -1,6 +1,6 @@
 -- Stores in memory: an entry for each name that has a file or room, the numbers of the calls that are
 -- to fail, the number of calls so far, and the faults.
-use Rattle.std.specs.Prelude.{◌≡◌, ℕ, ◌+◌, ◌==◌, Bool, true, false, not, ◌||◌, List, [], ◌∷◌, ◌++◌, length, drop, Option, Some, None, Result, Ok, Err, if◌then◌else◌, is_some, nat_lt, max, min, unwrap_or, option_map, option_and_then, find, bytes_eq}
+use Rattle.std.specs.Prelude.{◌≡◌, ℕ, ◌+◌, ◌==◌, Bool, true, false, not, ◌||◌, List, [], ◌∷◌, ◌++◌, length, take, drop, Option, Some, None, Result, Ok, Err, if◌then◌else◌, is_some, nat_lt, max, min, unwrap_or, option_map, option_and_then, find, bytes_eq}
 use Rattle.std.specs.List.{list_any}
 use Rattle.outside_io.specs.declared.store.Failed.{Failed}
 use Rattle.outside_io.specs.declared.store.ReadStop.{ReadStop}
@@ -117,16 +117,19 @@ MemReadCause name old new result = ReadCause name old.faults new.faults old.blam
 abbrev pub MemWriteCause : {T : Type 0} → List ℕ → MemStoreValue → MemStoreValue → Result T Failed → Type 0
 MemWriteCause name old new result = WriteCause name old.faults new.faults old.blame new.blame result
 
--- what each answer to a read means; it fails where its number is listed, and nowhere else
-abbrev pub MemReads : MemStoreValue → MemStoreValue → List ℕ → ℕ → List ℕ → Result ℕ ReadStop → Type 0
-MemReads old new name offset buffer (Ok count) =
+-- what each answer to a read means; it fails where its number is listed, and nowhere else. Bytes of the
+-- content from the offset on stand at the buffer's front, and the others of the buffer stay
+abbrev pub MemReads : MemStoreValue → MemStoreValue → List ℕ → ℕ → (before after : List ℕ) → Result ℕ ReadStop → Type 0
+MemReads old new name offset before after (Ok count) =
     (is_listed old.failing old.calls ≡ false) × (new ≡ after_call old old.entries)
     × (is_some (files_of old name) ≡ true)
-    × (count ≡ min (length buffer) (length (drop offset (unwrap_or (files_of old name) []))))
-MemReads old new name offset buffer (Err stop.Missing) =
+    × (count ≡ min (length before) (length (drop offset (unwrap_or (files_of old name) []))))
+    × (after ≡ take count (drop offset (unwrap_or (files_of old name) [])) ++ drop count before)
+MemReads old new name offset before after (Err stop.Missing) =
     (is_listed old.failing old.calls ≡ false) × (new ≡ after_call old old.entries) × (files_of old name ≡ None)
-MemReads old new name offset buffer (Err stop.Failed) =
-    (is_listed old.failing old.calls ≡ true) × (new ≡ after_fault old (read_of name))
+    × (after ≡ before)
+MemReads old new name offset before after (Err stop.Failed) =
+    (is_listed old.failing old.calls ≡ true) × (new ≡ after_fault old (read_of name)) × (after ≡ before)
 
 -- what each answer to a create means; it fails where its number is listed or the name has no room
 abbrev pub MemCreates : {T : Type 0} → MemStoreValue → MemStoreValue → List ℕ → Result T Failed → Type 0

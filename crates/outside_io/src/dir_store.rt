@@ -1,8 +1,10 @@
-ghost use Rattle.std.specs.Prelude.{◌≡◌, ◌≤◌, length, None, IfOk};
-ghost use Rattle.outside_io.specs.Blames.{no_faults};
+ghost use Rattle.std.specs.Prelude.{◌≡◌, ◌≤◌, [], length, IfOk, OnOk};
+ghost use Rattle.outside_io.specs.Blames.{Notes, no_faults, read_of, write_of};
+ghost use Rattle.outside_io.specs.Causes.{ReadCause, ReadGives, WriteCause};
+ghost use Rattle.outside_io.specs.Files.{Adds, ChangesOnly, HoldsNow, IsName, IsThere, untold};
 
 use crate::blame::{FaultLog, Kind};
-use crate::limits::MAX_NAME;
+use crate::limits::{MAX_FILE, MAX_NAME};
 use crate::store::{Failed, ReadStop, Store};
 use crate::writing::write_all;
 use arrayvec::ArrayVec;
@@ -51,13 +53,24 @@ impl<'a, R: Files> DirStore<'a, R> {
 }
 
 impl<'a, R: Files> Store for DirStore<'a, R> {
-    ghost files = { λ _. None };
+    ghost use Rattle.outside_io.specs.Files.{untold};
+
+    ghost files = { untold };
 
     ghost faults = { λ s. s.count };
 
     ghost blame = { λ s. s.last };
 
-    fn read_at(&mut self, name: &str, at: u64, buf: &mut [u8]) -> Result<usize, ReadStop> {
+    fn read_at(&mut self, name: &str, at: u64, buf: &mut [u8]) -> Result<usize, ReadStop>
+        requires name { IsName name.now }
+        requires offset { at ≤ MAX_FILE }
+        ensures same { untold self.new ≡ untold self.old }
+        ensures bound { IfOk result (λ count. count ≤ length buf.new) }
+        ensures gives { ReadGives (untold self.old) name.now at buf.new result }
+        ensures cause { ReadCause name.now self.old.count self.new.count
+            self.old.last self.new.last result }
+        ensures exact { Notes (read_of name.now) self.old self.new result }
+    {
         match read_from(self.rt, &mut self.opened, name, at, buf) {
             Ok(count) => Ok(count),
             Err(_) => {
@@ -68,7 +81,14 @@ impl<'a, R: Files> Store for DirStore<'a, R> {
         }
     }
 
-    fn create(&mut self, name: &str) -> Result<(), Failed> {
+    fn create(&mut self, name: &str) -> Result<(), Failed>
+        requires name { IsName name.now }
+        ensures empty { OnOk result (HoldsNow (untold self.new) name.now []) }
+        ensures others { ChangesOnly (untold self.old) (untold self.new) name.now }
+        ensures cause { WriteCause name.now self.old.count self.new.count
+            self.old.last self.new.last result }
+        ensures exact { Notes (write_of name.now) self.old self.new result }
+    {
         self.opened = None;
         match fs::create(self.rt, name) {
             Ok(_) => Ok(()),
@@ -79,7 +99,15 @@ impl<'a, R: Files> Store for DirStore<'a, R> {
         }
     }
 
-    fn append(&mut self, name: &str, bytes: &[u8]) -> Result<(), Failed> {
+    fn append(&mut self, name: &str, bytes: &[u8]) -> Result<(), Failed>
+        requires name { IsName name.now }
+        requires there { IsThere (untold self.old) name.now }
+        ensures added { OnOk result (Adds (untold self.old) (untold self.new) name.now bytes.now) }
+        ensures others { ChangesOnly (untold self.old) (untold self.new) name.now }
+        ensures cause { WriteCause name.now self.old.count self.new.count
+            self.old.last self.new.last result }
+        ensures exact { Notes (write_of name.now) self.old self.new result }
+    {
         self.opened = None;
         match add_to_file(self.rt, name, bytes) {
             Ok(()) => Ok(()),

@@ -124,7 +124,7 @@ impl Store for MemStore {
         ensures bound { IfOk result (λ count. count ≤ length buf.new) }
         ensures gives { ReadGives (told_by self.old) name.now at buf.new result }
         ensures cause { MemReadCause name.now self.old self.new result }
-        ensures exact { MemReads self.old self.new name.now at buf.new result }
+        ensures exact { MemReads self.old self.new name.now at buf.old buf.new result }
     {
         if self.begins_to_fail() {
             self.log.note(Kind::Read, name);
@@ -172,8 +172,10 @@ impl Store for MemStore {
 /// answers how many.
 fn copy_from(content: &[u8], at: u64, buffer: &mut [u8]) -> usize
     requires { at ≤ MAX_FILE }
-    ensures count { result ≡ min (length buffer.new) (length (drop at content.now)) }
+    ensures count { result ≡ min (length buffer.old) (length (drop at content.now)) }
     ensures bytes { take result buffer.new ≡ take result (drop at content.now) }
+    ensures whole { buffer.new ≡ take result (drop at content.now) ++ drop result buffer.old }
+    ensures length { length buffer.new ≡ length buffer.old }
 {
     let from = (at as usize).min(content.len());
     let rest = &content[from..];

@@ -1,4 +1,6 @@
 ghost use Rattle.std.specs.Prelude.{◌≡◌, None};
+ghost use Rattle.outside_io.specs.Causes.{PutCause, Took};
+ghost use Rattle.outside_io.specs.Streams.{StreamPuts};
 
 use crate::sink::Sink;
 use crate::store::Failed;
@@ -6,7 +8,8 @@ use crate::writing::write_all;
 use std::io::Write;
 use std::marker::Model;
 
-/// A stream of the system, as standard output, whose bytes the sink doesn't tell.
+/// A stream of the system, as standard output. The sink tells no bytes; what its writer holds grows by
+/// what is put, where that is known.
 #[derive(Drop)]
 pub struct StdSink<W: Write + Drop> {
     writer: W,
@@ -14,17 +17,17 @@ pub struct StdSink<W: Write + Drop> {
 }
 
 impl<W: Write + Drop> Model for StdSink<W> {
-    ghost use Rattle.std.specs.Prelude.{ℕ};
+    ghost use Rattle.outside_io.specs.Streams.{StreamValue};
 
-    ghost Value = { ℕ };
+    ghost Value = { StreamValue };
 
-    ghost view = { λ s. s.faults };
+    ghost view = { λ s. record { held = W.contents s.writer; faults = s.faults } };
 }
 
 impl<W: Write + Drop> StdSink<W> {
     /// A sink over that stream. No faults so far.
     pub fn new(writer: W) -> Self
-        ensures { result ≡ 0 }
+        ensures { result ≡ record { held = W.contents writer; faults = 0 } }
     {
         StdSink { writer, faults: 0 }
     }
@@ -33,9 +36,13 @@ impl<W: Write + Drop> StdSink<W> {
 impl<W: Write + Drop> Sink for StdSink<W> {
     ghost taken = { λ _. None };
 
-    ghost faults = { λ s. s };
+    ghost faults = { λ s. s.faults };
 
-    fn put(&mut self, bytes: &[u8]) -> Result<(), Failed> {
+    fn put(&mut self, bytes: &[u8]) -> Result<(), Failed>
+        ensures took { Took None None bytes.now result }
+        ensures cause { PutCause self.old.faults self.new.faults result }
+        ensures exact { StreamPuts self.old self.new bytes.now result }
+    {
         if write_all(&mut self.writer, bytes) {
             return Ok(());
         }

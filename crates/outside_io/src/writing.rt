@@ -1,7 +1,19 @@
+ghost use Rattle.std.specs.Prelude.{ℕ, List};
+ghost use Rattle.std.specs.Bool.{OnFalse, OnTrue};
+ghost use Rattle.std.specs.Io.KnownBytes.{Appends};
+ghost use Rattle.outside_io.specs.Streams.{AddsUpTo};
+
 use std::io::Write;
 
-/// Writes all the bytes, and answers whether the stream took them. A write that takes nothing fails.
-pub(crate) fn write_all<W: Write>(writer: &mut W, bytes: &[u8]) -> bool {
+/// Writes all the bytes, and answers whether the stream took them. A write that takes nothing fails;
+/// then the stream took some first bytes.
+#[tactic(auto, using(crate::proofs::StreamLemmas::adds_none, crate::proofs::StreamLemmas::adds_no_more, crate::proofs::StreamLemmas::adds_all))]
+pub(crate) fn write_all<W: Write>(writer: &mut W, bytes: &[u8]) -> bool
+    ensures all { OnTrue result
+        (Appends (W.contents writer.old) (W.contents writer.new) bytes.now) }
+    ensures some { OnFalse result ((left : List ℕ)
+        × AddsUpTo (W.contents writer.old) (W.contents writer.new) bytes.now left) }
+{
     let mut rest = bytes;
     while !rest.is_empty() {
         match writer.write(rest) {

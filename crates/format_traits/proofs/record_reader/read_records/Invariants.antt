@@ -1,7 +1,7 @@
 use Rattle.std.proofs.Common.{◌≡◌, ◌+◌, ◌≤◌, length, IsTrue}
 use Rattle.design_model.specs.declared.point.TheConstants.{JUMP_LIMIT}
 use Rattle.design_model.specs.Points.{is_within}
-use Rattle.format_traits.specs.Cutting.{SameButCommands}
+use Rattle.format_traits.specs.Keeping.{SameButCommands}
 use Rattle.format_traits.specs.Readings.{after_commands}
 use Rattle.format_traits.specs.Records.{course_of, reads_from}
 use Rattle.format_traits.proofs.record_reader.read_records.Given as goal

@@ -9,4 +9,4 @@ returns-in-Ok c = loaded_block c.args.at c.args.bytes.now c.in-Some.block.now c.
 
 pub returns-in-Err : goal.returns-in-Err
 returns-in-Err c = refused_block c.args.at c.args.bytes.now c.in-Some.block.now c.behind_header.result.now c.in-Err.fault
-    c.in-Some.ensures.there c.in-Some.ensures.value c.behind_header.ensures c.in-Err.ensures
+    c.in-Some.ensures.there c.in-Some.ensures.value c.behind_header.ensures c.in-Err.ensures.1

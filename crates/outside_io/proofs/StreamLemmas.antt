@@ -1,0 +1,36 @@
+-- Bytes that are added to a stream one part after another.
+use Rattle.std.proofs.Common.{◌≡◌, ℕ, List, [], ◌++◌, Option, refl, sym, ap, subst, ◌∙◌, append_assoc, append-nil, take, drop, take-append-drop}
+use Rattle.std.proofs.KnownBytes.{Appends-nil, Appends-trans, Appends-kept}
+use Rattle.std.specs.Io.KnownBytes.{Appends, Keeps}
+use Rattle.outside_io.specs.Streams.{AddsUpTo}
+
+-- at first nothing was added
+pub adds_none : (held : Option (List ℕ)) (bytes : List ℕ) → AddsUpTo held held bytes bytes
+adds_none held bytes = record { first = []; parts = refl; added = Appends-nil held }
+
+-- some of the bytes that were left are added
+pub adds_more : (old before new : Option (List ℕ)) (bytes left rest : List ℕ) (count : ℕ) → AddsUpTo old before bytes left
+    → Appends before new (take count left) → rest ≡ drop count left → AddsUpTo old new bytes rest
+adds_more old before new bytes left rest count so_far more is = record {
+  first = so_far.first ++ take count left;
+  parts =
+      append_assoc so_far.first (take count left) rest
+      ∙ ap (λ l. so_far.first ++ (take count left ++ l)) is
+      ∙ ap (λ l. so_far.first ++ l) (take-append-drop count left)
+      ∙ so_far.parts;
+  added = Appends-trans old before new so_far.first (take count left) so_far.added more;
+}
+
+-- a write that fails adds nothing
+pub adds_no_more : (old before new : Option (List ℕ)) (bytes left : List ℕ) → AddsUpTo old before bytes left
+    → Keeps before new → AddsUpTo old new bytes left
+adds_no_more old before new bytes left so_far kept = record {
+  first = so_far.first;
+  parts = so_far.parts;
+  added = Appends-kept old before new so_far.first so_far.added kept;
+}
+
+-- where none are left, all were added
+pub adds_all : (old new : Option (List ℕ)) (bytes : List ℕ) → AddsUpTo old new bytes [] → Appends old new bytes
+adds_all old new bytes so_far =
+    subst (λ l. Appends old new l) (sym (append-nil so_far.first) ∙ so_far.parts) so_far.added
