@@ -1,16 +1,14 @@
 -- A survey of acts, one after the other, comes to the numbers of all of them.
-use Rattle.std.proofs.Common.{◌≡◌, ℕ, zero, suc, ◌+◌, ◌-◌, ◌<◌, ◌≤◌, get_or, take, drop, subst, max, Option, Some, None, option_to_list, sym, Bool, true, false, List, [], ◌∷◌, ◌++◌, length, map, IsTrue, ◌==◌, refl, ap, ◌∙◌, arith, length-append, zero-add, if◌then◌else◌, nat_le}
+use Rattle.std.proofs.Common.{◌≡◌, ℕ, zero, suc, ◌+◌, ◌<◌, ◌≤◌, get_or, drop, max, Option, Some, None, option_to_list, sym, Bool, true, false, List, [], ◌∷◌, ◌++◌, length, map, ◌==◌, refl, ap, ◌∙◌, arith, length-append, zero-add, if◌then◌else◌, nat_le}
 use Rattle.std.proofs.Math.Nat.{zero-max, max-zero}
-use Rattle.std.proofs.Math.Seq.{take-length}
-use Rattle.std.proofs.lemmas.Bool.{and_parts, eqb-true}
-use Rattle.std.proofs.lemmas.List.{length-map}
+use Rattle.std.proofs.lemmas.Bool.{eqb-true}
+use Rattle.std.proofs.lemmas.List.{at_drop_all, at_drop_more, length-map}
 use Rattle.std.specs.List.{list_all}
 use Rattle.design_model.specs.declared.act.Act.{Act}
 use Rattle.design_model.specs.declared.act.Act.TheVariants as act
 use Rattle.design_model.specs.declared.act.NumberedAct.{NumberedAct}
 use Rattle.design_model.specs.declared.command.Command.{Command}
 use Rattle.design_model.specs.declared.point.Point.{Point}
-use Rattle.design_model.specs.Commands.{is_in_range}
 use Rattle.design_model.specs.Points.{origin, move_between}
 use Rattle.format_traits.specs.declared.fault.WriteFault.{WriteFault}
 use Rattle.format_traits.specs.declared.standing.Standing.{Standing}
@@ -134,28 +132,28 @@ numbers_in-surveyed acts =
     ) (simp (zero-max, zero-add))
 
 -- the survey after the last command
-pub finished : (rest : List Command) (w : ActWalk) (s : Survey) (acts : List NumberedAct)
-    (numbers : HeaderNumbers) → length rest < 1
-    → surveyed s (acts_after w rest) ≡ surveyed empty_survey acts
-    → refusal_from reach s.standing (acts_after w rest) ≡ first_refusal reach acts
+pub finished : (cs : List Command) (i : ℕ) (w : ActWalk) (s : Survey) (acts : List NumberedAct)
+    (numbers : HeaderNumbers) → length cs ≤ i
+    → surveyed s (acts_after w (drop i cs)) ≡ surveyed empty_survey acts
+    → refusal_from reach s.standing (acts_after w (drop i cs)) ≡ first_refusal reach acts
     → numbers ≡ numbers_in s
     → (first_refusal reach acts ≡ None) × (numbers ≡ numbers_of acts (length (records_of acts) + 1))
-finished [] w s acts numbers short is refusal same =
-    (sym refusal, same ∙ ap numbers_in is ∙ numbers_in-surveyed acts)
-finished (command ∷ rest) w s acts numbers short is refusal same =
-    absurd (let no : ⊥ = omega (arith, short) in no)
+finished cs i w s acts numbers over is refusal same =
+    let none = sym (at_drop_all (λ cs. refusal_from reach s.standing (acts_after w cs)) cs i over) in
+    let all = sym (at_drop_all (λ cs. surveyed s (acts_after w cs)) cs i over) in
+    (sym (none ∙ refusal), same ∙ ap numbers_in (all ∙ is) ∙ numbers_in-surveyed acts)
 
 -- the first command whose act is refused
-pub refused : (rest : List Command) (d : Command) (w w' : ActWalk) (r : Option NumberedAct) (a : NumberedAct)
-    (f : WriteFault) (s : Survey) (acts : List NumberedAct) → 1 ≤ length rest
-    → ((after : List Command) → acts_after w (get_or rest 0 d ∷ after) ≡ option_to_list r ++ acts_after w' after)
+pub refused : (cs : List Command) (i : ℕ) (d : Command) (w w' : ActWalk) (r : Option NumberedAct) (a : NumberedAct)
+    (f : WriteFault) (s : Survey) (acts : List NumberedAct) → i < length cs
+    → ((after : List Command) → acts_after w (get_or cs i d ∷ after) ≡ option_to_list r ++ acts_after w' after)
     → r ≡ Some a
     → refusal_at reach s.standing a ≡ Some f
-    → refusal_from reach s.standing (acts_after w rest) ≡ first_refusal reach acts
+    → refusal_from reach s.standing (acts_after w (drop i cs)) ≡ first_refusal reach acts
     → first_refusal reach acts ≡ Some f
-refused [] d w w' r a f s acts there steps is here refusal = absurd (let no : ⊥ = omega (arith, there) in no)
-refused (command ∷ rest) d w w' r a f s acts there steps is here refusal =
-    sym refusal ∙ rw (steps rest, is, here) refl
+refused cs i d w w' r a f s acts there steps is here refusal =
+    sym refusal ∙ at_drop_more (λ cs. refusal_from reach s.standing (acts_after w cs)) cs i d there
+    ∙ rw (steps (drop (i + 1) cs), is, here) refl
 
 loose_small : (few : Bool) (jumps : ℕ) → jumps + 1 ≤ (if few then jumps + 1 else jumps + 2)
 loose_small true jumps = omega arith
@@ -188,29 +186,3 @@ records_small s (a ∷ rest) =
     let more = records_small after rest in
     let joined = length-append (records_of_act spelling reach s a.act) (records_from spelling reach after rest) in
     omega (arith, one, is, more, joined)
-
--- the commands after the first
-abbrev pub rest_of : List Command → List Command
-rest_of cs = take (length cs - 1) (drop 1 cs)
-
-rest_of-cons : (c : Command) (cs : List Command) → rest_of (c ∷ cs) ≡ cs
-rest_of-cons c cs =
-    let left : length (c ∷ cs) - 1 ≡ length cs = omega arith in
-    ap (λ n. take n cs) left ∙ take-length cs
-
-pub length-rest_of : (cs : List Command) → 1 ≤ length cs → length (rest_of cs) + 1 ≡ length cs
-length-rest_of [] some = absurd (let no : ⊥ = omega (arith, some) in no)
-length-rest_of (c ∷ cs) some = ap (λ rest. length rest + 1) (rest_of-cons c cs) ∙ omega arith
-
-pub rest_in_range : (cs : List Command) → IsTrue (list_all is_in_range cs) → IsTrue (list_all is_in_range (rest_of cs))
-rest_in_range [] all = refl
-rest_in_range (c ∷ cs) all = subst (λ rest. IsTrue (list_all is_in_range rest)) (sym (rest_of-cons c cs))
-    (and_parts (is_in_range c) (list_all is_in_range cs) all).1
-
--- the acts of the first command and of the rest
-pub acts_split : (cs : List Command) (d : Command) (w w' : ActWalk) (r : Option NumberedAct) → 1 ≤ length cs
-    → ((after : List Command) → acts_after w (get_or cs 0 d ∷ after) ≡ option_to_list r ++ acts_after w' after)
-    → acts_after w cs ≡ option_to_list r ++ acts_after w' (rest_of cs)
-acts_split [] d w w' r some steps = absurd (let no : ⊥ = omega (arith, some) in no)
-acts_split (c ∷ cs) d w w' r some steps =
-    steps cs ∙ ap (λ rest. option_to_list r ++ acts_after w' rest) (sym (rest_of-cons c cs))

@@ -32,14 +32,13 @@ pub fn header_numbers(commands: &[Command]) -> Result<HeaderNumbers, WriteFault>
 {
     let mut survey = Survey::new();
     let mut walk = ActWalk::new();
-    let mut rest = commands;
-    while let [command, after @ ..] = rest {
-        if let Some(act) = walk.next(*command) {
-            if let Err(fault) = survey.note(act) {
-                return Err(fault);
-            }
+    for command in commands {
+        let Some(act) = walk.next(*command) else {
+            continue;
+        };
+        if let Err(fault) = survey.note(act) {
+            return Err(fault);
         }
-        rest = after;
     }
     Ok(survey.numbers())
 }

@@ -1,15 +1,9 @@
 -- The records of acts, one after the other.
-use Rattle.std.proofs.Common.{◌≡◌, ℕ, suc, ◌+◌, ◌-◌, ◌<◌, ◌≤◌, IsTrue, Option, None, option_to_list, List, [], ◌∷◌, ◌++◌, length, get_or, map, take, drop, refl, ap, sym, ◌∙◌, subst, arith}
-use Rattle.std.proofs.Math.Seq.{take-length}
-use Rattle.std.proofs.lemmas.Bool.{and_parts}
+use Rattle.std.proofs.Common.{◌≡◌, ℕ, suc, ◌+◌, ◌-◌, ◌<◌, Option, None, List, [], ◌∷◌, ◌++◌, map, refl, ap, sym, ◌∙◌, arith}
 use Rattle.std.proofs.lemmas.List.{append_assoc, append-nil}
-use Rattle.std.specs.List.{concat, list_all}
+use Rattle.std.specs.List.{concat}
 use Rattle.design_model.specs.declared.act.NumberedAct.{NumberedAct}
-use Rattle.design_model.specs.declared.act_walk.ActWalk.{ActWalk}
-use Rattle.design_model.specs.declared.command.Command.{Command}
 use Rattle.design_model.specs.declared.point.Point.{Point}
-use Rattle.design_model.specs.ActWalks.{acts_after}
-use Rattle.design_model.specs.Commands.{is_in_range}
 use Rattle.design_model.specs.Points.{move_between}
 use Rattle.format_traits.specs.declared.fault.WriteFault.{WriteFault}
 use Rattle.format_traits.specs.declared.standing.Reach.{Reach}
@@ -41,32 +35,6 @@ jumps_and out middle bytes jumps last of_middle of_bytes =
     of_bytes ∙ ap (λ bytes. bytes ++ last) of_middle ∙ append_assoc out (concat jumps) last
     ∙ ap (λ bytes. out ++ bytes)
     (sym (concat-append jumps (last ∷ []) ∙ ap (λ bytes. concat jumps ++ bytes) (append-nil last)))
-
--- the commands after the first
-abbrev pub rest_of : List Command → List Command
-rest_of cs = take (length cs - 1) (drop 1 cs)
-
-rest_of-cons : (c : Command) (cs : List Command) → rest_of (c ∷ cs) ≡ cs
-rest_of-cons c cs =
-    let left : length (c ∷ cs) - 1 ≡ length cs = omega arith in
-    ap (λ n. take n cs) left ∙ take-length cs
-
-pub length-rest_of : (cs : List Command) → 1 ≤ length cs → length (rest_of cs) + 1 ≡ length cs
-length-rest_of [] some = absurd (let no : ⊥ = omega (arith, some) in no)
-length-rest_of (c ∷ cs) some = ap (λ rest. length rest + 1) (rest_of-cons c cs) ∙ omega arith
-
-pub rest_in_range : (cs : List Command) → IsTrue (list_all is_in_range cs) → IsTrue (list_all is_in_range (rest_of cs))
-rest_in_range [] all = refl
-rest_in_range (c ∷ cs) all = subst (λ rest. IsTrue (list_all is_in_range rest)) (sym (rest_of-cons c cs))
-    (and_parts (is_in_range c) (list_all is_in_range cs) all).1
-
--- the acts of the first command and of the rest
-pub acts_split : (cs : List Command) (d : Command) (w w' : ActWalk) (r : Option NumberedAct) → 1 ≤ length cs
-    → ((after : List Command) → acts_after w (get_or cs 0 d ∷ after) ≡ option_to_list r ++ acts_after w' after)
-    → acts_after w cs ≡ option_to_list r ++ acts_after w' (rest_of cs)
-acts_split [] d w w' r some steps = absurd (let no : ⊥ = omega (arith, some) in no)
-acts_split (c ∷ cs) d w w' r some steps =
-    steps cs ∙ ap (λ rest. option_to_list r ++ acts_after w' rest) (sym (rest_of-cons c cs))
 
 -- the records of the first act, and those of the rest
 pub written_rest : (spelling : Spelling) (reach : Reach) (s s' : Standing) (a : NumberedAct) (acts rest : List NumberedAct)

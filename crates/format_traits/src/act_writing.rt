@@ -32,14 +32,13 @@ pub fn put_acts<W: RecordWriter>(
 {
     let mut standing = Standing::new();
     let mut walk = ActWalk::new();
-    let mut rest = commands;
-    while let [command, after @ ..] = rest {
-        if let Some(act) = walk.next(*command) {
-            if let Err(fault) = put_act(writer, out, &mut standing, act) {
-                return Err(fault);
-            }
+    for command in commands {
+        let Some(act) = walk.next(*command) else {
+            continue;
+        };
+        if let Err(fault) = put_act(writer, out, &mut standing, act) {
+            return Err(fault);
         }
-        rest = after;
     }
     Ok(standing)
 }

@@ -1,9 +1,7 @@
-use Rattle.std.proofs.Common.{◌≡◌, ◌≤◌, ◌+◌, length, IsTrue}
-use Rattle.std.specs.List.{list_all}
+use Rattle.std.proofs.Common.{◌≡◌, ◌≤◌, drop, IsTrue}
 use Rattle.design_model.specs.declared.design.TheConstants.{MAX_COMMANDS}
 use Rattle.design_model.specs.declared.point.TheConstants.{NEEDLE_LIMIT}
 use Rattle.design_model.specs.Acts.{acts_along}
-use Rattle.design_model.specs.Commands.{is_in_range}
 use Rattle.design_model.specs.Points.{is_within}
 use Rattle.format_traits.specs.Refusals.{refusal_from, first_refusal}
 use Rattle.design_model.specs.ActWalks.{acts_after}
@@ -13,18 +11,14 @@ use Rattle.dst_codec.proofs.SurveyLemmas.{surveyed}
 use Rattle.dst_codec.proofs.survey.header_numbers.Given as goal
 
 -- the acts that are left, noted after those so far, come to a survey of all acts
-abbrev pub invariant-loop-rest : goal.invariant-loop-rest
-invariant-loop-rest l = record {
-  count : l.walk.number + length l.rest ≡ length l.commands;
-  in_range : IsTrue (list_all is_in_range l.rest);
+abbrev pub invariant-loop-command : goal.invariant-loop-command
+invariant-loop-command l = record {
+  number : l.walk.number ≡ l.command-index;
   place : IsTrue (is_within NEEDLE_LIMIT l.survey.standing.place);
   room : l.survey.standing.room ≤ MAX_COMMANDS;
   stops : l.survey.standing.stops ≤ l.survey.standing.room;
   records : l.survey.records ≤ l.survey.standing.room;
-  numbers : surveyed l.survey (acts_after l.walk l.rest) ≡ surveyed empty_survey (acts_along l.commands);
-  refusal : refusal_from reach l.survey.standing (acts_after l.walk l.rest)
+  numbers : surveyed l.survey (acts_after l.walk (drop l.command-index l.commands)) ≡ surveyed empty_survey (acts_along l.commands);
+  refusal : refusal_from reach l.survey.standing (acts_after l.walk (drop l.command-index l.commands))
       ≡ first_refusal reach (acts_along l.commands);
 }
-
-abbrev pub decreases-loop-rest : goal.decreases-loop-rest
-decreases-loop-rest l = length l.rest
