@@ -1,5 +1,6 @@
 pub mod RouteFacts
 pub mod ShowFacts
+pub mod OrderFacts
 pub mod SewnDesigns
 pub mod LineWalks
 pub mod PutLemmas

@@ -1,0 +1,110 @@
+-- Worked values of complete requests, and of what changes of a design that can be refused come to.
+use Rattle.std.proofs.Common.{◌≡◌, ℕ, ℤ, pos, List, [], ◌∷◌, Some, None, Ok, Err, refl}
+use Rattle.std.specs.Prelude.{codes}
+use Rattle.command_words.specs.Changes.{cut, split, turn}
+use Rattle.design_model.specs.declared.command.Command.TheVariants.{Stitch, Stop}
+use Rattle.design_model.specs.declared.point.Point.{Point}
+use Rattle.design_model.specs.Designs.{DesignValue, empty_design}
+use Rattle.format_traits.specs.Meanings.{Meaning}
+use Rattle.stitch_cli.specs.declared.stop.Refusal.TheVariants as refusal
+use Rattle.stitch_cli.specs.ChangedDesigns.{shifted_unless, threaded}
+use Rattle.stitch_cli.specs.Orders.{hooping, order_of, rewriting, routing, showing}
+
+-- a format with another ending
+abbrev ending_as : Meaning → List ℕ → Meaning
+ending_as format ending = record format { ending = ending }
+
+-- two formats
+abbrev dst_and_exp : Meaning → List Meaning
+dst_and_exp format = ending_as format (codes "dst") ∷ ending_as format (codes "exp") ∷ []
+
+-- the format is that of the name's ending, in capitals or not
+pub known_show : (m : Meaning) → order_of (dst_and_exp m) (codes "show" ∷ codes "a.EXP" ∷ [])
+    ≡ Some (showing (record { file = codes "a.EXP"; format = ending_as m (codes "exp") }))
+known_show m = refl
+
+pub known_other_ending : (m : Meaning) → order_of (dst_and_exp m) (codes "show" ∷ codes "a.jef" ∷ []) ≡ None
+known_other_ending m = refl
+
+pub known_no_ending : (m : Meaning) → order_of (dst_and_exp m) (codes "show" ∷ codes "exp" ∷ []) ≡ None
+known_no_ending m = refl
+
+-- of a route the output alone has a format, and no two names are equal
+pub known_route : (m : Meaning) → order_of (dst_and_exp m) (codes "route" ∷ codes "a" ∷ codes "b.dst" ∷ codes "c" ∷ [])
+    ≡ Some (routing (record {
+      drawing = codes "a";
+      out = codes "b.dst";
+      cert = codes "c";
+      format = ending_as m (codes "dst");
+    }))
+known_route m = refl
+
+pub known_route_onto_drawing : (m : Meaning)
+    → order_of (dst_and_exp m) (codes "route" ∷ codes "a.dst" ∷ codes "a.dst" ∷ codes "c" ∷ []) ≡ None
+known_route_onto_drawing m = refl
+
+pub known_certificate_onto_design : (m : Meaning)
+    → order_of (dst_and_exp m) (codes "route" ∷ codes "a" ∷ codes "b.dst" ∷ codes "b.dst" ∷ []) ≡ None
+known_certificate_onto_design m = refl
+
+pub known_certificate_onto_drawing : (m : Meaning)
+    → order_of (dst_and_exp m) (codes "route" ∷ codes "a" ∷ codes "b.dst" ∷ codes "a" ∷ []) ≡ None
+known_certificate_onto_drawing m = refl
+
+-- a conversion reads by the format of the first name and writes by that of the second
+pub known_convert : (m : Meaning)
+    → order_of (dst_and_exp m) (codes "convert" ∷ codes "a.exp" ∷ codes "b.dst" ∷ codes "--cut" ∷ codes "--split" ∷ [])
+    ≡ Some (rewriting (record {
+      input = codes "a.exp";
+      output = codes "b.dst";
+      source = ending_as m (codes "exp");
+      target = ending_as m (codes "dst");
+      changes = split ∷ cut ∷ [];
+    }))
+known_convert m = refl
+
+pub known_convert_onto_itself : (m : Meaning)
+    → order_of (dst_and_exp m) (codes "convert" ∷ codes "a.dst" ∷ codes "a.dst" ∷ []) ≡ None
+known_convert_onto_itself m = refl
+
+pub known_convert_to_none : (m : Meaning)
+    → order_of (dst_and_exp m) (codes "convert" ∷ codes "a.dst" ∷ codes "b.jef" ∷ []) ≡ None
+known_convert_to_none m = refl
+
+pub known_edit : (m : Meaning)
+    → order_of (dst_and_exp m) (codes "edit" ∷ codes "a.dst" ∷ codes "b.dst" ∷ codes "turn=1" ∷ [])
+    ≡ Some (rewriting (record {
+      input = codes "a.dst";
+      output = codes "b.dst";
+      source = ending_as m (codes "dst");
+      target = ending_as m (codes "dst");
+      changes = turn 1 ∷ [];
+    }))
+known_edit m = refl
+
+pub known_hoop : (m : Meaning) → order_of (dst_and_exp m) (codes "hoop" ∷ codes "a.dst" ∷ codes "40" ∷ codes "30" ∷ [])
+    ≡ Some (hooping (record {
+      file = codes "a.dst";
+      format = ending_as m (codes "dst");
+      width = 40;
+      height = 30;
+    }))
+known_hoop m = refl
+
+abbrev place : ℤ → ℤ → Point
+place x y = record { x = x; y = y }
+
+-- two blocks, of which none keeps a thread
+abbrev two_blocks : DesignValue
+two_blocks = record empty_design { commands = Stitch (place (pos 0) (pos 0)) ∷ Stop ∷ Stitch (place (pos 5) (pos 0)) ∷ [] }
+
+-- places count from 1, and the blocks before keep the threads that they had
+pub known_second_thread : threaded 2 9 two_blocks ≡ Ok (record two_blocks { threads = 1 ∷ 9 ∷ [] })
+known_second_thread = refl
+
+pub known_no_third_place : threaded 3 9 two_blocks ≡ Err (refusal.NoPlace 3 2)
+known_no_third_place = refl
+
+-- a shift that leads a command out of range names it
+pub known_moved_out : shifted_unless (Some 4) two_blocks ≡ Err (refusal.MovedOut 4)
+known_moved_out = refl
