@@ -5,6 +5,8 @@ pub mod MatchingFacts
 pub mod TableLemmas
 pub mod OpenLemmas
 pub mod MoatLemmas
+pub mod LeastLemmas
+mod LimitFacts
 pub mod TakenLemmas
 pub mod TreeLemmas
 pub mod AugmentLemmas

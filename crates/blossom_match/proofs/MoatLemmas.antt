@@ -51,7 +51,7 @@ crossing_case a b w (suc (suc n)) cb ms ea eb pa pb = absurd (omega arith)
 crossing_case a b w zero (suc (suc n)) ms ea eb pa pb = absurd (omega arith)
 crossing_case a b w (suc zero) (suc (suc n)) ms ea eb pa pb = absurd (omega arith)
 
-crossing : (a b w : ℕ) (ms : List ℕ) → count a ms ≤ 1 → count b ms ≤ 1 → cond (crosses a b (record { members = ms; width = w })) w 0 ≡ w * apart (count a ms) (count b ms)
+pub crossing : (a b w : ℕ) (ms : List ℕ) → count a ms ≤ 1 → count b ms ≤ 1 → cond (crosses a b (record { members = ms; width = w })) w 0 ≡ w * apart (count a ms) (count b ms)
 crossing a b w ms pa pb = crossing_case a b w (count a ms) (count b ms) ms refl refl pa pb
 
 own_wide : (w : ℕ) (ms : List ℕ) → own_moat ms (suc w) ≡ record { members = ms; width = suc w } ∷ []

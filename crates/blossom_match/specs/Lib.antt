@@ -1,5 +1,6 @@
 -- read this one first: what a matching with moats is
 pub mod Matchings
+pub mod Leasts
 pub mod Tables
 pub mod TableValue
 -- the rest is for the search alone

@@ -6,6 +6,7 @@ mod branches;
 mod couples;
 mod expanding;
 mod heights;
+mod laws;
 mod least;
 mod matching;
 mod nest;
@@ -21,5 +22,6 @@ mod taking;
 mod tests;
 mod widening;
 
+pub use laws::none_costs_less;
 pub use matching::{Matching, Moat, Moats, Pair, Pairs, match_all};
 pub use table::{DistTable, MAX_DISTANCE, MAX_PLACES};

@@ -61,6 +61,12 @@ fn larger_tables_have_totals_known_by_hand(rt: HostRuntime) -> Result<(), Fail> 
         (clusters(alloc, &[5, 3], 2, 14)?, 2 + 2 + 2 + 14),
         // three odd clusters and one more place, two pairs across
         (clusters(alloc, &[3, 3, 3, 1], 2, 9)?, 2 + 2 + 2 + 9 + 9),
+        // as many places as a large drawing has odd junctions
+        (star(alloc, 100, 2)?, 100),
+        (
+            clusters(alloc, &[31, 20, 33], 2, 14)?,
+            15 * 2 + 10 * 2 + 16 * 2 + 14,
+        ),
     ];
     for (t, total) in &rows {
         let m = matched(alloc, t)?;

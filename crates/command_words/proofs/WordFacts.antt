@@ -3,8 +3,8 @@ use Rattle.std.proofs.Common.{◌≡◌, pos, negsuc, true, false, [], ◌∷◌
 use Rattle.std.specs.Prelude.{codes}
 use Rattle.design_edits.specs.declared.axis.Axis.TheVariants.{X, Y}
 use Rattle.command_words.specs.Changes.{cut, mirror, shift, split, thread, turn}
-use Rattle.command_words.specs.Requests.{asked_of, convert, edit, hoop, route, show}
-use Rattle.command_words.specs.Words.{edit_spelled, edits_spelled, is_name, refits, refits_spelled, side_of}
+use Rattle.command_words.specs.Requests.{asked_of, check, convert, edit, hoop, route, sample, show}
+use Rattle.command_words.specs.Words.{edit_spelled, edits_spelled, is_name, refits, refits_spelled, sample_of, side_of}
 
 -- a name has from 1 to 4,096 bytes
 pub known_names : is_name (codes "a.dst") ≡ true
@@ -233,8 +233,38 @@ known_hoop_unnamed = refl
 pub known_no_word : asked_of [] ≡ None
 known_no_word = refl
 
-pub known_other_command : asked_of (codes "sample" ∷ codes "1" ∷ codes "a.rw" ∷ []) ≡ None
+pub known_other_command : asked_of (codes "samples" ∷ codes "1" ∷ codes "a.rw" ∷ []) ≡ None
 known_other_command = refl
 
 pub known_large_letter : asked_of (codes "Show" ∷ codes "a.dst" ∷ []) ≡ None
 known_large_letter = refl
+
+-- a check reads three files, in this order, and takes no more and no fewer words
+pub known_check : asked_of (codes "check" ∷ codes "a.rw" ∷ codes "b.dst" ∷ codes "c" ∷ [])
+    ≡ Some (check (codes "a.rw") (codes "b.dst") (codes "c"))
+known_check = refl
+
+pub known_short_check : asked_of (codes "check" ∷ codes "a.rw" ∷ codes "b.dst" ∷ []) ≡ None
+known_short_check = refl
+
+pub known_long_check : asked_of (codes "check" ∷ codes "a" ∷ codes "b" ∷ codes "c" ∷ codes "d" ∷ []) ≡ None
+known_long_check = refl
+
+-- a sample has a number from 1 to 999,999, which may have zeros in front
+pub known_sample : asked_of (codes "sample" ∷ codes "0075" ∷ codes "s.rw" ∷ []) ≡ Some (sample 75 (codes "s.rw"))
+known_sample = refl
+
+pub known_greatest_sample : sample_of (codes "999999") ≡ Some 999999
+known_greatest_sample = refl
+
+pub known_sample_beyond : sample_of (codes "1000000") ≡ None
+known_sample_beyond = refl
+
+pub known_no_sample : sample_of (codes "0") ≡ None
+known_no_sample = refl
+
+pub known_sample_turned : asked_of (codes "sample" ∷ codes "s.rw" ∷ codes "75" ∷ []) ≡ None
+known_sample_turned = refl
+
+pub known_short_sample : asked_of (codes "sample" ∷ codes "75" ∷ []) ≡ None
+known_short_sample = refl

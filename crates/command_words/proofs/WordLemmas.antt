@@ -3,9 +3,10 @@ use Rattle.std.proofs.Common.{◌≡◌, ◌<◌, ℕ, true, false, nat_lt, List
 use Rattle.std.proofs.lemmas.Bool.{ltb-true}
 use Rattle.std.specs.Prelude.{is_some}
 use Rattle.command_words.specs.Changes.{Change}
-use Rattle.command_words.specs.Requests.{asked_edit, asked_hoop}
+use Rattle.command_words.specs.Requests.{asked_edit, asked_hoop, asked_sample}
 use Rattle.command_words.specs.Words.{before_edits}
 
+-- words that are too few or too many for a hoop
 pub few_no_hoop : {X : Type 0} (f : X → List ℕ) (words : List X) → nat_lt (length words) 3 ≡ true
     → None ≡ asked_hoop (map f words)
 few_no_hoop f [] few = refl
@@ -22,6 +23,21 @@ many_no_hoop f (a ∷ b ∷ []) many = cc
 many_no_hoop f (a ∷ b ∷ c ∷ []) many = cc
 many_no_hoop f (a ∷ b ∷ c ∷ d ∷ rest) many = refl
 
+-- nor for a sample
+pub few_no_sample : {X : Type 0} (f : X → List ℕ) (words : List X) → nat_lt (length words) 2 ≡ true
+    → None ≡ asked_sample (map f words)
+few_no_sample f [] few = refl
+few_no_sample f (a ∷ []) few = refl
+few_no_sample f (a ∷ b ∷ rest) few = let less = ltb-true (length (a ∷ b ∷ rest)) 2 few in absurd (omega (arith, less))
+
+pub many_no_sample : {X : Type 0} (f : X → List ℕ) (words : List X) → nat_lt (length words) 3 ≡ false
+    → None ≡ asked_sample (map f words)
+many_no_sample f [] many = cc
+many_no_sample f (a ∷ []) many = cc
+many_no_sample f (a ∷ b ∷ []) many = cc
+many_no_sample f (a ∷ b ∷ c ∷ rest) many = refl
+
+-- nor for an edit
 pub few_no_edit : {X : Type 0} (f : X → List ℕ) (words : List X) → length words < 2 → None ≡ asked_edit (map f words)
 few_no_edit f [] few = refl
 few_no_edit f (a ∷ []) few = refl

@@ -3,4 +3,3 @@ pub mod Words
 -- read this one first: what each request asks, and which words ask for it
 pub mod Requests
 pub mod Edits
-pub mod Limits

@@ -1,35 +1,47 @@
 -- What the words after the program's name ask for. A name is the bytes of a word.
-use Rattle.std.specs.Prelude.{ℕ, Bool, ◌&&◌, List, [], ◌∷◌, map, Option, Some, None, IsSome, bytes_eq, codes, string_bytes, unwrap_or, if◌then◌else◌}
+use Rattle.std.specs.Prelude.{ℕ, ◌≤◌, Bool, ◌&&◌, List, [], ◌∷◌, map, Option, Some, None, IsSome, bytes_eq, codes, string_bytes, unwrap_or, if◌then◌else◌}
 use Rattle.outside_io.specs.Files.{IsName}
+use Rattle.command_words.specs.declared.request_words.TheConstants.{MAX_SAMPLE}
+use Rattle.command_words.specs.declared.requests.CheckNames.{CheckNames}
 use Rattle.command_words.specs.declared.requests.Names.{Names}
 use Rattle.command_words.specs.declared.requests.Request.{Request}
 use Rattle.command_words.specs.declared.requests.RouteNames.{RouteNames}
 use Rattle.command_words.specs.declared.requests.Request.TheVariants as request
 use Rattle.command_words.specs.Changes.{Change}
-use Rattle.command_words.specs.Words.{edits_spelled, is_name, refits_spelled, side_of}
+use Rattle.command_words.specs.Words.{edits_spelled, is_name, refits_spelled, sample_of, side_of}
 
 -- a request
 pub data Asked : Type 0 where
   route : (drawing out cert : List ℕ) → Asked
+  check : (drawing file cert : List ℕ) → Asked
   convert : (input output : List ℕ) → (splits cuts : Bool) → Asked
   show : (file : List ℕ) → Asked
   edit : (input output : List ℕ) → (edits : List Change) → Asked
   hoop : (file : List ℕ) → (width height : ℕ) → Asked
+  sample : (number : ℕ) → (drawing : List ℕ) → Asked
 
 -- what a request of the program asks; the words of an edit that spell none ask for none
 abbrev pub asked_by : Request → Asked
 asked_by (request.Route names) = route names.drawing.now names.out.now names.cert.now
+asked_by (request.Check names) = check names.drawing.now names.file.now names.cert.now
 asked_by (request.Convert names splits cuts) = convert names.input.now names.output.now splits cuts
 asked_by (request.Show file) = show file.now
 asked_by (request.Edit names edits) = edit names.input.now names.output.now
     (unwrap_or (edits_spelled (map (λ word. string_bytes word) edits.now)) [])
 asked_by (request.Hoop file width height) = hoop file.now width height
+asked_by (request.Sample number drawing) = sample number drawing.now
 
 -- the route of three words that are names
 abbrev pub asked_route : List (List ℕ) → Option Asked
 asked_route (drawing ∷ out ∷ cert ∷ []) = if is_name drawing && is_name out && is_name cert
     then Some (route drawing out cert) else None
 asked_route _ = None
+
+-- the check of three words that are names
+abbrev pub asked_check : List (List ℕ) → Option Asked
+asked_check (drawing ∷ file ∷ cert ∷ []) = if is_name drawing && is_name file && is_name cert
+    then Some (check drawing file cert) else None
+asked_check _ = None
 
 -- the conversion from a file to another, with refits
 abbrev pub convert_with : List ℕ → List ℕ → Option (Bool × Bool) → Option Asked
@@ -58,26 +70,38 @@ abbrev pub asked_edit : List (List ℕ) → Option Asked
 asked_edit (input ∷ output ∷ first ∷ later) = edit_with input output (edits_spelled (first ∷ later))
 asked_edit _ = None
 
--- the check of a file against a hoop with two sides
+-- the hoop of a file, with two sides
 abbrev pub hoop_with : List ℕ → Option ℕ → Option ℕ → Option Asked
 hoop_with file None height = None
 hoop_with file (Some width) None = None
 hoop_with file (Some width) (Some height) = if is_name file then Some (hoop file width height) else None
 
--- the check of a word that is a name, and of two words for the sides
+-- the hoop of a word that is a name, and of two words for the sides
 abbrev pub asked_hoop : List (List ℕ) → Option Asked
 asked_hoop (file ∷ width ∷ height ∷ []) = hoop_with file (side_of width) (side_of height)
 asked_hoop _ = None
+
+-- the sample drawing of a number, for a word that is a name
+abbrev pub sample_with : Option ℕ → List ℕ → Option Asked
+sample_with None drawing = None
+sample_with (Some number) drawing = if is_name drawing then Some (sample number drawing) else None
+
+-- the sample drawing of a word for the number, and of a word that is a name
+abbrev pub asked_sample : List (List ℕ) → Option Asked
+asked_sample (number ∷ drawing ∷ []) = sample_with (sample_of number) drawing
+asked_sample _ = None
 
 -- the request that a command's word and the words after it spell
 abbrev pub asked_as : List ℕ → List (List ℕ) → Option Asked
 asked_as command words =
     if bytes_eq command (codes "route") then asked_route words
+    else (if bytes_eq command (codes "check") then asked_check words
     else (if bytes_eq command (codes "convert") then asked_convert words
     else (if bytes_eq command (codes "show") then asked_show words
     else (if bytes_eq command (codes "edit") then asked_edit words
     else (if bytes_eq command (codes "hoop") then asked_hoop words
-    else None))))
+    else (if bytes_eq command (codes "sample") then asked_sample words
+    else None))))))
 
 -- the request that the words spell, where they spell one
 abbrev pub asked_of : List (List ℕ) → Option Asked
@@ -99,11 +123,19 @@ pub record AreNames (names : RouteNames) : Type 0 where
   pub out : IsName names.out.now
   pub cert : IsName names.cert.now
 
+-- the three words of a check are names
+pub record AreCheckNames (names : CheckNames) : Type 0 where
+  pub drawing : IsName names.drawing.now
+  pub file : IsName names.file.now
+  pub cert : IsName names.cert.now
+
 -- the words of a request that name files are names, and those that spell edits do
 abbrev pub IsSound : Request → Type 0
 IsSound (request.Route names) = AreNames names
+IsSound (request.Check names) = AreCheckNames names
 IsSound (request.Convert names splits cuts) = BothAreNames names
 IsSound (request.Show file) = IsName file.now
 IsSound (request.Edit names edits) =
     BothAreNames names × SpellEdits (map (λ word. string_bytes word) edits.now)
 IsSound (request.Hoop file width height) = IsName file.now
+IsSound (request.Sample number drawing) = (1 ≤ number) × (number ≤ MAX_SAMPLE) × IsName drawing.now

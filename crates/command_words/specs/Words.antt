@@ -6,7 +6,7 @@ use Rattle.design_model.specs.declared.whole_number.Whole.{Whole}
 use Rattle.design_model.specs.declared.whole_number.Whole.TheVariants as whole
 use Rattle.design_model.specs.WholeNumbers.{whole_of}
 use Rattle.outside_io.specs.declared.limits.TheConstants.{MAX_NAME}
-use Rattle.command_words.specs.declared.request_words.TheConstants.{MAX_SIDE}
+use Rattle.command_words.specs.declared.request_words.TheConstants.{MAX_SAMPLE, MAX_SIDE}
 use Rattle.command_words.specs.Changes.{Change, cut, mirror, shift, split, thread, turn}
 
 -- the word may name a file
@@ -51,6 +51,10 @@ bounded least most (whole.Value (negsuc n)) = None
 -- a side of a hoop, from 1 to the greatest
 abbrev pub side_of : List ℕ → Option ℕ
 side_of word = bounded 1 MAX_SIDE (whole_of word)
+
+-- the number of a sample drawing, from 1 to the greatest
+abbrev pub sample_of : List ℕ → Option ℕ
+sample_of word = bounded 1 MAX_SAMPLE (whole_of word)
 
 -- a shift by two numbers, where there are both
 abbrev pub shift_by : Option ℤ → Option ℤ → Option Change

@@ -3,12 +3,10 @@
 #![tactic(auto)]
 
 mod edit_words;
-mod laws;
 mod number_words;
 mod request_words;
 mod requests;
 
 pub use edit_words::{Edit, edit_spelled};
-pub use laws::the_limit_of_sides;
-pub use request_words::{MAX_SIDE, request};
-pub use requests::{Names, Request, RouteNames};
+pub use request_words::{MAX_SAMPLE, MAX_SIDE, request};
+pub use requests::{CheckNames, Names, Request, RouteNames};

@@ -1,17 +1,21 @@
 ghost use Rattle.std.specs.Prelude.{◌≡◌, IfSome, codes, is_some, map, option_map, string_bytes};
-ghost use Rattle.command_words.specs.Requests.{IsSound, asked_as, asked_by, asked_convert, asked_edit, asked_hoop, asked_of, asked_route, asked_show, hoop_with};
-ghost use Rattle.command_words.specs.Words.{are_both as are_both_words, edits_spelled, is_name as word_is_name, refits_spelled, side_of};
+ghost use Rattle.command_words.specs.Requests.{IsSound, asked_as, asked_by, asked_check, asked_convert, asked_edit, asked_hoop, asked_of, asked_route, asked_sample, asked_show, hoop_with, sample_with};
+ghost use Rattle.command_words.specs.Words.{are_both as are_both_words, edits_spelled, is_name as word_is_name, refits_spelled, sample_of, side_of};
 
 use crate::edit_words::edit_spelled;
 use crate::number_words::bounded;
-use crate::requests::{Names, Request, RouteNames};
+use crate::requests::{CheckNames, Names, Request, RouteNames};
 use outside_io::MAX_NAME;
 
 /// The greatest side of a hoop, in tenths of a millimetre.
 pub const MAX_SIDE: u32 = 60_000;
 
-/// The request that the words spell: `route DRAWING OUT CERT`, `convert IN OUT [--split] [--cut]`,
-/// `show FILE`, `edit IN OUT EDIT...` or `hoop FILE WIDTH HEIGHT`. It takes no memory.
+/// The greatest number of a sample drawing.
+pub const MAX_SAMPLE: u32 = 999_999;
+
+/// The request that the words spell: `route DRAWING OUT CERT`, `check DRAWING FILE CERT`,
+/// `convert IN OUT [--split] [--cut]`, `show FILE`, `edit IN OUT EDIT...`, `hoop FILE WIDTH HEIGHT` or
+/// `sample N DRAWING`. It takes no memory.
 pub fn request(words: &[String]) -> Option<Request<'_>>
     ensures value { option_map asked_by result ≡ asked_of (map (λ word. string_bytes word) words.now) }
     ensures sound { IfSome result IsSound }
@@ -30,6 +34,9 @@ fn request_as<'a>(command: &str, words: &'a [String]) -> Option<Request<'a>>
     if command == "route" {
         return route_request(words);
     }
+    if command == "check" {
+        return check_request(words);
+    }
     if command == "convert" {
         return convert_request(words);
     }
@@ -41,6 +48,9 @@ fn request_as<'a>(command: &str, words: &'a [String]) -> Option<Request<'a>>
     }
     if command == "hoop" {
         return hoop_request(words);
+    }
+    if command == "sample" {
+        return sample_request(words);
     }
     None
 }
@@ -56,6 +66,24 @@ fn route_request(words: &[String]) -> Option<Request<'_>>
         Some(Request::Route(RouteNames {
             drawing: drawing.as_str(),
             out: out.as_str(),
+            cert: cert.as_str(),
+        }))
+    } else {
+        None
+    }
+}
+
+fn check_request(words: &[String]) -> Option<Request<'_>>
+    ensures value { option_map asked_by result ≡ asked_check (map (λ word. string_bytes word) words.now) }
+    ensures sound { IfSome result IsSound }
+{
+    let [drawing, file, cert] = words else {
+        return None;
+    };
+    if is_name(drawing.as_str()) && is_name(file.as_str()) && is_name(cert.as_str()) {
+        Some(Request::Check(CheckNames {
+            drawing: drawing.as_str(),
+            file: file.as_str(),
             cert: cert.as_str(),
         }))
     } else {
@@ -184,6 +212,30 @@ fn hoop_spelled<'a>(file: &'a str, width: &[u8], height: &[u8]) -> Option<Reques
             width,
             height,
         })
+    } else {
+        None
+    }
+}
+
+fn sample_request(words: &[String]) -> Option<Request<'_>>
+    ensures value { option_map asked_by result ≡ asked_sample (map (λ word. string_bytes word) words.now) }
+    ensures sound { IfSome result IsSound }
+{
+    match words {
+        [number, drawing] => sample_spelled(number.as_bytes(), drawing.as_str()),
+        _ => None,
+    }
+}
+
+fn sample_spelled<'a>(number: &[u8], drawing: &'a str) -> Option<Request<'a>>
+    ensures value { option_map asked_by result ≡ sample_with (sample_of number.now) drawing.now }
+    ensures sound { IfSome result IsSound }
+{
+    let Some(number) = bounded(1, MAX_SAMPLE, number) else {
+        return None;
+    };
+    if is_name(drawing) {
+        Some(Request::Sample { number, drawing })
     } else {
         None
     }

@@ -3,6 +3,8 @@
 pub enum Request<'a> {
     /// Sew a drawing as one running thread.
     Route(RouteNames<'a>),
+    /// Say whether a certificate proves that a design sews a drawing by least walks.
+    Check(CheckNames<'a>),
     /// Write a design in another format, with long stitches split or long floats cut.
     Convert {
         names: Names<'a>,
@@ -22,6 +24,11 @@ pub enum Request<'a> {
         width: u32,
         height: u32,
     },
+    /// Write the sample drawing of a number.
+    Sample {
+        number: u32,
+        drawing: &'a str,
+    },
 }
 
 /// The files of a route: the drawing that is read, the design and the certificate that are written.
@@ -29,6 +36,14 @@ pub enum Request<'a> {
 pub struct RouteNames<'a> {
     pub drawing: &'a str,
     pub out: &'a str,
+    pub cert: &'a str,
+}
+
+/// The files of a check, all of which are read: the drawing, the design and the certificate.
+#[derive(Clone, Copy, Debug)]
+pub struct CheckNames<'a> {
+    pub drawing: &'a str,
+    pub file: &'a str,
     pub cert: &'a str,
 }
 

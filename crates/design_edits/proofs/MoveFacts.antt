@@ -4,11 +4,20 @@ use Rattle.design_model.specs.declared.command.Command.TheVariants.{Stitch, Jump
 use Rattle.design_model.specs.declared.point.Point.{Point}
 use Rattle.design_model.specs.Designs.{DesignValue}
 use Rattle.design_edits.specs.declared.axis.Axis.TheVariants as axis
-use Rattle.design_edits.specs.Moves.{first_outside, mirror_point, mirrored, shifted, turn_point}
+use Rattle.design_edits.specs.declared.motion.TheConstants.{MAX_SHIFT}
+use Rattle.design_edits.specs.Moves.{first_outside, mirror_point, mirrored, shift_point, shifted, turn_point}
 
 -- the point with those numbers
 abbrev pub at : ℤ → ℤ → Point
 at x y = record { x = x; y = y }
+
+-- the greatest size of a shift on each axis, in tenths of a millimetre
+pub known_most : MAX_SHIFT ≡ 60000
+known_most = refl
+
+-- a shift to the left and downwards
+pub known_shift : shift_point (negsuc 4) (pos 70) (at (pos 1) (pos 2)) ≡ at (negsuc 3) (pos 72)
+known_shift = refl
 
 -- a quarter turn takes a point on the right downwards
 pub known_quarter : turn_point 1 (at (pos 30) (pos 0)) ≡ at (pos 0) (pos 30)

@@ -4,4 +4,3 @@ pub mod Shifts
 pub mod Motions
 pub mod Laws
 pub mod Colours
-pub mod Limits

@@ -13,9 +13,6 @@ mod tests;
 pub use axis::Axis;
 pub use colours::recolour;
 pub use edit_fault::EditFault;
-pub use laws::{
-    an_opposite_shift_restores, four_quarter_turns_restore, the_limit_of_shifts,
-    two_mirrorings_restore,
-};
+pub use laws::{an_opposite_shift_restores, four_quarter_turns_restore, two_mirrorings_restore};
 pub use motion::MAX_SHIFT;
 pub use moving::{mirror, shift, turn};

@@ -1,5 +1,6 @@
 use crate::{Axis, EditFault, MAX_SHIFT, mirror, recolour, shift, turn};
 use design_model::{Command, Design, ModelFault, Point};
+use std::alloc::Global;
 use std::test::Fail;
 
 fn at(x: i32, y: i32) -> Point {
@@ -121,5 +122,53 @@ fn there_are_at_most_255_places(rt: HostRuntime) -> Result<(), Fail> {
     assert_eq!(rt; recolour(&mut design, 254, 7), Ok(()));
     assert_eq!(rt; design.threads().len(), 255);
     assert_eq!(rt; design.thread(253), 62);
+    Ok(())
+}
+
+/// A label, a thread, and 10,000 commands in four blocks.
+fn large(alloc: Global) -> Result<Design, ModelFault> {
+    let mut design = Design::new(alloc);
+    design.set_label(b"Rose of Damascus");
+    design.push_thread(9);
+    for round in 0..2_500u32 {
+        let x = (round % 100) as i32;
+        design.push(Command::Jump(at(x, 100)))?;
+        design.push(Command::Stitch(at(x, 0)))?;
+        design.push(Command::Stitch(at(x, 50)))?;
+        design.push(if round % 700 == 699 {
+            Command::Stop
+        } else {
+            Command::Trim
+        })?;
+    }
+    Ok(design)
+}
+
+#[test]
+fn a_large_design_is_edited_to_its_end(rt: HostRuntime) -> Result<(), Fail> {
+    let mut design = large(rt.alloc())?;
+    assert_eq!(rt; shift(&mut design, -200, 1_000), Ok(()));
+    assert_eq!(rt;
+        design.commands().get(9_998),
+        Some(&Command::Stitch(at(-101, 1_050)))
+    );
+    turn(&mut design, 1);
+    assert_eq!(rt;
+        design.commands().get(9_998),
+        Some(&Command::Stitch(at(-1_050, -101)))
+    );
+    mirror(&mut design, Axis::Y);
+    assert_eq!(rt;
+        design.commands().get(9_998),
+        Some(&Command::Stitch(at(-1_050, 101)))
+    );
+    assert_eq!(rt;
+        design.commands().get(9_996),
+        Some(&Command::Jump(at(-1_100, 101)))
+    );
+    assert_eq!(rt; recolour(&mut design, 3, 7), Ok(()));
+    assert_eq!(rt; design.threads(), [9, 2, 3, 7].as_slice());
+    assert_eq!(rt; design.commands().len(), 10_000);
+    assert_eq!(rt; design.label(), b"Rose of Damascus".as_slice());
     Ok(())
 }

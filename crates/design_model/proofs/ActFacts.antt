@@ -27,3 +27,14 @@ pub known_stops : acts_along (Stitch (at (pos 1)) ∷ Trim ∷ Stop ∷ Trim ∷
     ≡ numbered 1 (act.Needle (at (pos 1)) false) ∷ numbered 2 act.Trim ∷ numbered 3 act.Stop
     ∷ numbered 5 act.Stop ∷ numbered 6 (act.Needle (at (pos 2)) false) ∷ []
 known_stops = refl
+
+-- the needle after a float is none
+pub known_after_float :
+    bare (acts_along (Stitch (at (pos 1)) ∷ Jump (at (pos 2)) ∷ Stitch (at (pos 3)) ∷ Stitch (at (pos 4)) ∷ []))
+    ≡ act.Needle (at (pos 1)) false ∷ act.Needle (at (pos 3)) true ∷ act.Needle (at (pos 4)) false ∷ []
+known_after_float = refl
+
+-- a jump behind a stop makes no float
+pub known_after_stop : bare (acts_along (Stitch (at (pos 1)) ∷ Stop ∷ Jump (at (pos 2)) ∷ Stitch (at (pos 3)) ∷ []))
+    ≡ act.Needle (at (pos 1)) false ∷ act.Stop ∷ act.Needle (at (pos 3)) false ∷ []
+known_after_stop = refl

@@ -3,7 +3,7 @@ use Rattle.std.proofs.Common.{◌≡◌, ℤ, pos, negsuc, [], ◌∷◌, Some, 
 use Rattle.design_model.specs.declared.command.Command.TheVariants.{Stitch, Jump, Trim, Stop}
 use Rattle.design_model.specs.declared.point.Point.{Point}
 use Rattle.design_model.specs.Acts.{acts_along}
-use Rattle.design_model.specs.Extents.{extent_of_points, needle_points}
+use Rattle.design_model.specs.Extents.{extent_of_points, height_of, needle_points, width_of}
 
 -- the point with those coordinates
 abbrev pub place : ℤ → ℤ → Point
@@ -28,3 +28,13 @@ pub known_extent :
     ∷ Stitch (place (negsuc 3) (pos 12)) ∷ [])))
     ≡ Some (record { min = place (negsuc 8) (negsuc 0); max = place (negsuc 1) (pos 12) })
 known_extent = refl
+
+-- a width is measured from left to right, a height downwards
+pub known_width : width_of (Some (record { min = place (negsuc 8) (negsuc 0); max = place (negsuc 1) (pos 12) })) ≡ 7
+known_width = refl
+
+pub known_height : height_of (Some (record { min = place (negsuc 8) (negsuc 0); max = place (negsuc 1) (pos 12) })) ≡ 13
+known_height = refl
+
+pub known_none : width_of None ≡ height_of None
+known_none = refl

@@ -1,4 +1,5 @@
 mod ActFacts
+mod LimitFacts
 pub mod ActLemmas
 mod CountFacts
 mod ExtentFacts

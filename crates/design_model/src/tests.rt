@@ -1,7 +1,8 @@
 use crate::{
     Act, Acts, Bytes, Command, Counts, Design, Extent, Memory, ModelFault, NumberedAct, Point,
-    Whole, acts, block_counts, counts, extent, parse_whole,
+    Whole, acts, block_counts, counts, extent, height, parse_whole, width,
 };
+use std::alloc::Global;
 use std::test::Fail;
 
 fn at(x: i32) -> Point {
@@ -206,5 +207,60 @@ fn one_thread_and_one_point_are_put_in_place(rt: HostRuntime) -> Result<(), Fail
     let bare = design.without_commands(rt.alloc());
     assert_eq!(rt; bare.threads(), [7].as_slice());
     assert_eq!(rt; bare.commands(), [].as_slice());
+    Ok(())
+}
+
+/// A design with a label and three threads.
+fn labelled(alloc: Global) -> Design {
+    let mut design = Design::new(alloc);
+    design.set_label(b"Rose of Damascus");
+    design.push_thread(9);
+    design.push_thread(200);
+    design.push_thread(64);
+    design
+}
+
+/// The same with 10,000 commands: 2,500 times a jump, two needles, and a trim, but a stop at three places.
+fn large(alloc: Global) -> Result<Design, ModelFault> {
+    let mut design = labelled(alloc);
+    for round in 0..2500u32 {
+        let x = (round % 100) as i32;
+        design.push(Command::Jump(place(x, 0)))?;
+        design.push(Command::Stitch(place(x, 7)))?;
+        design.push(Command::Stitch(place(x, 8)))?;
+        let last = if round % 700 == 699 {
+            Command::Stop
+        } else {
+            Command::Trim
+        };
+        design.push(last)?;
+    }
+    Ok(design)
+}
+
+#[test]
+fn a_design_as_large_as_a_real_one_is_kept_and_told_whole(rt: HostRuntime) -> Result<(), Fail> {
+    let design = large(rt.alloc())?;
+    assert_eq!(rt; design.label(), b"Rose of Damascus".as_slice());
+    assert_eq!(rt; design.threads(), [9, 200, 64].as_slice());
+    assert_eq!(rt; [design.thread(2), design.thread(3)], [64, 4]);
+    let all = counts(&design);
+    assert_eq!(rt;
+        [all.commands, all.needles, all.trims, all.stops],
+        [10_000, 5000, 2497, 3]
+    );
+    let listed = acts(rt.alloc(), &design)?;
+    assert_eq!(rt; listed.len(), 7500);
+    assert_eq!(rt;
+        listed.as_slice().last(),
+        Some(&NumberedAct {
+            number: 10_000,
+            act: Act::Trim
+        })
+    );
+    assert_eq!(rt; [width(extent(&design)), height(extent(&design))], [99, 1]);
+    let blocks = block_counts(rt.alloc(), &design)?;
+    assert_eq!(rt; blocks.as_slice(), [1400, 1400, 1400, 800].as_slice());
+    assert_eq!(rt; design.without_commands(rt.alloc()).label(), design.label());
     Ok(())
 }

@@ -1,4 +1,7 @@
 pub mod HeaderLemmas
+mod BitFacts
+mod LimitFacts
+pub mod OneSpellingLemmas
 mod ReadingFacts
 pub mod ReadingLemmas
 pub mod RunLemmas

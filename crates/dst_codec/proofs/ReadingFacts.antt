@@ -43,6 +43,12 @@ pub known_stop : reads (file (0x01 ∷ 0 ∷ 0x83 ∷ 0 ∷ 0 ∷ 0xC3 ∷ 0x01 
     ∷ Jump (point (pos 6) (pos 0)) ∷ [])
 known_stop = refl
 
+-- a stitch breaks a run of jumps
+pub known_broken_run : reads (file (0 ∷ 0 ∷ 0x83 ∷ 0 ∷ 0 ∷ 0x83 ∷ 0x01 ∷ 0 ∷ 0x03 ∷ 0 ∷ 0 ∷ 0x83 ∷ 0 ∷ 0 ∷ 0x83 ∷ 0 ∷ 0 ∷ 0xF3 ∷ []))
+    ≡ plain (Jump (point (pos 0) (pos 0)) ∷ Jump (point (pos 0) (pos 0)) ∷ Stitch (point (pos 1) (pos 0))
+    ∷ Jump (point (pos 1) (pos 0)) ∷ Jump (point (pos 1) (pos 0)) ∷ [])
+known_broken_run = refl
+
 -- a file that is cut off in a record has the commands before, and has not ended
 pub known_cut_off : reads (file (0x00 ∷ 0x05 ∷ 0x03 ∷ 0x00 ∷ 0x05 ∷ []))
     ≡ Ok (record {

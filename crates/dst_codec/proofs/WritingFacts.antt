@@ -44,6 +44,24 @@ pub known_last : drop 74 (header_fields (codes "Rose") (acts_along (Stitch (poin
 unfolding digits
 known_last = refl
 
+-- needles at (12, 34) and (-5, -6), two stops between them, and a jump before them that does not count
+pub known_each_field : header_fields (codes "Rose") (acts_along (Jump (point (pos 900) (pos 800)) ∷ Stitch (point (pos 12) (pos 34))
+    ∷ Stop ∷ Stop ∷ Stitch (point (negsuc 4) (negsuc 5)) ∷ [])) 1234567
+    ≡ codes "LA:Rose            " ++ 13 ∷ codes "ST:1234567" ++ 13 ∷ codes "CO:  2" ++ 13
+    ∷ codes "+X:   12" ++ 13 ∷ codes "-X:    5" ++ 13 ∷ codes "+Y:    6" ++ 13 ∷ codes "-Y:   34" ++ 13
+    ∷ codes "AX:-    5" ++ 13 ∷ codes "AY:+    6" ++ 13 ∷ codes "MX:+    0" ++ 13 ∷ codes "MY:+    0" ++ 13
+    ∷ codes "PD:******" ++ 13 ∷ []
+unfolding digits
+known_each_field = refl
+
+-- a design without a needle reaches nowhere
+pub known_bare_fields : drop 38 (header_fields [] (acts_along (Jump (point (pos 900) (pos 800)) ∷ Stop ∷ [])) 2)
+    ≡ codes "+X:    0" ++ 13 ∷ codes "-X:    0" ++ 13 ∷ codes "+Y:    0" ++ 13 ∷ codes "-Y:    0" ++ 13
+    ∷ codes "AX:+    0" ++ 13 ∷ codes "AY:+    0" ++ 13 ∷ codes "MX:+    0" ++ 13 ∷ codes "MY:+    0" ++ 13
+    ∷ codes "PD:******" ++ 13 ∷ []
+unfolding digits
+known_bare_fields = refl
+
 -- the whole file of the square has its header, its records and the end
 pub known_square_file : IsOkAnd (writes square) (λ bytes. length bytes ≡ 539)
 unfolding digits

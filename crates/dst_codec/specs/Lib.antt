@@ -1,6 +1,6 @@
-pub mod Limits
 pub mod Bits
 pub mod Spelling
+pub mod OneSpelling
 pub mod Header
 -- read these first: what a file reads as, and what a design is written as
 pub mod Reading

@@ -19,6 +19,6 @@ mod writing;
 pub use bits::decode_move;
 pub use dst::{Dst, LIMIT, MAX_FLOAT_HOPS, MAX_STOPS};
 pub use promises::{
-    label_reads_again, read_is_within_reach, the_limits_of_dst, written_reads_again,
+    label_reads_again, moves_have_one_spelling, read_is_within_reach, written_reads_again,
 };
 pub use spelling::encode_move;

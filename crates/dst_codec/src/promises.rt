@@ -1,7 +1,7 @@
 ghost use Rattle.format_traits.specs.Laws.{KeepsAllLaws};
 ghost use Rattle.dst_codec.specs.Format.{dst};
 ghost use Rattle.dst_codec.specs.Laws.{LabelReadsAgain, ReadIsWithinReach};
-ghost use Rattle.dst_codec.specs.Limits.{DstLimits};
+ghost use Rattle.dst_codec.specs.OneSpelling.{MovesHaveOneSpelling};
 
 use format_traits::{
     an_accepted_design_is_small, codecs_keep_the_laws, label_fields_read_back,
@@ -32,7 +32,7 @@ pub fn read_is_within_reach()
     ensures { ReadIsWithinReach }
 {}
 
-/// The limits of the format are these numbers.
-pub fn the_limits_of_dst()
-    ensures { DstLimits }
+/// A stitch record with no part both plus and minus is the one that its move is written as.
+pub fn moves_have_one_spelling()
+    ensures { MovesHaveOneSpelling }
 {}

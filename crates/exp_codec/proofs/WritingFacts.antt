@@ -5,6 +5,7 @@ use Rattle.design_model.specs.declared.command.Command.TheVariants.{Stitch, Jump
 use Rattle.design_model.specs.declared.point.Point.{Point}
 use Rattle.design_model.specs.Designs.{DesignValue}
 use Rattle.format_traits.specs.declared.fault.WriteFault.TheVariants as fault
+use Rattle.exp_codec.specs.declared.exp.TheConstants.{LIMIT}
 use Rattle.exp_codec.specs.Writing.{writes}
 
 abbrev pub point : ℤ → ℤ → Point
@@ -13,6 +14,20 @@ point x y = record { x = x; y = y }
 -- a design without label and threads
 abbrev pub sewn : List Command → DesignValue
 sewn commands = record { label = []; threads = []; commands = commands }
+
+-- how far a unit that is written moves on each axis, in tenths of a millimetre
+pub known_limit : LIMIT ≡ 127
+known_limit = refl
+
+-- a jump downwards and to the left, as a stitch, is told upwards
+pub known_jump_down : writes (sewn (Stitch (point (negsuc 99) (pos 100)) ∷ []))
+    ≡ Ok (0x80 ∷ 0x04 ∷ 0x9C ∷ 0x9C ∷ 0x00 ∷ 0x00 ∷ [])
+known_jump_down = refl
+
+-- the greatest move in both directions
+pub known_greatest : writes (sewn (Stitch (point (pos 0) (pos 0)) ∷ Stitch (point (pos 127) (pos 127)) ∷ []))
+    ≡ Ok (0x00 ∷ 0x00 ∷ 0x7F ∷ 0x81 ∷ [])
+known_greatest = refl
 
 -- a square of 30 and a trim
 pub known_square : writes (sewn (Stitch (point (pos 0) (pos 0)) ∷ Stitch (point (pos 30) (pos 0))

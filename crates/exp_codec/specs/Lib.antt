@@ -1,4 +1,3 @@
-pub mod Limits
 -- read these first: what a file reads as, and what a design is written as
 pub mod Units
 pub mod Reading

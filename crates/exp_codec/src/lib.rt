@@ -12,4 +12,4 @@ mod units;
 mod writing;
 
 pub use exp::{Exp, LIMIT};
-pub use promises::{the_limits_of_exp, written_reads_again};
+pub use promises::written_reads_again;

@@ -1,6 +1,5 @@
 ghost use Rattle.format_traits.specs.Laws.{KeepsAllLaws};
 ghost use Rattle.exp_codec.specs.Format.{exp};
-ghost use Rattle.exp_codec.specs.Limits.{ExpLimits};
 
 use format_traits::{codecs_keep_the_laws, spelled_acts_read_again};
 
@@ -12,8 +11,3 @@ pub fn written_reads_again()
     spelled_acts_read_again();
     codecs_keep_the_laws();
 }
-
-/// The limit of the format is this number.
-pub fn the_limits_of_exp()
-    ensures { ExpLimits }
-{}

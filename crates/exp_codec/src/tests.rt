@@ -1,5 +1,5 @@
 use crate::Exp;
-use design_model::{Command, Design, ModelFault, Point};
+use design_model::{Command, Design, ModelFault, Point, counts};
 use format_traits::{Format, ReadFault, WriteFault};
 use std::alloc::Global;
 use std::test::Fail;
@@ -102,5 +102,40 @@ fn an_unknown_control_byte_is_refused_at_its_unit(rt: HostRuntime) -> Result<(),
             "{control}"
         );
     }
+    Ok(())
+}
+
+/// A design as large as a real one: a label, three threads, and 10,000 commands in four blocks, with
+/// loose needles, floats and trims.
+fn large(alloc: Global) -> Result<Design, ModelFault> {
+    let mut design = Design::new(alloc);
+    design.set_label(b"Rose of Damascus");
+    design.push_thread(9);
+    design.push_thread(200);
+    design.push_thread(64);
+    for round in 0..2_500u32 {
+        let x = (round % 100) as i32;
+        design.push(Command::Stitch(Point { x, y: 7 }))?;
+        design.push(Command::Jump(Point { x, y: 50 }))?;
+        design.push(Command::Stitch(Point { x, y: 60 }))?;
+        let last = if round % 700 == 699 {
+            Command::Stop
+        } else {
+            Command::Trim
+        };
+        design.push(last)?;
+    }
+    Ok(design)
+}
+
+#[test]
+fn a_large_design_reads_again(rt: HostRuntime) -> Result<(), Fail> {
+    let alloc = rt.alloc();
+    let design = large(alloc)?;
+    let file = Exp.encode(alloc, &design).ok().ok_or("not written")?;
+    let loaded = Exp.decode(alloc, file.as_slice()).ok().ok_or("not read")?;
+    assert_eq!(rt; loaded.ended, true);
+    let all = counts(&loaded.design);
+    assert_eq!(rt; [all.needles, all.trims, all.stops], [5_000, 2_497, 3]);
     Ok(())
 }

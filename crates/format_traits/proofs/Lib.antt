@@ -3,6 +3,7 @@ pub mod KeepingLemmas
 pub mod LabelLemmas
 pub mod EndingLemmas
 pub mod PointLemmas
+mod LimitFacts
 mod PlacingFacts
 mod RecordFacts
 mod RereadingFacts

@@ -1,15 +1,16 @@
 -- Worked values of hops, parts, rooms and refusals.
-use Rattle.std.proofs.Common.{◌≡◌, ℕ, ◌+◌, ℤ, pos, negsuc, Bool, true, false, [], ◌∷◌, Some, None, refl}
+use Rattle.std.proofs.Common.{◌≡◌, ℕ, ◌+◌, ℤ, pos, negsuc, Bool, true, false, [], ◌∷◌, map, Some, None, refl}
 use Rattle.design_model.specs.declared.act.Act.TheVariants.{Needle, Trim, Stop}
 use Rattle.design_model.specs.declared.act.NumberedAct.{NumberedAct}
 use Rattle.design_model.specs.declared.point.Point.{Point}
 use Rattle.design_model.specs.Acts.{numbered}
 use Rattle.format_traits.specs.declared.fault.WriteFault.TheVariants as fault
 use Rattle.format_traits.specs.declared.standing.Reach.{Reach}
-use Rattle.format_traits.specs.LabelFields.{label_field, label_in}
+use Rattle.format_traits.specs.declared.standing.Standing.{Standing}
+use Rattle.format_traits.specs.LabelFields.{label_field, label_in, shown}
 use Rattle.format_traits.specs.Placing.{hops, parts}
-use Rattle.format_traits.specs.Refusals.{first_refusal}
-use Rattle.format_traits.specs.Rooms.{room_of}
+use Rattle.format_traits.specs.Refusals.{first_refusal, refusal_at}
+use Rattle.format_traits.specs.Rooms.{act_room, loose_room, needle_room, room_of}
 
 abbrev pub point : ℤ → ℤ → Point
 point x y = record { x = x; y = y }
@@ -38,6 +39,25 @@ pub known_rooms : room_of 121 (needle 1 (pos 300) false ∷ needle 2 (pos 300) t
     ∷ numbered 4 Trim ∷ numbered 5 Stop ∷ needle 6 (pos 320) false ∷ []) ≡ 5 + 2 + 1 + 4 + 1 + 2
 known_rooms = refl
 
+-- a loose needle of up to two hops takes one more, of three and more two more
+pub known_loose_rooms : map loose_room (0 ∷ 1 ∷ 2 ∷ 3 ∷ 4 ∷ 10 ∷ []) ≡ 1 ∷ 2 ∷ 3 ∷ 5 ∷ 6 ∷ 12 ∷ []
+known_loose_rooms = refl
+
+-- a float of no hop or one takes two, of more hops one more; any other needle takes one
+pub known_float_rooms : map (λ x. needle_room 121 false true (point x (pos 0)))
+    (pos 0 ∷ pos 121 ∷ pos 122 ∷ negsuc 362 ∷ pos 364 ∷ []) ≡ 2 ∷ 2 ∷ 3 ∷ 4 ∷ 5 ∷ []
+known_float_rooms = refl
+
+pub known_needle_room : needle_room 121 false false (point (pos 121) (pos 0)) ≡ 1
+known_needle_room = refl
+
+-- a loose needle has the room of one, float or not; a trim takes four and a stop one
+pub known_loose_float : needle_room 121 true true (point (pos 0) (pos 200)) ≡ 3
+known_loose_float = refl
+
+pub known_act_rooms : map (act_room 121 false (point (pos 9) (pos 9))) (Trim ∷ Stop ∷ []) ≡ 4 ∷ 1 ∷ []
+known_act_rooms = refl
+
 -- a format with the limit 121, at most three jumps to a float, and one stop
 abbrev pub narrow : Reach
 narrow = record { limit = 121; float_hops = Some 3; stops = Some 1 }
@@ -59,6 +79,30 @@ known_float = refl
 pub known_stops : first_refusal narrow (numbered 3 Stop ∷ numbered 5 Stop ∷ []) ≡ Some (fault.TooManyStops 5)
 known_stops = refl
 
+-- after a needle at the origin, one stop, and acts of that room
+abbrev pub crowded : ℕ → Standing
+crowded room = record { loose = false; place = point (pos 0) (pos 0); stops = 1; room = room }
+
+-- the room of all acts is at most 1,000,000
+pub known_full : refusal_at narrow (crowded 999999) (needle 7 (pos 121) false) ≡ None
+known_full = refl
+
+pub known_too_long : refusal_at narrow (crowded 1000000) (needle 7 (pos 121) false) ≡ Some (fault.TooLong 7)
+known_too_long = refl
+
+pub known_trim_too_long : refusal_at narrow (crowded 999997) (numbered 7 Trim) ≡ Some (fault.TooLong 7)
+known_trim_too_long = refl
+
+-- the refusal of an act by itself comes before that by the room
+pub known_stitch_first : refusal_at narrow (crowded 1000000) (needle 7 (pos 122) false) ≡ Some (fault.StitchTooLong 7)
+known_stitch_first = refl
+
+pub known_float_first : refusal_at narrow (crowded 1000000) (needle 7 (pos 364) true) ≡ Some (fault.FloatTooLong 7)
+known_float_first = refl
+
+pub known_stop_first : refusal_at narrow (crowded 1000000) (numbered 7 Stop) ≡ Some (fault.TooManyStops 7)
+known_stop_first = refl
+
 -- a label field: filled with spaces, read without them, and strange bytes read as question marks
 pub known_field : label_in (label_field (65 ∷ 32 ∷ 66 ∷ [])) ≡ 65 ∷ 32 ∷ 66 ∷ []
 known_field = refl
@@ -68,3 +112,7 @@ known_strange = refl
 
 pub known_blank : label_in (32 ∷ 32 ∷ []) ≡ []
 known_blank = refl
+
+-- the first and the last byte that a label may hold, and those next to them
+pub known_shown : map shown (31 ∷ 32 ∷ 126 ∷ 127 ∷ 255 ∷ []) ≡ 63 ∷ 32 ∷ 126 ∷ 63 ∷ 63 ∷ []
+known_shown = refl

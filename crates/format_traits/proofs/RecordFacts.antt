@@ -7,7 +7,7 @@ use Rattle.design_model.specs.Acts.{numbered}
 use Rattle.format_traits.specs.declared.event.Event.TheVariants as event
 use Rattle.format_traits.specs.declared.fault.ReadFault.TheVariants as fault
 use Rattle.format_traits.specs.declared.standing.Reach.{Reach}
-use Rattle.format_traits.specs.Records.{Records, over, refused, next, course_of, moves_of}
+use Rattle.format_traits.specs.Records.{Records, over, refused, next, course_of, moves_from, moves_of, reads_from}
 use Rattle.format_traits.specs.Spellings.{Spelling, records_of}
 
 abbrev pub point : ℤ → ℤ → Point
@@ -40,6 +40,35 @@ known_range = refl
 
 pub known_moves_before : moves_of too_far ≡ point (pos 30001) (pos 0) ∷ []
 known_moves_before = refl
+
+-- where 999,999 commands are kept one more is taken and no second; each command of a record is judged for its
+-- range and then for the number of commands, before the next one is
+abbrev pub cut_to : ℤ → Records
+cut_to x = next 7 (event.TrimmedJump (point x (pos 0))) (over true)
+
+pub known_last : reads_from 999999 (point (pos 0) (pos 0)) (next 7 event.Trim (over true))
+    ≡ Ok (record { commands = Trim ∷ []; ended = true })
+known_last = refl
+
+pub known_too_many : reads_from 999999 (point (pos 0) (pos 0)) (cut_to (pos 32767)) ≡ Err (fault.TooMany 7)
+known_too_many = refl
+
+pub known_second_range : reads_from 999999 (point (pos 0) (pos 0)) (cut_to (pos 32768)) ≡ Err (fault.Range 7)
+known_second_range = refl
+
+pub known_first_too_many : reads_from 1000000 (point (pos 0) (pos 0)) (cut_to (pos 32768)) ≡ Err (fault.TooMany 7)
+known_first_too_many = refl
+
+pub known_range_first : reads_from 1000000 (point (pos 0) (pos 0)) (next 7 (event.Jump (point (pos 0) (negsuc 32767))) (over true))
+    ≡ Err (fault.Range 7)
+known_range_first = refl
+
+-- the move of a record that is refused is told no more
+pub known_moves_kept : moves_from 999998 (point (pos 0) (pos 0)) (cut_to (pos 5)) ≡ point (pos 5) (pos 0) ∷ []
+known_moves_kept = refl
+
+pub known_moves_refused : moves_from 999999 (point (pos 0) (pos 0)) (cut_to (pos 5)) ≡ []
+known_moves_refused = refl
 
 -- a refusal that a format tells
 pub known_refusal : course_of (next 0 event.Trim (refused (fault.Control 4))) ≡ Err (fault.Control 4)

@@ -1,4 +1,3 @@
-pub mod Limits
 pub mod Placing
 pub mod Rooms
 pub mod Refusals

@@ -1,13 +1,7 @@
 ghost use Rattle.format_traits.specs.Accepted.{AcceptedIsSmall};
 ghost use Rattle.format_traits.specs.LabelFields.{LabelFieldsReadBack};
 ghost use Rattle.format_traits.specs.Laws.{CodecsKeepLaws};
-ghost use Rattle.format_traits.specs.Limits.{FormatLimits};
 ghost use Rattle.format_traits.specs.Rereading.{SpelledActsReadAgain};
-
-/// The limits of formats are these numbers.
-pub fn the_limits_of_formats()
-    ensures { FormatLimits }
-{}
 
 /// Where a reader takes each record for what it was spelled for, the records of acts that are not
 /// refused tell these acts again.

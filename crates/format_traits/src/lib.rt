@@ -16,6 +16,8 @@ mod placing;
 mod record_reader;
 mod record_writer;
 mod standing;
+#[cfg(test)]
+mod tests;
 
 pub use act_writing::put_acts;
 pub use boxed::{decode_by, encode_by, ext_of, limit_of};
@@ -25,7 +27,7 @@ pub use format_object::{Format, GREATEST_LIMIT, LEAST_LIMIT};
 pub use label_fields::{put_label, put_spaces, read_label};
 pub use laws::{
     an_accepted_design_is_small, codecs_keep_the_laws, label_fields_read_back,
-    spelled_acts_read_again, the_limits_of_formats,
+    spelled_acts_read_again,
 };
 pub use loaded::Loaded;
 pub use lookup::find;

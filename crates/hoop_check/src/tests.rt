@@ -56,3 +56,33 @@ fn a_design_fits_upright_turned_or_not(rt: HostRuntime) -> Result<(), Fail> {
     }
     Ok(())
 }
+
+/// A block of 10,000 needles and jumps, 99 wide and 200 high.
+fn large(rt: &HostRuntime) -> Result<Design, ModelFault> {
+    let mut design = Design::new(rt.alloc());
+    for round in 0..2_500u32 {
+        let x = (round % 100) as i32;
+        design.push(Command::Stitch(Point { x, y: 300 }))?;
+        design.push(Command::Jump(Point { x: 900, y: x }))?;
+        design.push(Command::Stitch(Point { x, y: 100 }))?;
+        design.push(if round % 700 == 699 {
+            Command::Stop
+        } else {
+            Command::Trim
+        })?;
+    }
+    Ok(design)
+}
+
+#[test]
+fn a_large_design_fits_by_all_its_needles(rt: HostRuntime) -> Result<(), Fail> {
+    let design = large(&rt)?;
+    assert_eq!(rt; fits(&design, 99, 200), Fit::Upright);
+    assert_eq!(rt; fits(&design, 200, 99), Fit::Turned);
+    let over = Fit::No {
+        over_x: 1,
+        over_y: 3,
+    };
+    assert_eq!(rt; fits(&design, 98, 197), over);
+    Ok(())
+}

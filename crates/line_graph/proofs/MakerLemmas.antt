@@ -14,12 +14,12 @@ use Rattle.std.specs.Ordering.{int_eq}
 use Rattle.std.specs.List.Sorted.{IsNonDecreasing}
 use Rattle.design_model.specs.declared.point.Point.{Point}
 use Rattle.design_model.specs.Labels.{IsLabel, IsPrintable}
-use Rattle.design_model.specs.Points.{is_same_point}
+use Rattle.design_model.specs.Points.{is_same_point, is_within}
 use Rattle.step_splitter.specs.Chains.{IsNeedlePoint, KeepsMoving}
-use Rattle.line_graph.specs.declared.draw_fault.DrawKind.{DrawKind}
-use Rattle.line_graph.specs.declared.draw_fault.DrawKind.TheVariants as kind
+use Rattle.line_graph.specs.declared.draw_kind.DrawKind.{DrawKind}
+use Rattle.line_graph.specs.declared.draw_kind.DrawKind.TheVariants as kind
 use Rattle.line_graph.specs.Drawings.{DrawingValue, HasNoRepeat, IsLine, KeepsDrawing, LineValue}
-use Rattle.line_graph.specs.Growing.{has_repeat, is_label_word, is_last_empty, is_used, point_count, repeats_after, step_count, steps_with, with_block, with_line}
+use Rattle.line_graph.specs.Growing.{are_in_range, has_repeat, is_label_word, is_last_empty, is_used, point_count, repeats_after, step_count, steps_with, with_block, with_line}
 use Rattle.line_graph.specs.Making.{AreBlocks, IsMade}
 use Rattle.line_graph.specs.Needles.{line_steps}
 
@@ -40,6 +40,10 @@ keeps_moving p (q ∷ rest) none =
 pub no_repeat : (points : List Point) → has_repeat points ≡ false → HasNoRepeat points
 no_repeat [] none = tt
 no_repeat (p ∷ rest) none = keeps_moving p rest none
+
+-- where all points are found in range, needles may go down at them
+pub all_in_range : (points : List Point) → are_in_range points ≡ true → All IsNeedlePoint points
+all_in_range points test = AllPass-from_list_all (is_within 30000) points test
 
 pub line_of : (points : List Point) → 2 ≤ length points → has_repeat points ≡ false → All IsNeedlePoint points
     → IsLine points
@@ -127,7 +131,7 @@ step_set d step empty points steps made low high none =
     }
 
 -- whether the last block is empty
-pub last_by : (d : DrawingValue) (block : ℕ) (used : Bool) → length d.threads ≡ block + 1 → is_used d block ≡ used
+last_by : (d : DrawingValue) (block : ℕ) (used : Bool) → length d.threads ≡ block + 1 → is_used d block ≡ used
     → is_last_empty d ≡ not used
 last_by d block used count is =
     let some : (length d.threads == 0) ≡ false = grind (arith, nat_tests) in

@@ -22,11 +22,11 @@ pub record ComesTo (step : ℕ) (first : Option Point) (before : Point) (points 
   pub moving : HasNoRepeat points
 
 -- a chain goes on where another one begins at its last point
-last_from-append : (p : Point) (xs ys : List Point) → last_from p (xs ++ ys) ≡ last_from (last_from p xs) ys
+pub last_from-append : (p : Point) (xs ys : List Point) → last_from p (xs ++ ys) ≡ last_from (last_from p xs) ys
 last_from-append p [] ys = refl
 last_from-append p (x ∷ xs) ys = last_from-append x xs ys
 
-close_on : (step : ℕ) (p : Point) (xs ys : List Point) → KeepsClose step p xs
+pub close_on : (step : ℕ) (p : Point) (xs ys : List Point) → KeepsClose step p xs
     → KeepsClose step (last_from p xs) ys → KeepsClose step p (xs ++ ys)
 close_on step p [] ys near more = more
 close_on step p (x ∷ xs) ys near more = (near.0, close_on step x xs ys near.1 more)
@@ -174,6 +174,11 @@ module _ (d : DrawingValue) (line : ℕ) (there : line < length d.lines) (keeps 
       let same : line_steps d.step (points_of d line) ≡ line_steps d.step ((get_or d.lines line none).points) =
       ap (line_steps d.step) points_are in
       omega (arith, keeps.cost)
+
+  pub few_points : length (points_of d line) ≤ 65536
+  few_points =
+      let part = get_or-le-sum_by (λ l. length l.points) d.lines line none there in
+      omega (arith, part, ap length points_are, keeps.point_count)
 
 -- what holds of a line's needle points
 pub needles_sound : (d : DrawingValue) (line : ℕ) (points : List Point) → line < length d.lines

@@ -1,22 +1,13 @@
--- Worked values of closed lines, of what touches, and of walks along each line.
+-- Worked values of what touches.
 use Rattle.std.proofs.Common.{◌≡◌, ℕ, true, false, [], ◌∷◌, refl}
 use Rattle.design_model.specs.declared.point.Point.{Point}
-use Rattle.line_graph.proofs.DrawingTextFacts.{two_squares}
-use Rattle.line_graph.proofs.WalkFacts.{at, forth, square, stroke}
+use Rattle.line_graph.proofs.WalkFacts.{at}
 use Rattle.line_graph.specs.Drawings.{LineValue}
-use Rattle.line_graph.specs.Pieces.{are_loops, single_lines, touches}
-use Rattle.line_graph.specs.SewnPieces.{along_each, stops_after}
+use Rattle.line_graph.specs.Pieces.{touches}
 
 -- a line of three points in a block
 abbrev bent : ℕ → Point → Point → Point → LineValue
 bent block p q r = record { block = block; points = p ∷ q ∷ r ∷ [] }
-
--- a square ends where it begins, a stroke does not
-pub known_closed : are_loops square.lines ≡ true
-known_closed = refl
-
-pub known_open : are_loops stroke.lines ≡ false
-known_open = refl
 
 -- lines touch at an end of both, in one block; a point inside a line is no end
 pub known_touches : touches (bent 0 (at 0 0) (at 1 1) (at 2 0)) (bent 0 (at 2 0) (at 3 3) (at 4 0)) ≡ true
@@ -28,15 +19,20 @@ known_blocks = refl
 pub known_inside : touches (bent 0 (at 0 0) (at 1 1) (at 2 0)) (bent 0 (at 1 1) (at 3 3) (at 4 0)) ≡ false
 known_inside = refl
 
--- two closed lines are two pieces, each with its own walk, and a stop between their blocks
-pub known_loops : are_loops two_squares.lines ≡ true
-known_loops = refl
+-- an end in common is one whichever way the lines are drawn
+pub known_turned : touches (bent 3 (at 0 0) (at 1 1) (at 2 0)) (bent 3 (at 4 0) (at 3 3) (at 0 0)) ≡ true
+known_turned = refl
 
-pub known_singles : single_lines 2 ≡ (0 ∷ []) ∷ (1 ∷ []) ∷ []
-known_singles = refl
+-- lines that cross do not touch, not even where both have a point
+pub known_crossing : touches (bent 0 (at 0 0) (at 1 0) (at 20 20)) (bent 0 (at 20 0) (at 1 20) (at 0 20)) ≡ false
+known_crossing = refl
 
-pub known_walks : along_each 2 ≡ (forth ∷ []) ∷ (record { line = 1; back = false } ∷ []) ∷ []
-known_walks = refl
+pub known_meeting : touches (bent 0 (at 0 0) (at 10 10) (at 20 20)) (bent 0 (at 20 0) (at 10 10) (at 0 20)) ≡ false
+known_meeting = refl
 
-pub known_stops : stops_after two_squares 0 (along_each 2) ≡ 1
-known_stops = refl
+-- a closed line touches what ends where it begins, and not what ends at another of its points
+pub known_loop_touches : touches (bent 0 (at 5 0) (at 9 9) (at 5 0)) (bent 0 (at 0 0) (at 1 0) (at 5 0)) ≡ true
+known_loop_touches = refl
+
+pub known_loop_apart : touches (bent 0 (at 5 0) (at 9 9) (at 5 0)) (bent 0 (at 0 0) (at 1 0) (at 9 9)) ≡ false
+known_loop_apart = refl

@@ -1,7 +1,8 @@
 -- The ends of a list of points, by their places.
-use Rattle.std.proofs.Common.{◌≡◌, ◌-◌, ◌≤◌, List, [], ◌∷◌, length, get_or, ap, ◌∙◌, refl, arith}
+use Rattle.std.proofs.Common.{◌≡◌, ◌-◌, ◌≤◌, List, [], ◌∷◌, Some, length, get_or, ap, ◌∙◌, refl, arith}
 use Rattle.design_model.specs.declared.point.Point.{Point}
 use Rattle.step_splitter.specs.Chains.{last_from}
+use Rattle.line_graph.specs.Drawings.{last_of}
 use Rattle.line_graph.specs.Pieces.{ends_of}
 
 -- the last point is that at the last place
@@ -15,3 +16,9 @@ pub ends_are : (points : List Point) (d : Point) → 1 ≤ length points
 ends_are [] d some = absurd (omega arith)
 ends_are (p ∷ rest) d some =
     ap (λ q. p ∷ q ∷ []) (last_from-get_or p rest d ∙ ap (λ i. get_or (p ∷ rest) i d) (omega arith))
+
+-- the last point by its place
+pub last_is : (points : List Point) (d : Point) → 1 ≤ length points → last_of points ≡ Some (get_or points (length points - 1) d)
+last_is [] d some = absurd (omega arith)
+last_is (p ∷ rest) d some =
+    ap (λ (q : Point). Some q) (last_from-get_or p rest d ∙ ap (λ i. get_or (p ∷ rest) i d) (omega arith))

@@ -4,8 +4,8 @@ use Rattle.design_model.specs.declared.command.Command.TheVariants.{Stitch, Trim
 use Rattle.design_model.specs.declared.point.Point.{Point}
 use Rattle.line_graph.specs.declared.pass.Pass.{Pass}
 use Rattle.line_graph.specs.Drawings.{DrawingValue}
-use Rattle.line_graph.specs.Sewing.{commands_after}
-use Rattle.line_graph.specs.Walks.{cost_of_line, cost_of_walk, needles_of, needles_of_walk}
+use Rattle.line_graph.specs.Runs.{commands_after, runs_of}
+use Rattle.line_graph.specs.Walks.{cost_of_line, needles_of, needles_of_walk}
 
 abbrev pub at : ℕ → ℕ → Point
 at x y = record { x = pos x; y = pos y }
@@ -44,10 +44,7 @@ pub known_retrace : needles_of_walk stroke (forth ∷ back ∷ [])
     ≡ at 0 0 ∷ at 10 0 ∷ at 20 0 ∷ at 30 0 ∷ at 40 0 ∷ at 30 0 ∷ at 20 0 ∷ at 10 0 ∷ at 0 0 ∷ []
 known_retrace = refl
 
-pub known_retrace_cost : cost_of_walk stroke (forth ∷ back ∷ []) ≡ 8
-known_retrace_cost = refl
-
 -- the square is sewn by five stitches and a trim
-pub known_sewing : commands_after square 0 ((forth ∷ []) ∷ [])
+pub known_sewing : commands_after 0 (runs_of square ((forth ∷ []) ∷ []))
     ≡ Stitch (at 0 0) ∷ Stitch (at 30 0) ∷ Stitch (at 30 30) ∷ Stitch (at 0 30) ∷ Stitch (at 0 0) ∷ Trim ∷ []
 known_sewing = refl

@@ -1,12 +1,14 @@
--- Drawings that grow by blocks and lines, within the limits of a drawing. Costs count steps.
-use Rattle.std.specs.Prelude.{ℕ, ◌+◌, ◌-◌, ◌==◌, Bool, false, not, ◌&&◌, ◌||◌, nat_le, nat_lt, List, [], ◌∷◌, ◌++◌, Result, Ok, Err, length, sum_by, if◌then◌else◌}
+-- Drawings that grow by blocks and lines, within the limits of a drawing, in whole tenths of a
+-- millimetre, and what a call answers that makes them grow. Costs count steps.
+use Rattle.std.specs.Prelude.{◌≡◌, ℕ, ◌+◌, ◌-◌, ◌==◌, Bool, false, not, ◌&&◌, ◌||◌, nat_le, nat_lt, List, [], ◌∷◌, ◌++◌, Result, Ok, Err, length, sum_by, if◌then◌else◌}
 use Rattle.std.specs.Char.{is_ascii_graphic}
 use Rattle.std.specs.List.{list_all, list_any}
 use Rattle.design_model.specs.declared.design.TheConstants.{MAX_LABEL}
 use Rattle.design_model.specs.declared.point.Point.{Point}
-use Rattle.design_model.specs.Points.{is_same_point}
-use Rattle.line_graph.specs.declared.draw_fault.DrawKind.{DrawKind}
-use Rattle.line_graph.specs.declared.draw_fault.DrawKind.TheVariants as kind
+use Rattle.design_model.specs.declared.point.TheConstants.{NEEDLE_LIMIT}
+use Rattle.design_model.specs.Points.{is_same_point, is_within}
+use Rattle.line_graph.specs.declared.draw_kind.DrawKind.{DrawKind}
+use Rattle.line_graph.specs.declared.draw_kind.DrawKind.TheVariants as kind
 use Rattle.line_graph.specs.declared.limits.TheConstants.{MAX_BLOCKS, MAX_COST, MAX_LINES, MAX_POINTS}
 use Rattle.line_graph.specs.Drawings.{DrawingValue, LineValue}
 use Rattle.line_graph.specs.Needles.{line_steps}
@@ -32,9 +34,9 @@ is_used d block = list_any (λ line. line.block == block) d.lines
 abbrev pub is_last_empty : DrawingValue → Bool
 is_last_empty d = not (length d.threads == 0) && not (is_used d (length d.threads - 1))
 
--- the drawing before anything is said of it; its longest step is 25 where none is given
-abbrev pub blank_drawing : DrawingValue
-blank_drawing = record { label = []; step = 25; threads = []; lines = [] }
+-- the drawing with that label and that longest step, before its first block
+abbrev pub drawing_begun : List ℕ → ℕ → DrawingValue
+drawing_begun label step = record { label = label; step = step; threads = []; lines = [] }
 
 -- a word that may be a label
 abbrev pub is_label_word : List ℕ → Bool
@@ -76,12 +78,34 @@ abbrev pub with_line : DrawingValue → List Point → DrawingValue
 with_line d points =
     record d { lines = d.lines ++ record { block = length d.threads - 1; points = points } ∷ [] }
 
+-- needles may go down at all of the points
+abbrev pub are_in_range : List Point → Bool
+are_in_range points = list_all (is_within NEEDLE_LIMIT) points
+
 -- the drawing with that line, or why it may not have it
 abbrev pub line_added : DrawingValue → List Point → Result DrawingValue DrawKind
-line_added d points = and_then (steps_with d points) (λ steps. Ok (with_line d points))
+line_added d points =
+    if length d.threads == 0 then Err kind.NoBlock
+    else (if not (are_in_range points) then Err kind.OutOfRange
+    else and_then (steps_with d points) (λ steps. Ok (with_line d points)))
 
 -- the drawing where it may end so, with a line in each of its blocks
 abbrev pub finished : DrawingValue → Result DrawingValue DrawKind
 finished d =
     if length d.threads == 0 then Err kind.NoBlock
     else (if is_last_empty d then Err kind.EmptyBlock else Ok d)
+
+-- the refusal is the one that was said, or memory was wanted
+abbrev pub IsSaid : {A : Type 0} → Result A DrawKind → DrawKind → Type 0
+IsSaid said kind.Memory = Unit {0}
+IsSaid said why = said ≡ Err why
+
+-- what each answer of a call means: it is what was said, or memory was wanted
+abbrev pub Answers : {A : Type 0} → Result A DrawKind → Result A DrawKind → Type 0
+Answers said (Ok a) = said ≡ Ok a
+Answers said (Err why) = IsSaid said why
+
+-- what each answer of a call means that is to change a value as said: a refusal leaves it as it was
+abbrev pub Changes : {A T : Type 0} → Result A DrawKind → A → Result T DrawKind → A → Type 0
+Changes said old (Ok _) new = said ≡ Ok new
+Changes said old (Err why) new = IsSaid said why × (new ≡ old)

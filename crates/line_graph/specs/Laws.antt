@@ -1,13 +1,10 @@
--- Laws over drawings and walks that the crates above stand on.
-use Rattle.std.specs.Prelude.{◌≡◌, ◌≢◌, ℕ, ◌+◌, ◌≤◌, List, [], ◌∷◌, length, All}
+-- The needles of a line lead along it. Costs count steps.
+use Rattle.std.specs.Prelude.{◌≡◌, ℕ, ◌+◌, ◌<◌, ◌≤◌, List, [], ◌∷◌, length, All}
 use Rattle.design_model.specs.declared.point.Point.{Point}
-use Rattle.design_model.specs.Acts.{acts_of}
 use Rattle.step_splitter.specs.Chains.{IsNeedlePoint, KeepsClose}
 use Rattle.line_graph.specs.declared.limits.TheConstants.{MAX_COST}
-use Rattle.line_graph.specs.declared.pass.Pass.{Pass}
-use Rattle.line_graph.specs.Drawings.{DrawingValue, HasNoRepeat, first_of, last_of, points_of}
-use Rattle.line_graph.specs.Sewing.{Sews, sewn_design}
-use Rattle.line_graph.specs.Walks.{cost_of_line, needles_of_walk}
+use Rattle.line_graph.specs.Drawings.{DrawingValue, HasNoRepeat, KeepsDrawing, first_of, last_of, points_of}
+use Rattle.line_graph.specs.Walks.{cost_of_line, needles_of}
 
 -- neighbouring points lie within the limit of each other, on each axis
 abbrev pub AreClose : ℕ → List Point → Type 0
@@ -29,7 +26,6 @@ pub record AreNeedlesOf (d : DrawingValue) (line : ℕ) (points : List Point) : 
   pub few : cost_of_line d line ≤ MAX_COST
   pub along : LeadAlong d.step (points_of d line) points
 
--- the sewn design of walks that each have a needle sews the drawing by them
-abbrev pub TheSewnDesignSews : Type 0
-TheSewnDesignSews = (d : DrawingValue) (walks : List (List Pass)) →
-    All (λ walk. needles_of_walk d walk ≢ []) walks → Sews d walks (acts_of (sewn_design d walks))
+-- the needle points of each line of a drawing lead along it
+abbrev pub NeedlesLeadAlong : DrawingValue → Type 0
+NeedlesLeadAlong d = (line : ℕ) → KeepsDrawing d → line < length d.lines → AreNeedlesOf d line (needles_of d line)

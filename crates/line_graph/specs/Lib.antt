@@ -1,19 +1,23 @@
 -- words of the crate below that public clauses cite
 pub use Rattle.step_splitter.specs.Chains
 pub use Rattle.step_splitter.specs.Steps
-pub mod Limits
 pub mod Needles
 pub mod Drawings
--- read this one first: what walks are, and which of them are least
 pub mod Walks
 pub mod Pieces
-pub mod Sewing
-pub mod Spelling
+-- read these two first: the graph of a piece, and walks over it, the least of them among these
+pub mod PieceGraphs
+pub mod PieceWalks
+pub mod KeptPieces
+pub mod CutPieces
+pub mod Runs
+pub mod SewnWalks
+pub mod OnePieces
 pub mod Laws
-pub mod SewnPieces
-pub mod Words
 pub mod Growing
-pub mod TextLines
-pub mod DrawingText
--- of the reader's inside
+-- of the maker's inside
 pub mod Making
+-- of the inside of pieces
+pub mod LineLabels
+pub mod FirstLines
+pub mod PieceParts

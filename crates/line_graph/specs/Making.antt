@@ -1,28 +1,11 @@
--- What the making of a drawing answers and keeps. No public clause cites this file.
-use Rattle.std.specs.Prelude.{◌≡◌, ℕ, ◌+◌, ◌<◌, ◌≤◌, ◌≢◌, Bool, List, Result, Ok, Err, length, map, All, Contains}
+-- What the making of a drawing keeps. No public clause cites this file.
+use Rattle.std.specs.Prelude.{◌≡◌, ℕ, ◌+◌, ◌<◌, ◌≤◌, ◌≢◌, Bool, List, length, map, All, Contains}
 use Rattle.std.specs.List.Sorted.{IsNonDecreasing}
 use Rattle.design_model.specs.Labels.{IsLabel}
 use Rattle.step_splitter.specs.declared.segment.TheConstants.{MAX_STEP}
-use Rattle.line_graph.specs.declared.draw_fault.DrawKind.{DrawKind}
-use Rattle.line_graph.specs.declared.draw_fault.DrawKind.TheVariants as kind
 use Rattle.line_graph.specs.declared.limits.TheConstants.{MAX_BLOCKS, MAX_COST, MAX_LINES, MAX_POINTS}
 use Rattle.line_graph.specs.Drawings.{DrawingValue, IsLine, LineValue}
 use Rattle.line_graph.specs.Growing.{is_last_empty, point_count, step_count}
-
--- the refusal is the one that was said, or memory was wanted
-abbrev pub IsSaid : {A : Type 0} → Result A DrawKind → DrawKind → Type 0
-IsSaid said kind.Memory = Unit {0}
-IsSaid said why = said ≡ Err why
-
--- what each answer of a call means: it is what was said, or memory was wanted
-abbrev pub Answers : {A : Type 0} → Result A DrawKind → Result A DrawKind → Type 0
-Answers said (Ok a) = said ≡ Ok a
-Answers said (Err why) = IsSaid said why
-
--- what each answer of a call means that is to change a value as said: a refusal leaves it as it was
-abbrev pub Changes : {A T : Type 0} → Result A DrawKind → A → Result T DrawKind → A → Type 0
-Changes said old (Ok _) new = said ≡ Ok new
-Changes said old (Err why) new = IsSaid said why × (new ≡ old)
 
 -- the limits of a label that is one word or empty, and of a longest step
 pub record IsHead (label : List ℕ) (step : ℕ) : Type 0 where

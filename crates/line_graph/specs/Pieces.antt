@@ -1,6 +1,6 @@
 -- The pieces of a drawing: lines of one block that are joined at their ends. Indexes of lines count from 0.
-use Rattle.std.specs.Prelude.{◌≡◌, ◌≢◌, ℕ, ◌<◌, ◌==◌, Bool, true, not, ◌&&◌, List, [], ◌∷◌, Some, length, map, slice_get, All, AllPairs, Contains}
-use Rattle.std.specs.List.{concat, list_any, range_with_len}
+use Rattle.std.specs.Prelude.{◌≡◌, ◌≢◌, ℕ, ◌<◌, ◌==◌, Bool, true, ◌&&◌, List, [], ◌∷◌, Some, length, map, slice_get, All, AllPairs, Contains}
+use Rattle.std.specs.List.{concat, list_any}
 use Rattle.std.specs.List.Sorted.{IsStrictlyIncreasing}
 use Rattle.design_model.specs.declared.point.Point.{Point}
 use Rattle.design_model.specs.Points.{is_same_point}
@@ -52,17 +52,3 @@ pub record ArePieces (d : DrawingValue) (pieces : List (List ℕ)) : Type 0 wher
   pub apart : AllPairs (λ a b. Joined d (first_line a) (first_line b) → ⊥) pieces
   pub rising : All IsStrictlyIncreasing pieces
   pub ordered : IsStrictlyIncreasing (map first_line pieces)
-
--- a line that ends where it begins
-abbrev pub is_closed : List Point → Bool
-is_closed [] = true
-is_closed (p ∷ rest) = is_same_point p (last_from p rest)
-
--- each of the lines is closed and touches none behind it, so that each is a piece of its own
-abbrev pub are_loops : List LineValue → Bool
-are_loops [] = true
-are_loops (line ∷ rest) = is_closed line.points && (not (list_any (touches line) rest) && are_loops rest)
-
--- each of so many lines as a piece of its own
-abbrev pub single_lines : ℕ → List (List ℕ)
-single_lines count = map (λ line. line ∷ []) (range_with_len 0 count)

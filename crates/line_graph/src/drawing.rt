@@ -88,7 +88,7 @@ impl Drawing {
     }
 
     /// The thread numbers of the blocks.
-    pub(crate) fn threads(&self) -> &[u8]
+    pub fn threads(&self) -> &[u8]
         ensures value { result.now ≡ self.now.threads }
         ensures most { length result.now ≤ MAX_BLOCKS }
     {
@@ -96,7 +96,7 @@ impl Drawing {
     }
 
     /// The lines in order.
-    pub(crate) fn lines(&self) -> &[Line]
+    pub fn lines(&self) -> &[Line]
         ensures { result.now ≡ self.now.lines }
     {
         self.lines.as_slice()

@@ -1,25 +1,25 @@
-ghost use Rattle.std.specs.Prelude.{◌≡◌, ◌≤◌, length, All, true};
+ghost use Rattle.std.specs.Prelude.{◌≡◌, ◌≢◌, ◌≤◌, length, All, IsErrOf, IsOk, true};
 ghost use Rattle.std.specs.Char.{is_ascii_graphic};
 ghost use Rattle.std.specs.List.{list_all};
+ghost use Rattle.design_model.specs.Labels.{IsLabel};
 ghost use Rattle.step_splitter.specs.declared.segment.TheConstants.{MAX_STEP as max_step};
 ghost use Rattle.step_splitter.specs.Chains.{IsNeedlePoint};
-ghost use Rattle.line_graph.specs.Growing.{blank_drawing, block_added, finished, is_label_word as is_a_label_word, line_added, steps_with as steps_of_lines_with};
-ghost use Rattle.line_graph.specs.Making.{Changes};
+ghost use Rattle.line_graph.specs.declared.draw_kind.DrawKind.TheVariants as kind;
+ghost use Rattle.line_graph.specs.Growing.{Changes, block_added, drawing_begun, finished, is_label_word as is_a_label_word, line_added, steps_with as steps_of_lines_with};
 
-use crate::draw_fault::DrawKind;
+use crate::draw_kind::DrawKind;
 use crate::drawing::Drawing;
 use crate::limits::{MAX_BLOCKS, MAX_COST, MAX_LINES, MAX_POINTS};
 use crate::line::Line;
-use crate::line_shape::{has_repeat, line_steps};
+use crate::line_shape::{are_in_range, has_repeat, line_steps};
 use arrayvec::ArrayVec;
 use design_model::{MAX_LABEL, Point, Points};
 use std::alloc::Global;
 use std::marker::Model;
 
-/// The longest step of a drawing that names none, in tenths of a millimetre.
-const DEFAULT_STEP: u32 = 25;
-
 /// A drawing that grows: blocks are added at its end, and lines to its last block.
+///
+/// It keeps the limits of a drawing from the start; `finish` asks only that each block has a line.
 #[derive(Debug, Drop)]
 pub struct DrawingMaker {
     label: ArrayVec<u8, MAX_LABEL>,
@@ -53,13 +53,20 @@ impl Model for DrawingMaker {
 }
 
 impl DrawingMaker {
-    /// A drawing without label, blocks and lines.
-    pub fn new(alloc: Global) -> Self
-        ensures { result ≡ blank_drawing }
+    /// A drawing with that label, one word or empty, and that longest step in tenths of a millimetre. It has
+    /// no block yet.
+    pub fn new(alloc: Global, label: &[u8], step: u32) -> DrawingMaker
+        requires label { IsLabel label.now }
+        requires one_word { All (λ byte. byte ≢ 32) label.now }
+        requires low { 1 ≤ step }
+        requires high { step ≤ max_step }
+        ensures { result ≡ drawing_begun label.now step }
     {
+        let mut kept: ArrayVec<u8, MAX_LABEL> = ArrayVec::new();
+        kept.try_extend_from_slice(label).unwrap();
         DrawingMaker {
-            label: ArrayVec::new(),
-            step: DEFAULT_STEP,
+            label: kept,
+            step,
             threads: ArrayVec::new(),
             lines: Vec::new(alloc),
             is_last_empty: false,
@@ -68,7 +75,7 @@ impl DrawingMaker {
         }
     }
 
-    /// Sets the label.
+    /// Sets the label, a word that `is_label_word` passes.
     pub fn set_label(&mut self, word: &[u8])
         requires { is_a_label_word word.now ≡ true }
         ensures { self.new ≡ record self.old { label = word.now } }
@@ -77,7 +84,7 @@ impl DrawingMaker {
         self.label.try_extend_from_slice(word).unwrap();
     }
 
-    /// Sets the longest step, in tenths of a millimetre.
+    /// Sets the longest step, in tenths of a millimetre. Only a drawing without blocks takes another.
     pub fn set_step(&mut self, step: u32)
         requires low { 1 ≤ step }
         requires high { step ≤ max_step }
@@ -94,9 +101,11 @@ impl DrawingMaker {
         self.threads.len()
     }
 
-    /// Adds a block at the end. A refusal leaves the drawing as it was.
+    /// Adds a block at the end, of that thread number: `EmptyBlock` where the last block has no line, then
+    /// `TooManyBlocks`. A refusal leaves the drawing as it was.
     pub fn add_block(&mut self, thread: u8) -> Result<(), DrawKind>
-        ensures { Changes (block_added self.old thread) self.old result self.new }
+        ensures answer { Changes (block_added self.old thread) self.old result self.new }
+        ensures memory { IsErrOf result kind.Memory → IsOk (block_added self.old thread) }
     {
         if self.is_last_empty {
             return Err(DrawKind::EmptyBlock);
@@ -109,12 +118,20 @@ impl DrawingMaker {
         Ok(())
     }
 
-    /// Adds a line to the last block. A refusal leaves the drawing as it was.
+    /// Adds a line through these points to the last block, in tenths of a millimetre. The refusals come in
+    /// this order: `NoBlock`, `OutOfRange` (no needle may go down at one of the points), `FewPoints`,
+    /// `RepeatedPoint`, `TooManyLines`, `TooManyPoints`, `TooMuchCost`, and then `Memory`. A refusal leaves
+    /// the drawing as it was.
     pub fn add_line(&mut self, points: Points) -> Result<(), DrawKind>
-        requires in_range { All IsNeedlePoint points }
-        requires block { 1 ≤ length self.old.threads }
-        ensures { Changes (line_added self.old points) self.old result self.new }
+        ensures answer { Changes (line_added self.old points) self.old result self.new }
+        ensures memory { IsErrOf result kind.Memory → IsOk (line_added self.old points) }
     {
+        if self.threads.is_empty() {
+            return Err(DrawKind::NoBlock);
+        }
+        if !are_in_range(points.as_slice()) {
+            return Err(DrawKind::OutOfRange);
+        }
         let steps = self.steps_with(points.as_slice())?;
         let count = points.len() as u32;
         let block = self.threads.len() as u32 - 1;
@@ -125,6 +142,7 @@ impl DrawingMaker {
         Ok(())
     }
 
+    /// The steps of the drawing's lines and of a further line, or the first fault of that line.
     fn steps_with(&self, points: &[Point]) -> Result<u32, DrawKind>
         requires { All IsNeedlePoint points.now }
         ensures { result ≡ steps_of_lines_with self.now points.now }
@@ -148,7 +166,8 @@ impl DrawingMaker {
         Ok(steps as u32)
     }
 
-    /// The drawing, where each of its blocks has a line.
+    /// The drawing, where each of its blocks has a line: `NoBlock` where there is no block, then
+    /// `EmptyBlock`.
     pub fn finish(self) -> Result<Drawing, DrawKind>
         ensures { result ≡ finished self }
     {

@@ -1,36 +1,39 @@
-//! Drawings of lines in blocks of one thread each, their texts, the needles of their lines, and what it
-//! means to sew them.
+//! Drawings of lines in blocks of one thread each, the needles of their lines, and what it means to sew
+//! them.
 #![tactic(auto)]
 
-mod draft;
-mod draw_fault;
+mod degrees;
+mod draw_kind;
 mod drawing;
 mod drawing_maker;
-mod drawing_text;
+mod drawn_lines;
+mod edge;
+mod first_lines;
+mod joined_lines;
+mod junctions;
 mod laws;
 mod limits;
 mod line;
+mod line_labels;
 mod line_shape;
-mod loops;
 mod needle_points;
-mod number_words;
 mod pass;
-mod point_words;
-mod spelling;
+mod piece;
+mod piece_lines;
 #[cfg(test)]
 mod tests;
-mod text_words;
+mod walk_laws;
 
-pub use draw_fault::{DrawFault, DrawKind};
+pub use draw_kind::DrawKind;
 pub use drawing::Drawing;
-pub use drawing_text::read_drawing;
-pub use laws::{
-    loops_are_sewn_along, needles_lead_along, the_limits_of_drawings, the_plain_spelling_says,
-    the_sewn_design_sews,
-};
-pub use limits::{MAX_BLOCKS, MAX_COST, MAX_LINES, MAX_POINTS, MAX_TEXT};
-pub use loops::only_loops;
+pub use drawing_maker::{DrawingMaker, is_label_word};
+pub use edge::{Edge, Edges};
+pub use joined_lines::pieces;
+pub use laws::needles_lead_along;
+pub use limits::{MAX_BLOCKS, MAX_COST, MAX_LINES, MAX_POINTS};
+pub use line::Line;
 pub use needle_points::needles;
-pub use pass::Pass;
-pub use spelling::print_drawing;
+pub use pass::{Pass, Walk};
+pub use piece::{Piece, Pieces};
 pub use step_splitter::MAX_STEP;
+pub use walk_laws::{fitting_walks_are_sewable, pieces_are_one, pieces_keep_limits, runs_are_sewn};

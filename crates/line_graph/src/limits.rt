@@ -9,6 +9,3 @@ pub const MAX_POINTS: usize = 65_536;
 
 /// The greatest cost of a drawing, over all its lines, in steps.
 pub const MAX_COST: u32 = 200_000;
-
-/// The most bytes of a drawing's text.
-pub const MAX_TEXT: usize = 67_108_864;

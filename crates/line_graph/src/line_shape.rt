@@ -1,11 +1,25 @@
 ghost use Rattle.std.specs.Prelude.{◌≡◌, ◌≤◌, length};
 ghost use Rattle.line_graph.specs.declared.limits.TheConstants.{MAX_POINTS};
 ghost use Rattle.line_graph.specs.Drawings.{IsLine};
-ghost use Rattle.line_graph.specs.Growing.{has_repeat as has_a_repeat};
+ghost use Rattle.line_graph.specs.Growing.{are_in_range as all_in_range, has_repeat as has_a_repeat};
 ghost use Rattle.line_graph.specs.Needles.{line_steps as steps_of_line};
 
-use design_model::Point;
+use design_model::{NEEDLE_LIMIT, Point};
 use step_splitter::{MAX_STEP, steps};
+
+/// Says whether needles may go down at all of the points.
+pub fn are_in_range(points: &[Point]) -> bool
+    ensures { result ≡ all_in_range points.now }
+{
+    let mut rest = points;
+    while let [p, after @ ..] = rest {
+        if !p.is_within(NEEDLE_LIMIT) {
+            return false;
+        }
+        rest = after;
+    }
+    true
+}
 
 /// Says whether a point is the same as the one before.
 pub fn has_repeat(points: &[Point]) -> bool

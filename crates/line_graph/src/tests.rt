@@ -1,43 +1,60 @@
-use crate::{
-    DrawFault, DrawKind, Drawing, MAX_TEXT, needles, only_loops, print_drawing, read_drawing,
-};
-use design_model::{Bytes, Memory, Point};
+mod cut_drawings;
+
+use crate::{DrawKind, Drawing, DrawingMaker, MAX_STEP, is_label_word, needles};
+use design_model::{Point, Points};
 use std::alloc::Global;
 use std::test::Fail;
 
-fn drawing(alloc: Global, text: &[u8]) -> Result<Drawing, DrawFault> {
-    if text.len() > MAX_TEXT {
-        let kind = DrawKind::Memory;
-        return Err(DrawFault { number: 0, kind });
-    }
-    read_drawing(alloc, text)
+/// What a drawing grows by: a block of that thread, or a line through these places.
+#[derive(Clone, Copy)]
+enum Part {
+    Block(u8),
+    Line(&'static [(i32, i32)]),
 }
 
-fn fault(alloc: Global, text: &[u8]) -> (u32, Option<DrawKind>) {
-    match drawing(alloc, text) {
-        Ok(_) => (0, None),
-        Err(fault) => (fault.number, Some(fault.kind)),
+use Part::{Block, Line};
+
+const SQUARES: [Part; 4] = [
+    Block(3),
+    Line(&[(0, 0), (30, 0), (30, 30), (0, 30), (0, 0)]),
+    Block(9),
+    Line(&[(300, 0), (330, 0), (330, 30), (300, 30), (300, 0)]),
+];
+
+fn points(alloc: Global, places: &[(i32, i32)]) -> Result<Points, DrawKind> {
+    let mut points = Points::new(alloc);
+    for (x, y) in places {
+        points.push(Point { x: *x, y: *y })?;
     }
+    Ok(points)
 }
 
-const SQUARES: &str = "redwork 1
-step 30
-color 3
-line 0 0 30 0 30 30 0 30 0 0
-color 9
-line 300 0 330 0 330 30 300 30 300 0
-";
+fn grown(alloc: Global, step: u32, parts: &[Part]) -> Result<Drawing, DrawKind> {
+    if step == 0 || step > MAX_STEP {
+        return Err(DrawKind::OutOfRange);
+    }
+    let mut maker = DrawingMaker::new(alloc, b"rose", step);
+    for part in parts {
+        match part {
+            Block(thread) => maker.add_block(*thread)?,
+            Line(places) => maker.add_line(points(alloc, places)?)?,
+        }
+    }
+    maker.finish()
+}
+
+fn fault(alloc: Global, step: u32, parts: &[Part]) -> Option<DrawKind> {
+    grown(alloc, step, parts).err()
+}
 
 #[test]
-fn a_drawing_of_two_blocks_is_read_and_printed_again(rt: HostRuntime) -> Result<(), Fail> {
-    let d = drawing(rt.alloc(), SQUARES.as_bytes())
-        .ok()
-        .ok_or("two squares")?;
+fn a_drawing_has_the_blocks_and_lines_that_it_grew_by(rt: HostRuntime) -> Result<(), Fail> {
+    let d = grown(rt.alloc(), 30, &SQUARES).ok().ok_or("two squares")?;
     assert_eq!(rt; d.step(), 30);
+    assert!(rt; d.label() == b"rose".as_slice());
+    assert!(rt; d.threads() == [3, 9].as_slice());
     assert_eq!(rt; d.block_count(), 2);
     assert_eq!(rt; d.line_count(), 2);
-    let text = print_drawing(rt.alloc(), &d).ok().ok_or("no memory")?;
-    assert!(rt; text.as_slice() == SQUARES.as_bytes());
     if d.block_count() == 2 && d.line_count() == 2 {
         assert_eq!(rt; d.block_thread(1), 9);
         assert_eq!(rt; d.line_block(0), 0);
@@ -48,249 +65,122 @@ fn a_drawing_of_two_blocks_is_read_and_printed_again(rt: HostRuntime) -> Result<
 }
 
 #[test]
-fn the_needles_of_a_line_are_its_points_and_those_between(rt: HostRuntime) -> Result<(), Fail> {
-    let table: [(&str, usize, (i32, i32)); 3] = [
-        (SQUARES, 5, (30, 0)),
-        (
-            "redwork 1\nstep 10\ncolor 5\nline 0 0 40 0 0 0\n",
-            9,
-            (10, 0),
-        ),
-        (
-            "redwork 1\nstep 3\ncolor 255\nline 0 0 -7 3 0 0\n",
-            7,
-            (-3, 1),
-        ),
+fn a_label_is_a_word_of_sixteen_signs_or_fewer(rt: HostRuntime) {
+    let table = [
+        ("", true),
+        ("rose~!", true),
+        ("abcdefghijklmnop", true),
+        ("abcdefghijklmnopq", false),
+        ("a b", false),
+        ("a\u{7f}", false),
     ];
-    for (text, count, (x, y)) in table {
-        let d = drawing(rt.alloc(), text.as_bytes())
+    for (word, wanted) in table {
+        assert_eq!(rt; is_label_word(word.as_bytes()), wanted, "{word}");
+    }
+}
+
+#[test]
+fn the_first_fault_is_told(rt: HostRuntime) {
+    let table: [(&[Part], Option<DrawKind>); 10] = [
+        (&[], Some(DrawKind::NoBlock)),
+        (&[Line(&[(30_001, 0)])], Some(DrawKind::NoBlock)),
+        (&[Block(1)], Some(DrawKind::EmptyBlock)),
+        (&[Block(1), Block(2)], Some(DrawKind::EmptyBlock)),
+        (
+            &[Block(1), Line(&[(0, -30_001)])],
+            Some(DrawKind::OutOfRange),
+        ),
+        (
+            &[Block(1), Line(&[(0, 0), (0, 0), (30_001, 0)])],
+            Some(DrawKind::OutOfRange),
+        ),
+        (&[Block(1), Line(&[(7, 7)])], Some(DrawKind::FewPoints)),
+        (
+            &[Block(1), Line(&[(0, 0), (7, 7), (7, 7)])],
+            Some(DrawKind::RepeatedPoint),
+        ),
+        (&[Block(1), Line(&[(-30_000, 0), (30_000, 0)])], None),
+        (&SQUARES, None),
+    ];
+    for (index, (parts, wanted)) in table.into_iter().enumerate() {
+        assert!(rt; fault(rt.alloc(), 2_047, parts) == wanted, "{index}");
+    }
+}
+
+#[test]
+fn the_needles_of_a_line_are_its_points_and_those_between(rt: HostRuntime) -> Result<(), Fail> {
+    let table: [(u32, &[(i32, i32)], usize, (i32, i32)); 3] = [
+        (
+            30,
+            &[(0, 0), (30, 0), (30, 30), (0, 30), (0, 0)],
+            5,
+            (30, 0),
+        ),
+        (10, &[(0, 0), (40, 0), (0, 0)], 9, (10, 0)),
+        (3, &[(0, 0), (-7, 3), (0, 0)], 7, (-3, 1)),
+    ];
+    for (step, places, count, (x, y)) in table {
+        let d = grown(rt.alloc(), step, &[Block(255), Line(places)])
             .ok()
             .ok_or("a drawing")?;
         if d.line_count() == 0 {
             continue;
         }
         let points = needles(rt.alloc(), &d, 0).ok().ok_or("no memory")?;
-        assert_eq!(rt; points.len(), count, "{text}");
-        assert!(rt; points.as_slice().get(1) == Some(&Point { x, y }), "{text}");
+        assert_eq!(rt; points.len(), count, "{step}");
+        assert!(rt; points.as_slice().get(1) == Some(&Point { x, y }), "{step}");
     }
     Ok(())
 }
 
-#[test]
-fn texts_of_any_spelling_are_read(rt: HostRuntime) -> Result<(), Fail> {
-    let table = [
-        "redwork 1\nname Rose\ncolor 7\nline 0 0 5 5",
-        "\n# a rose\n\tredwork \t 1\r\nname Rose\r\n  # red\r\ncolor 007\r\nline -0 0 05 5\r\n",
-        "redwork 1\nstep 25\nname Rose\n\ncolor 7\nline 0 0 5 5\n\n#\n \n",
-    ];
-    for text in table {
-        let d = drawing(rt.alloc(), text.as_bytes())
-            .ok()
-            .ok_or("a drawing")?;
-        let plain = print_drawing(rt.alloc(), &d).ok().ok_or("no memory")?;
-        let wanted = "redwork 1\nname Rose\nstep 25\ncolor 7\nline 0 0 5 5\n";
-        assert!(rt; plain.as_slice() == wanted.as_bytes(), "{text}");
-    }
-    Ok(())
-}
-
-#[test]
-fn the_first_fault_of_a_head_is_told_with_its_line(rt: HostRuntime) {
-    let table = [
-        ("", 1, DrawKind::BadHeader),
-        ("# a\n\n", 3, DrawKind::BadHeader),
-        ("redwork 01\n", 1, DrawKind::BadHeader),
-        ("redwork 1\nfoo\n", 2, DrawKind::BadWord),
-        ("redwork 1\nstep 5\nstep 5\n", 3, DrawKind::BadWord),
-        ("redwork 1\ncolor 1\nname a\n", 3, DrawKind::BadWord),
-        ("redwork 1\nname a\r\r\n", 2, DrawKind::BadWord),
-        ("redwork 1\nstep +5\n", 2, DrawKind::BadNumber),
-        (
-            "redwork 1\nstep 99999999999999999999x\n",
-            2,
-            DrawKind::BadNumber,
-        ),
-        (
-            "redwork 1\nstep 99999999999999999999\n",
-            2,
-            DrawKind::OutOfRange,
-        ),
-        ("redwork 1\nstep 2048\n", 2, DrawKind::OutOfRange),
-    ];
-    for (text, number, kind) in table {
-        assert!(rt;
-            fault(rt.alloc(), text.as_bytes()) == (number, Some(kind)),
-            "{text}"
-        );
-    }
-}
-
-#[test]
-fn the_first_fault_of_a_block_is_told_with_its_line(rt: HostRuntime) {
-    let table = [
-        ("redwork 1\ncolor 256\n", 2, DrawKind::OutOfRange),
-        ("redwork 1\ncolor 1\n", 2, DrawKind::EmptyBlock),
-        ("redwork 1\ncolor 1\n#\ncolor 2\n", 2, DrawKind::EmptyBlock),
-        ("redwork 1\ncolor 1\nfoo\n", 3, DrawKind::BadWord),
-        ("redwork 1\ncolor 1\ncolor x\n", 3, DrawKind::BadNumber),
-        (
-            "redwork 1\ncolor 1\nline 0 0\ncolor 2\n",
-            3,
-            DrawKind::FewPoints,
-        ),
-        ("redwork 1\nname a\n", 3, DrawKind::NoBlock),
-        ("redwork 1\nline 0 0 x\n", 2, DrawKind::NoBlock),
-        (
-            "redwork 1\ncolor 1\nline 30001 x\n",
-            3,
-            DrawKind::OutOfRange,
-        ),
-        ("redwork 1\ncolor 1\nline x 30001\n", 3, DrawKind::BadNumber),
-        (
-            "redwork 1\ncolor 1\nline 0 0 0 0 1\n",
-            3,
-            DrawKind::FewPoints,
-        ),
-        (
-            "redwork 1\ncolor 1\nline 0 0 0 -0\n",
-            3,
-            DrawKind::RepeatedPoint,
-        ),
-    ];
-    for (text, number, kind) in table {
-        assert!(rt;
-            fault(rt.alloc(), text.as_bytes()) == (number, Some(kind)),
-            "{text}"
-        );
-    }
-}
-
-#[test]
-fn only_closed_lines_that_share_no_end_are_loops(rt: HostRuntime) -> Result<(), Fail> {
-    let table = [
-        (SQUARES, true),
-        ("redwork 1\ncolor 1\nline 0 0 40 0\n", false),
-        (
-            "redwork 1\ncolor 1\nline 0 0 9 0 0 0\nline 5 5 0 0 5 5\n",
-            true,
-        ),
-        (
-            "redwork 1\ncolor 1\nline 0 0 9 0 0 0\nline 0 0 0 9 0 0\n",
-            false,
-        ),
-        (
-            "redwork 1\ncolor 1\nline 0 0 9 0 0 0\ncolor 1\nline 0 0 0 9 0 0\n",
-            true,
-        ),
-    ];
-    for (text, wanted) in table {
-        let d = drawing(rt.alloc(), text.as_bytes())
-            .ok()
-            .ok_or("a drawing")?;
-        assert_eq!(rt; only_loops(&d), wanted, "{text}");
-    }
-    Ok(())
-}
-
-/// The text of a head, so many times a middle, and an end.
-fn repeated(
+/// Adds so many lines through these places, each in a block of its own where it is to be.
+fn add_lines(
     alloc: Global,
-    head: &str,
-    middle: &str,
+    maker: &mut DrawingMaker,
+    places: &[(i32, i32)],
     times: u32,
-    end: &str,
-) -> Result<Bytes, Memory> {
-    let mut text = Bytes::new(alloc);
-    text.append(head.as_bytes())?;
-    for _ in 0..times {
-        text.append(middle.as_bytes())?;
-    }
-    text.append(end.as_bytes())?;
-    Ok(text)
-}
-
-#[test]
-fn a_drawing_has_so_many_blocks_and_lines(rt: HostRuntime) -> Result<(), Fail> {
-    let blocks = "redwork 1\n";
-    let lines = "redwork 1\ncolor 1\n";
-    let cases = [
-        (blocks, "color 1\nline 0 0 1 0\n", 255, "", (0, None)),
-        (
-            blocks,
-            "color 1\nline 0 0 1 0\n",
-            256,
-            "",
-            (512, Some(DrawKind::TooManyBlocks)),
-        ),
-        (lines, "line 0 0 1 0\n", 1_024, "", (0, None)),
-        (
-            lines,
-            "line 0 0 1 0\n",
-            1_025,
-            "",
-            (1_027, Some(DrawKind::TooManyLines)),
-        ),
-    ];
-    for (head, middle, times, end, wanted) in cases {
-        let text = repeated(rt.alloc(), head, middle, times, end)
-            .ok()
-            .ok_or("no memory")?;
-        assert!(rt;
-            fault(rt.alloc(), text.as_slice()) == wanted,
-            "{times} times {middle}"
-        );
+    apart: bool,
+) -> Result<(), DrawKind> {
+    for number in 0..times {
+        if apart || number == 0 {
+            maker.add_block(1)?;
+        }
+        maker.add_line(points(alloc, places)?)?;
     }
     Ok(())
 }
 
 #[test]
-fn a_drawing_has_so_many_points_and_steps(rt: HostRuntime) -> Result<(), Fail> {
-    let points = "redwork 1\nstep 2047\ncolor 1\nline";
-    let steps = "redwork 1\nstep 1\ncolor 1\n";
-    let cases = [
-        (points, " 0 0 1 0", 32_768, "\n", (0, None)),
-        (
-            points,
-            " 0 0 1 0",
-            32_768,
-            " 0 0\n",
-            (4, Some(DrawKind::TooManyPoints)),
-        ),
-        (
-            points,
-            " 0 0 1 0",
-            32_768,
-            " 0 0 0\n",
-            (4, Some(DrawKind::FewPoints)),
-        ),
-        (steps, "line 0 0 20000 0\n", 10, "", (0, None)),
-        (
-            steps,
-            "line 0 0 30000 0\n",
-            7,
-            "",
-            (10, Some(DrawKind::TooMuchCost)),
-        ),
+fn a_drawing_has_so_many_blocks_and_lines_and_steps(rt: HostRuntime) {
+    let short: &[(i32, i32)] = &[(0, 0), (1, 0)];
+    let long: &[(i32, i32)] = &[(0, 0), (20_000, 0)];
+    let table = [
+        (short, 255, true, None),
+        (short, 256, true, Some(DrawKind::TooManyBlocks)),
+        (short, 1_024, false, None),
+        (short, 1_025, false, Some(DrawKind::TooManyLines)),
+        (long, 10, false, None),
+        (long, 11, false, Some(DrawKind::TooMuchCost)),
     ];
-    for (head, middle, times, end, wanted) in cases {
-        let text = repeated(rt.alloc(), head, middle, times, end)
-            .ok()
-            .ok_or("no memory")?;
-        assert!(rt;
-            fault(rt.alloc(), text.as_slice()) == wanted,
-            "{times} times {middle}"
-        );
+    for (places, times, apart, wanted) in table {
+        let mut maker = DrawingMaker::new(rt.alloc(), b"", 1);
+        let added = add_lines(rt.alloc(), &mut maker, places, times, apart);
+        assert!(rt; added.err() == wanted, "{times}");
     }
-    Ok(())
 }
 
 #[test]
-fn the_longest_text_is_read_in_one_pass(rt: HostRuntime) -> Result<(), Fail> {
-    let head = "redwork 1\ncolor 1\nline 0 0 1 0\n";
-    let text = repeated(rt.alloc(), head, "# sixteen bytes\n", 4_194_301, "")
-        .ok()
-        .ok_or("no memory")?;
-    assert!(rt; text.len() > MAX_TEXT - 32);
-    assert!(rt; fault(rt.alloc(), text.as_slice()) == (0, None));
+fn a_drawing_has_so_many_points(rt: HostRuntime) -> Result<(), Fail> {
+    let table = [(32_768, None), (32_769, Some(DrawKind::TooManyPoints))];
+    for (times, wanted) in table {
+        let mut maker = DrawingMaker::new(rt.alloc(), b"", 2_047);
+        maker.add_block(1).ok().ok_or("a block")?;
+        let mut line = Points::new(rt.alloc());
+        for _ in 0..times {
+            let pair = [Point { x: 0, y: 0 }, Point { x: 1, y: 0 }];
+            line.append(pair.as_slice()).ok().ok_or("no memory")?;
+        }
+        assert!(rt; maker.add_line(line).err() == wanted, "{times}");
+    }
     Ok(())
 }

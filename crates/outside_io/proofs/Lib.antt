@@ -1,4 +1,5 @@
 mod CountFacts
+mod LimitFacts
 mod CauseFacts
 mod MemoryFacts
 pub mod EntryPlaces

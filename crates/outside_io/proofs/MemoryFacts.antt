@@ -2,7 +2,7 @@
 -- three, and the name `b` (98) has room for two bytes and no file.
 use Rattle.std.proofs.Common.{◌≡◌, ℕ, List, [], ◌∷◌, Some, None, true, false, refl}
 use Rattle.outside_io.specs.MemSinks.{MemSinkValue, refuses}
-use Rattle.outside_io.specs.MemStores.{EntryValue, file_in, room_in, is_listed, overflows, with_content, with_file, with_room}
+use Rattle.outside_io.specs.MemStores.{EntryValue, file_in, room_in, is_listed, overflows, with_added, with_content, with_file, with_room}
 
 pub two : List EntryValue
 two =
@@ -59,6 +59,19 @@ known_kept_file = refl
 pub known_emptied : room_in (with_content two (97 ∷ []) []) (97 ∷ []) ≡ Some 3
 unfolding two
 known_emptied = refl
+
+-- bytes are added behind those of the file, and the other name keeps its room and has no file
+pub known_added : file_in (with_added two (97 ∷ []) (5 ∷ [])) (97 ∷ []) ≡ Some (1 ∷ 2 ∷ 5 ∷ [])
+unfolding two
+known_added = refl
+
+pub known_other_room : room_in (with_room two (97 ∷ []) 7) (98 ∷ []) ≡ Some 2
+unfolding two
+known_other_room = refl
+
+pub known_larger_room : room_in (with_room two (97 ∷ []) 7) (97 ∷ []) ≡ Some 7
+unfolding two
+known_larger_room = refl
 
 -- calls are numbered from 1: after two, the next is the third
 pub known_listed : is_listed (3 ∷ []) 2 ≡ true

@@ -3,10 +3,10 @@ use Rattle.std.proofs.Common.{◌≡◌, ℕ, ◌≤◌, List, length, Some, Non
 use Rattle.std.specs.Bool.{nat_le}
 use Rattle.outside_io.specs.declared.whole_files.GetFault.{GetFault}
 use Rattle.outside_io.specs.declared.whole_files.GetFault.TheVariants as fault
-use Rattle.outside_io.specs.Blames.{Blame}
 use Rattle.outside_io.specs.Causes.{ReadsWhole, GivesOrMemory, whole_answer, IsLonger}
 use Rattle.outside_io.specs.Counts.{Rose, IsQuiet}
-use Rattle.outside_io.specs.Files.{Files, WhereTold}
+use Rattle.outside_io.specs.Files.{WhereTold}
+use Rattle.outside_io.specs.Sights.{StoreSight}
 
 -- a count that is quiet didn't rise
 quiet : (before now : ℕ) → IsQuiet before now → Rose before now → ⊥
@@ -24,14 +24,14 @@ longer_answer (Some content) limit longer =
     let test : nat_le (length content) limit ≡ false = grind arith in rw test
 
 -- each answer that can come then is the file's, or want of memory
-pub decided : (files : Option Files) (name : List ℕ) (limit f g : ℕ) (b c : Option Blame) (result : Result (List ℕ) GetFault) →
-    ReadsWhole files name limit f g b c result → IsQuiet f g →
-    WhereTold files (λ told. GivesOrMemory (whole_answer (told name) limit) result)
-decided files name limit f g b c (Ok bytes) reads still told is =
+pub decided : (name : List ℕ) (limit : ℕ) (old new : StoreSight) (result : Result (List ℕ) GetFault) →
+    ReadsWhole name limit old new result → IsQuiet old.faults new.faults →
+    WhereTold old.files (λ told. GivesOrMemory (whole_answer (told name) limit) result)
+decided name limit old new (Ok bytes) reads still told is =
     inl (sym (ap (λ file. whole_answer file limit) (reads.1 told is) ∙ short_answer bytes limit reads.0))
-decided files name limit f g b c (Err fault.Missing) reads still told is =
+decided name limit old new (Err fault.Missing) reads still told is =
     inl (sym (ap (λ file. whole_answer file limit) (reads.0.missing told is)))
-decided files name limit f g b c (Err fault.Failed) reads still told is = absurd (quiet f g still reads.rose)
-decided files name limit f g b c (Err fault.TooLong) reads still told is =
+decided name limit old new (Err fault.Failed) reads still told is = absurd (quiet old.faults new.faults still reads.rose)
+decided name limit old new (Err fault.TooLong) reads still told is =
     inl (sym (longer_answer (told name) limit (reads.0 told is)))
-decided files name limit f g b c (Err fault.Memory) reads still told is = inr refl
+decided name limit old new (Err fault.Memory) reads still told is = inr refl

@@ -2,15 +2,15 @@
 use Rattle.std.proofs.Common.{◌≡◌, ℕ, ◌+◌, ◌<◌, ◌≤◌, ◌++◌, List, length, take, drop, min, Some, None, Option, refl, sym, ◌∙◌, ap, arith, length-append, length-drop}
 use Rattle.std.proofs.Math.Seq.{take-add}
 use Rattle.std.proofs.lemmas.List.{take_all, length-take, length-take-le}
-use Rattle.outside_io.specs.Blames.{Blame}
 use Rattle.outside_io.specs.Causes.{ReadsFrom, IsLonger, Stays}
+use Rattle.outside_io.specs.Sights.{StoreSight}
 
 -- the bytes are the first ones of the content, where there is one
 abbrev pub Begins : Option (List ℕ) → List ℕ → Type 0
 Begins file bytes = (content : List ℕ) → file ≡ Some content → bytes ≡ take (length bytes) content
 
 -- what stayed twice stayed
-pub stays_on : {f g h : ℕ} {b c d : Option Blame} → Stays f g b c → Stays g h c d → Stays f h b d
+pub stays_on : {old mid new : StoreSight} → Stays old mid → Stays mid new → Stays old new
 stays_on first next = record { count = next.count ∙ first.count; blame = next.blame ∙ first.blame }
 
 -- the end was met, so the bytes are the whole content

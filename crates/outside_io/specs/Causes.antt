@@ -9,33 +9,29 @@ use Rattle.outside_io.specs.declared.whole_files.GetFault.TheVariants as fault
 use Rattle.outside_io.specs.Blames.{Blame, read_of, write_of}
 use Rattle.outside_io.specs.Counts.{Rose}
 use Rattle.outside_io.specs.Files.{Files, WhereTold, HoldsNow, Lacks}
+use Rattle.outside_io.specs.Sights.{SinkSight, StoreSight}
 
 -- the count of faults and the blame are as they were
-pub record Stays (faults_old faults_new : ℕ) (blame_old blame_new : Option Blame) : Type 0 where
-  pub count : faults_new ≡ faults_old
-  pub blame : blame_new ≡ blame_old
+pub record Stays (old new : StoreSight) : Type 0 where
+  pub count : new.faults ≡ old.faults
+  pub blame : new.blame ≡ old.blame
 
 -- the count of faults rose, and the blame is that call's
-pub record Faults (faults_old faults_new : ℕ) (blame_new : Option Blame) (call : Blame) : Type 0 where
-  pub rose : Rose faults_old faults_new
-  pub kept : faults_old ≤ faults_new
-  pub blame : blame_new ≡ Some call
+pub record Faults (old new : StoreSight) (call : Blame) : Type 0 where
+  pub rose : Rose old.faults new.faults
+  pub kept : old.faults ≤ new.faults
+  pub blame : new.blame ≡ Some call
 
 -- what a read does to the count and the blame
-abbrev pub ReadCause : {T : Type 0} → List ℕ → ℕ → ℕ → Option Blame → Option Blame → Result T ReadStop → Type 0
-ReadCause name faults_old faults_new blame_old blame_new (Ok _) =
-    Stays faults_old faults_new blame_old blame_new
-ReadCause name faults_old faults_new blame_old blame_new (Err stop.Missing) =
-    Stays faults_old faults_new blame_old blame_new
-ReadCause name faults_old faults_new blame_old blame_new (Err stop.Failed) =
-    Faults faults_old faults_new blame_new (read_of name)
+abbrev pub ReadCause : {T : Type 0} → List ℕ → StoreSight → StoreSight → Result T ReadStop → Type 0
+ReadCause name old new (Ok _) = Stays old new
+ReadCause name old new (Err stop.Missing) = Stays old new
+ReadCause name old new (Err stop.Failed) = Faults old new (read_of name)
 
 -- what a write does to the count and the blame
-abbrev pub WriteCause : {T : Type 0} → List ℕ → ℕ → ℕ → Option Blame → Option Blame → Result T Failed → Type 0
-WriteCause name faults_old faults_new blame_old blame_new (Ok _) =
-    Stays faults_old faults_new blame_old blame_new
-WriteCause name faults_old faults_new blame_old blame_new (Err _) =
-    Faults faults_old faults_new blame_new (write_of name)
+abbrev pub WriteCause : {T : Type 0} → List ℕ → StoreSight → StoreSight → Result T Failed → Type 0
+WriteCause name old new (Ok _) = Stays old new
+WriteCause name old new (Err _) = Faults old new (write_of name)
 
 -- so many first bytes of the buffer are those of the content from that offset on; there are none
 -- only at its end, past it, or in an empty buffer
@@ -62,17 +58,14 @@ IsLonger None limit = ⊥
 IsLonger (Some content) limit = limit < length content
 
 -- what each answer of the reading of a whole file means
-abbrev pub ReadsWhole : Option Files → List ℕ → ℕ → ℕ → ℕ → Option Blame → Option Blame → Result (List ℕ) GetFault → Type 0
-ReadsWhole files name limit faults_old faults_new blame_old blame_new (Ok bytes) =
-    (length bytes ≤ limit) × HoldsNow files name bytes × Stays faults_old faults_new blame_old blame_new
-ReadsWhole files name limit faults_old faults_new blame_old blame_new (Err fault.Missing) =
-    Lacks files name × Stays faults_old faults_new blame_old blame_new
-ReadsWhole files name limit faults_old faults_new blame_old blame_new (Err fault.Failed) =
-    Faults faults_old faults_new blame_new (read_of name)
-ReadsWhole files name limit faults_old faults_new blame_old blame_new (Err fault.TooLong) =
-    WhereTold files (λ told. IsLonger (told name) limit) × Stays faults_old faults_new blame_old blame_new
-ReadsWhole files name limit faults_old faults_new blame_old blame_new (Err fault.Memory) =
-    Stays faults_old faults_new blame_old blame_new
+abbrev pub ReadsWhole : List ℕ → ℕ → StoreSight → StoreSight → Result (List ℕ) GetFault → Type 0
+ReadsWhole name limit old new (Ok bytes) =
+    (length bytes ≤ limit) × HoldsNow old.files name bytes × Stays old new
+ReadsWhole name limit old new (Err fault.Missing) = Lacks old.files name × Stays old new
+ReadsWhole name limit old new (Err fault.Failed) = Faults old new (read_of name)
+ReadsWhole name limit old new (Err fault.TooLong) =
+    WhereTold old.files (λ told. IsLonger (told name) limit) × Stays old new
+ReadsWhole name limit old new (Err fault.Memory) = Stays old new
 
 -- the answer, or want of memory
 abbrev pub GivesOrMemory : Result (List ℕ) GetFault → Result (List ℕ) GetFault → Type 0
@@ -90,11 +83,11 @@ with_more None more = None
 with_more (Some before) more = Some (before ++ more)
 
 -- what an answer of a sink tells of its bytes: all were added, or some first ones
-abbrev pub Took : {T : Type 0} → Option (List ℕ) → Option (List ℕ) → List ℕ → Result T Failed → Type 0
-Took old new bytes (Ok _) = new ≡ with_more old bytes
-Took old new bytes (Err _) = (count : ℕ) × (new ≡ with_more old (take count bytes))
+abbrev pub Took : {T : Type 0} → SinkSight → SinkSight → List ℕ → Result T Failed → Type 0
+Took old new bytes (Ok _) = new.taken ≡ with_more old.taken bytes
+Took old new bytes (Err _) = (count : ℕ) × (new.taken ≡ with_more old.taken (take count bytes))
 
 -- what a put does to the count of faults
-abbrev pub PutCause : {T : Type 0} → ℕ → ℕ → Result T Failed → Type 0
-PutCause faults_old faults_new (Ok _) = faults_new ≡ faults_old
-PutCause faults_old faults_new (Err _) = Rose faults_old faults_new × (faults_old ≤ faults_new)
+abbrev pub PutCause : {T : Type 0} → SinkSight → SinkSight → Result T Failed → Type 0
+PutCause old new (Ok _) = new.faults ≡ old.faults
+PutCause old new (Err _) = Rose old.faults new.faults × (old.faults ≤ new.faults)

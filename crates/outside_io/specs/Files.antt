@@ -1,7 +1,6 @@
 -- Files: the bytes under each name. A store tells its files, or leaves them untold.
 use Rattle.std.specs.Prelude.{◌≡◌, ◌≢◌, ℕ, ◌≤◌, List, ◌++◌, length, Option, Some, None, IsSome}
 use Rattle.outside_io.specs.declared.limits.TheConstants.{MAX_NAME}
-use Rattle.outside_io.specs.Blames.{FaultsSoFar}
 
 -- the content of the file of each name, where there is one
 abbrev pub Files : Type 0
@@ -40,7 +39,3 @@ ChangesOnly None None name = Unit {0}
 ChangesOnly (Some old) (Some new) name = (other : List ℕ) → other ≢ name → new other ≡ old other
 ChangesOnly None (Some new) name = ⊥
 ChangesOnly (Some old) None name = ⊥
-
--- the files of a store that is known by its faults alone: they are left untold
-abbrev pub untold : FaultsSoFar → Option Files
-untold so_far = None

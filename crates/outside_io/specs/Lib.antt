@@ -1,8 +1,8 @@
-pub mod Limits
 pub mod Counts
 pub mod Blames
--- read these two first: what files are, and what each answer of the outside tells
+-- read these three first: what files are, what a store and a sink show, and what each answer tells
 pub mod Files
+pub mod Sights
 pub mod Causes
 pub mod MemStores
 pub mod Places

@@ -1,9 +1,10 @@
 -- Sinks in memory: the bytes so far, the room for them, the numbers of the puts that are to fail, the
 -- number of puts so far, and the faults.
-use Rattle.std.specs.Prelude.{◌≡◌, ℕ, ◌+◌, Bool, true, false, ◌||◌, List, [], ◌++◌, length, Result, Ok, Err, nat_lt}
+use Rattle.std.specs.Prelude.{◌≡◌, ℕ, ◌+◌, Bool, true, false, ◌||◌, List, [], ◌++◌, length, Some, Result, Ok, Err, nat_lt}
 use Rattle.outside_io.specs.declared.store.Failed.{Failed}
 use Rattle.outside_io.specs.Counts.{counted_on}
 use Rattle.outside_io.specs.MemStores.{is_listed}
+use Rattle.outside_io.specs.Sights.{SinkSight}
 
 -- the bytes and their room, the numbers of the puts that are to fail, the puts and the faults so far
 pub record MemSinkValue : Type 0 where
@@ -12,6 +13,10 @@ pub record MemSinkValue : Type 0 where
   pub failing : List ℕ
   pub calls : ℕ
   pub faults : ℕ
+
+-- what the sink shows: all its bytes, and the faults so far
+abbrev pub sink_seen : MemSinkValue → SinkSight
+sink_seen sink = record { taken = Some sink.bytes; faults = sink.faults }
 
 -- no bytes, no faults, and nothing that is to fail
 abbrev pub empty_sink : ℕ → MemSinkValue

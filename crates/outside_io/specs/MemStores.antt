@@ -6,9 +6,9 @@ use Rattle.outside_io.specs.declared.store.Failed.{Failed}
 use Rattle.outside_io.specs.declared.store.ReadStop.{ReadStop}
 use Rattle.outside_io.specs.declared.store.ReadStop.TheVariants as stop
 use Rattle.outside_io.specs.Blames.{Blame, read_of, write_of}
-use Rattle.outside_io.specs.Causes.{ReadCause, WriteCause}
 use Rattle.outside_io.specs.Counts.{counted_on}
 use Rattle.outside_io.specs.Files.{Files}
+use Rattle.outside_io.specs.Sights.{StoreSight}
 
 -- a name, the content of its file, where there is one, and its room in bytes
 pub record EntryValue : Type 0 where
@@ -52,6 +52,10 @@ files_of store name = file_in store.entries name
 -- what the store tells: all its files
 abbrev pub told_by : MemStoreValue → Option Files
 told_by store = Some (files_of store)
+
+-- what the store shows
+abbrev pub store_seen : MemStoreValue → StoreSight
+store_seen store = record { files = told_by store; faults = store.faults; blame = store.blame }
 
 -- the room of each name
 abbrev pub rooms_of : MemStoreValue → List ℕ → Option ℕ
@@ -108,14 +112,6 @@ after_fault store call = record store {
   faults = counted_on store.faults;
   blame = Some call;
 }
-
--- what a read does to the faults of a store
-abbrev pub MemReadCause : {T : Type 0} → List ℕ → MemStoreValue → MemStoreValue → Result T ReadStop → Type 0
-MemReadCause name old new result = ReadCause name old.faults new.faults old.blame new.blame result
-
--- what a write does to the faults of a store
-abbrev pub MemWriteCause : {T : Type 0} → List ℕ → MemStoreValue → MemStoreValue → Result T Failed → Type 0
-MemWriteCause name old new result = WriteCause name old.faults new.faults old.blame new.blame result
 
 -- what each answer to a read means; it fails where its number is listed, and nowhere else. Bytes of the
 -- content from the offset on stand at the buffer's front, and the others of the buffer stay

@@ -1,6 +1,7 @@
 ghost use Rattle.std.specs.Prelude.{◌≡◌, ◌≤◌, length};
 ghost use Rattle.outside_io.specs.Blames.{call_of, no_faults, noted};
 ghost use Rattle.outside_io.specs.Causes.{Faults};
+ghost use Rattle.outside_io.specs.Sights.{untold_files};
 
 use crate::limits::MAX_NAME;
 use arrayvec::ArrayVec;
@@ -50,7 +51,7 @@ impl FaultLog {
     pub(crate) fn note(&mut self, kind: Kind, name: &str)
         requires { length name.now ≤ MAX_NAME }
         ensures value { self.new ≡ noted self.old (call_of kind name.now) }
-        ensures cause { Faults self.old.count self.new.count self.new.last (call_of kind name.now) }
+        ensures cause { Faults (untold_files self.old) (untold_files self.new) (call_of kind name.now) }
     {
         self.count = self.count.saturating_add(1);
         self.kind = Some(kind);

@@ -1,7 +1,8 @@
 ghost use Rattle.std.specs.Prelude.{◌≡◌, ◌≤◌, [], length, IfOk, OnOk};
 ghost use Rattle.outside_io.specs.Blames.{Notes, no_faults, read_of, write_of};
 ghost use Rattle.outside_io.specs.Causes.{ReadCause, ReadGives, WriteCause};
-ghost use Rattle.outside_io.specs.Files.{Adds, ChangesOnly, HoldsNow, IsName, IsThere, untold};
+ghost use Rattle.outside_io.specs.Files.{Adds, ChangesOnly, HoldsNow, IsName, IsThere};
+ghost use Rattle.outside_io.specs.Sights.{untold_files};
 
 use crate::blame::{FaultLog, Kind};
 use crate::limits::{MAX_FILE, MAX_NAME};
@@ -53,22 +54,17 @@ impl<'a, R: Files> DirStore<'a, R> {
 }
 
 impl<'a, R: Files> Store for DirStore<'a, R> {
-    ghost use Rattle.outside_io.specs.Files.{untold};
+    ghost use Rattle.outside_io.specs.Sights.{untold_files};
 
-    ghost files = { untold };
-
-    ghost faults = { λ s. s.count };
-
-    ghost blame = { λ s. s.last };
+    ghost sight = { untold_files };
 
     fn read_at(&mut self, name: &str, at: u64, buf: &mut [u8]) -> Result<usize, ReadStop>
         requires name { IsName name.now }
         requires offset { at ≤ MAX_FILE }
-        ensures same { untold self.new ≡ untold self.old }
+        ensures same { (untold_files self.new).files ≡ (untold_files self.old).files }
         ensures bound { IfOk result (λ count. count ≤ length buf.new) }
-        ensures gives { ReadGives (untold self.old) name.now at buf.new result }
-        ensures cause { ReadCause name.now self.old.count self.new.count
-            self.old.last self.new.last result }
+        ensures gives { ReadGives (untold_files self.old).files name.now at buf.new result }
+        ensures cause { ReadCause name.now (untold_files self.old) (untold_files self.new) result }
         ensures exact { Notes (read_of name.now) self.old self.new result }
     {
         match read_from(self.rt, &mut self.opened, name, at, buf) {
@@ -83,10 +79,9 @@ impl<'a, R: Files> Store for DirStore<'a, R> {
 
     fn create(&mut self, name: &str) -> Result<(), Failed>
         requires name { IsName name.now }
-        ensures empty { OnOk result (HoldsNow (untold self.new) name.now []) }
-        ensures others { ChangesOnly (untold self.old) (untold self.new) name.now }
-        ensures cause { WriteCause name.now self.old.count self.new.count
-            self.old.last self.new.last result }
+        ensures empty { OnOk result (HoldsNow (untold_files self.new).files name.now []) }
+        ensures others { ChangesOnly (untold_files self.old).files (untold_files self.new).files name.now }
+        ensures cause { WriteCause name.now (untold_files self.old) (untold_files self.new) result }
         ensures exact { Notes (write_of name.now) self.old self.new result }
     {
         self.opened = None;
@@ -101,11 +96,10 @@ impl<'a, R: Files> Store for DirStore<'a, R> {
 
     fn append(&mut self, name: &str, bytes: &[u8]) -> Result<(), Failed>
         requires name { IsName name.now }
-        requires there { IsThere (untold self.old) name.now }
-        ensures added { OnOk result (Adds (untold self.old) (untold self.new) name.now bytes.now) }
-        ensures others { ChangesOnly (untold self.old) (untold self.new) name.now }
-        ensures cause { WriteCause name.now self.old.count self.new.count
-            self.old.last self.new.last result }
+        requires there { IsThere (untold_files self.old).files name.now }
+        ensures added { OnOk result (Adds (untold_files self.old).files (untold_files self.new).files name.now bytes.now) }
+        ensures others { ChangesOnly (untold_files self.old).files (untold_files self.new).files name.now }
+        ensures cause { WriteCause name.now (untold_files self.old) (untold_files self.new) result }
         ensures exact { Notes (write_of name.now) self.old self.new result }
     {
         self.opened = None;

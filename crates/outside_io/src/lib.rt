@@ -6,7 +6,6 @@ mod blame;
 mod dir_store;
 mod entries;
 mod entry;
-mod laws;
 mod limits;
 mod mem_sink;
 mod mem_store;
@@ -20,7 +19,6 @@ mod writing;
 
 pub use blame::Kind;
 pub use dir_store::DirStore;
-pub use laws::the_limits_of_files;
 pub use limits::{MAX_FILE, MAX_NAME};
 pub use mem_sink::MemSink;
 pub use mem_store::MemStore;

@@ -1,7 +1,7 @@
-ghost use Rattle.std.specs.Prelude.{◌≡◌, ◌∷◌, ◌++◌, [], OnOk, OnErr, IfOk, Some};
+ghost use Rattle.std.specs.Prelude.{◌≡◌, ◌∷◌, ◌++◌, [], OnOk, OnErr, IfOk};
 ghost use Rattle.outside_io.specs.Causes.{PutCause, Took};
 ghost use Rattle.outside_io.specs.Counts.{counted_on};
-ghost use Rattle.outside_io.specs.MemSinks.{MemPuts, empty_sink, refuses};
+ghost use Rattle.outside_io.specs.MemSinks.{MemPuts, empty_sink, refuses, sink_seen};
 
 use crate::sink::Sink;
 use crate::store::Failed;
@@ -79,14 +79,14 @@ impl MemSink {
 }
 
 impl Sink for MemSink {
-    ghost taken = { λ s. Some s.bytes };
+    ghost use Rattle.outside_io.specs.MemSinks.{sink_seen};
 
-    ghost faults = { λ s. s.faults };
+    ghost sight = { sink_seen };
 
     /// Adds the bytes, which takes no memory.
     fn put(&mut self, bytes: &[u8]) -> Result<(), Failed>
-        ensures took { Took (Some self.old.bytes) (Some self.new.bytes) bytes.now result }
-        ensures cause { PutCause self.old.faults self.new.faults result }
+        ensures took { Took (sink_seen self.old) (sink_seen self.new) bytes.now result }
+        ensures cause { PutCause (sink_seen self.old) (sink_seen self.new) result }
         ensures exact { MemPuts self.old self.new bytes.now result }
     {
         if self.begins_to_refuse(bytes) {

@@ -1,8 +1,8 @@
 ghost use Rattle.std.specs.Prelude.{◌≡◌, ℕ, ◌≤◌, List, [], ◌∷◌, ◌++◌, length, IfOk, IfSome, IfNone, OnOk, OnErr, min, take, drop};
-ghost use Rattle.outside_io.specs.Causes.{ReadGives};
+ghost use Rattle.outside_io.specs.Causes.{ReadCause, ReadGives, WriteCause};
 ghost use Rattle.outside_io.specs.Counts.{counted_on};
 ghost use Rattle.outside_io.specs.Files.{Adds, ChangesOnly, HoldsNow, IsName, IsThere};
-ghost use Rattle.outside_io.specs.MemStores.{MemAppends, MemCreates, MemReadCause, MemReads, MemWriteCause, empty_store, file_set, files_of, is_listed, room_raised, told_by};
+ghost use Rattle.outside_io.specs.MemStores.{MemAppends, MemCreates, MemReads, empty_store, file_set, files_of, is_listed, room_raised, store_seen, told_by};
 
 use crate::blame::{FaultLog, Kind};
 use crate::entries::{add_to_file, content_of, make_file, raise_room, set_file};
@@ -108,22 +108,18 @@ impl MemStore {
 }
 
 impl Store for MemStore {
-    ghost use Rattle.outside_io.specs.MemStores.{told_by};
+    ghost use Rattle.outside_io.specs.MemStores.{store_seen};
 
-    ghost files = { told_by };
-
-    ghost faults = { λ s. s.faults };
-
-    ghost blame = { λ s. s.blame };
+    ghost sight = { store_seen };
 
     /// Reads as many bytes as the buffer holds or the file has left, whichever is less.
     fn read_at(&mut self, name: &str, at: u64, buf: &mut [u8]) -> Result<usize, ReadStop>
         requires name { IsName name.now }
         requires offset { at ≤ MAX_FILE }
-        ensures same { told_by self.new ≡ told_by self.old }
+        ensures same { (store_seen self.new).files ≡ (store_seen self.old).files }
         ensures bound { IfOk result (λ count. count ≤ length buf.new) }
-        ensures gives { ReadGives (told_by self.old) name.now at buf.new result }
-        ensures cause { MemReadCause name.now self.old self.new result }
+        ensures gives { ReadGives (store_seen self.old).files name.now at buf.new result }
+        ensures cause { ReadCause name.now (store_seen self.old) (store_seen self.new) result }
         ensures exact { MemReads self.old self.new name.now at buf.old buf.new result }
     {
         if self.begins_to_fail() {
@@ -139,9 +135,9 @@ impl Store for MemStore {
     /// Makes the file empty, where the name has room.
     fn create(&mut self, name: &str) -> Result<(), Failed>
         requires name { IsName name.now }
-        ensures empty { OnOk result (HoldsNow (told_by self.new) name.now []) }
-        ensures others { ChangesOnly (told_by self.old) (told_by self.new) name.now }
-        ensures cause { MemWriteCause name.now self.old self.new result }
+        ensures empty { OnOk result (HoldsNow (store_seen self.new).files name.now []) }
+        ensures others { ChangesOnly (store_seen self.old).files (store_seen self.new).files name.now }
+        ensures cause { WriteCause name.now (store_seen self.old) (store_seen self.new) result }
         ensures exact { MemCreates self.old self.new name.now result }
     {
         if self.begins_to_fail() || !make_file(&mut self.entries, name.as_bytes()) {
@@ -154,10 +150,10 @@ impl Store for MemStore {
     /// Adds the bytes, where they fit into the room of the name.
     fn append(&mut self, name: &str, bytes: &[u8]) -> Result<(), Failed>
         requires name { IsName name.now }
-        requires there { IsThere (told_by self.old) name.now }
-        ensures added { OnOk result (Adds (told_by self.old) (told_by self.new) name.now bytes.now) }
-        ensures others { ChangesOnly (told_by self.old) (told_by self.new) name.now }
-        ensures cause { MemWriteCause name.now self.old self.new result }
+        requires there { IsThere (store_seen self.old).files name.now }
+        ensures added { OnOk result (Adds (store_seen self.old).files (store_seen self.new).files name.now bytes.now) }
+        ensures others { ChangesOnly (store_seen self.old).files (store_seen self.new).files name.now }
+        ensures cause { WriteCause name.now (store_seen self.old) (store_seen self.new) result }
         ensures exact { MemAppends self.old self.new name.now bytes.now result }
     {
         if self.begins_to_fail() || !add_to_file(&mut self.entries, name.as_bytes(), bytes) {

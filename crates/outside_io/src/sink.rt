@@ -1,18 +1,16 @@
-ghost use Rattle.std.specs.Prelude.{ℕ, List, Option};
 ghost use Rattle.outside_io.specs.Causes.{PutCause, Took};
+ghost use Rattle.outside_io.specs.Sights.{SinkSight};
 
 use crate::store::Failed;
 
 /// What the program's bytes go to.
 pub trait Sink {
-    /// The bytes taken so far, where the sink tells them.
-    ghost taken: { Self → Option (List ℕ) };
-
-    /// How often puts have failed, up to the greatest 64-bit number.
-    ghost faults: { Self → ℕ };
+    /// What the sink shows of itself: the bytes taken so far, where it tells them, and how often puts
+    /// have failed, up to the greatest 64-bit number.
+    ghost sight: { Self → SinkSight };
 
     /// Adds all the bytes. Where it fails, some first ones were added.
     fn put(&mut self, bytes: &[u8]) -> Result<(), Failed>
-        ensures took { Took (taken self.old) (taken self.new) bytes.now result }
-        ensures cause { PutCause (faults self.old) (faults self.new) result };
+        ensures took { Took (sight self.old) (sight self.new) bytes.now result }
+        ensures cause { PutCause (sight self.old) (sight self.new) result };
 }

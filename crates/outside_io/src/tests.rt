@@ -10,10 +10,20 @@ const FOLDER: &str = "outside_io_test";
 
 const NAME: &str = "outside_io_test/a";
 
+const TWO_FOLDER: &str = "outside_io_two";
+
+const FIRST: &str = "outside_io_two/a";
+
+const SECOND: &str = "outside_io_two/b";
+
 /// Bytes that differ from their neighbours, and whose order shows over more than one read.
 fn pattern(alloc: Global, count: usize) -> Result<Vec<u8>, AllocError> {
+    pattern_from(alloc, 0, count)
+}
+
+fn pattern_from(alloc: Global, start: usize, end: usize) -> Result<Vec<u8>, AllocError> {
     let mut bytes = Vec::new(alloc);
-    for place in 0..count {
+    for place in start..end {
         bytes.push((place % 251) as u8)?;
     }
     Ok(bytes)
@@ -156,6 +166,72 @@ fn real_files_that_are_missing_are_faults(rt: HostRuntime) -> Result<(), Fail> {
     assert_eq!(rt; got, Some(GetFault::Failed));
     assert_eq!(rt; store.append(name, b"x"), Err(Failed));
     assert_eq!(rt; store.create(name), Err(Failed));
+    Ok(())
+}
+
+#[test]
+fn a_real_fault_is_told_as_one(rt: HostRuntime) -> Result<(), Fail> {
+    let mut store = DirStore::new(&rt);
+    assert_eq!(rt; store.append("/dev/full", b"x"), Err(Failed));
+    assert_eq!(rt; store.append("/", b"x"), Err(Failed));
+    assert_eq!(rt; store.create("/"), Err(Failed));
+    let mut buffer = [7u8; 2];
+    assert_eq!(rt; store.read_at("/", 0, &mut buffer), Err(ReadStop::Failed));
+    let got = read_whole(rt.alloc(), &mut store, "/", 9).err();
+    assert_eq!(rt; got, Some(GetFault::Failed));
+    assert_eq!(rt; store.append("/dev/null", b"x"), Ok(()));
+    assert_eq!(rt; store.read_at("/dev/null", 0, &mut buffer), Ok(0));
+    Ok(())
+}
+
+#[test]
+fn two_real_files_are_read_in_turn(rt: HostRuntime) -> Result<(), Fail> {
+    let _ = fs::remove_dir_all(&rt, TWO_FOLDER);
+    fs::create_dir(&rt, TWO_FOLDER)?;
+    let mut store = DirStore::new(&rt);
+    assert_eq!(rt; store.create(FIRST), Ok(()));
+    assert_eq!(rt; store.create(SECOND), Ok(()));
+    let bytes = pattern(rt.alloc(), 60_000)?;
+    assert_eq!(rt; store.append(FIRST, bytes.as_slice()), Ok(()));
+    let bytes = pattern_from(rt.alloc(), 100, 60_000)?;
+    assert_eq!(rt; store.append(SECOND, bytes.as_slice()), Ok(()));
+    let mut buffer = [0u8; 2];
+    assert_eq!(rt; store.read_at(FIRST, 0, &mut buffer), Ok(2));
+    assert_eq!(rt; buffer, [0, 1]);
+    assert_eq!(rt; store.read_at(SECOND, 2, &mut buffer), Ok(2));
+    assert_eq!(rt; buffer, [102, 103]);
+    assert_eq!(rt; store.read_at(FIRST, 4, &mut buffer), Ok(2));
+    assert_eq!(rt; buffer, [4, 5]);
+    assert_eq!(rt; store.read_at(FIRST, 8, &mut buffer), Ok(2));
+    assert_eq!(rt; buffer, [8, 9]);
+    assert_eq!(rt; store.read_at(SECOND, 59_899, &mut buffer), Ok(1));
+    assert_eq!(rt; store.read_at(SECOND, 59_900, &mut buffer), Ok(0));
+    assert_eq!(rt; store.read_at(FIRST, 59_900, &mut buffer), Ok(2));
+    fs::remove_dir_all(&rt, TWO_FOLDER)?;
+    Ok(())
+}
+
+#[test]
+fn a_store_and_a_sink_take_as_much_as_a_real_file(rt: HostRuntime) -> Result<(), Fail> {
+    let bytes = pattern(rt.alloc(), 150_000)?;
+    let mut store = MemStore::new(rt.alloc());
+    store.put_file("x", b"other")?;
+    store.put_file("y", bytes.as_slice())?;
+    store.prepare("y", 300_000)?;
+    assert_eq!(rt; store.append("y", bytes.as_slice()), Ok(()));
+    match read_whole(rt.alloc(), &mut store, "y", 300_000) {
+        Ok(whole) => {
+            assert_eq!(rt; whole.len(), 300_000);
+            assert_eq!(rt; whole.as_slice().get(299_999), Some(&152));
+        }
+        Err(fault) => panic!(rt; "{fault:?}"),
+    }
+    let mut sink = MemSink::new(rt.alloc(), 200_000)?;
+    let piece = pattern(rt.alloc(), 1_000)?;
+    for _ in 0..200 {
+        assert_eq!(rt; sink.put(piece.as_slice()), Ok(()));
+    }
+    assert_eq!(rt; sink.taken().len(), 200_000);
     Ok(())
 }
 

@@ -44,12 +44,11 @@ pub fn read_whole<S: Store>(
 ) -> Result<Bytes, GetFault>
     requires name { IsName name.now }
     requires limit { limit ≤ MAX_FILE }
-    ensures reads { ReadsWhole (S.files store.old) name.now limit (S.faults store.old) (S.faults store.new)
-        (S.blame store.old) (S.blame store.new) result }
-    ensures same { S.files store.new ≡ S.files store.old }
+    ensures reads { ReadsWhole name.now limit (S.sight store.old) (S.sight store.new) result }
+    ensures same { (S.sight store.new).files ≡ (S.sight store.old).files }
     // Where no count rises, the file decides, or want of memory comes.
-    ensures decided { IsQuiet (S.faults store.old) (S.faults store.new) →
-        WhereTold (S.files store.old) (λ told. GivesOrMemory (whole_answer (told name.now) limit) result) }
+    ensures decided { IsQuiet (S.sight store.old).faults (S.sight store.new).faults →
+        WhereTold (S.sight store.old).files (λ told. GivesOrMemory (whole_answer (told name.now) limit) result) }
 {
     read_in_order(alloc, store, name, limit)
 }
@@ -62,9 +61,8 @@ fn read_in_order<S: Store>(
 ) -> Result<Bytes, GetFault>
     requires name { IsName name.now }
     requires limit { limit ≤ MAX_FILE }
-    ensures reads { ReadsWhole (S.files store.old) name.now limit (S.faults store.old) (S.faults store.new)
-        (S.blame store.old) (S.blame store.new) result }
-    ensures same { S.files store.new ≡ S.files store.old }
+    ensures reads { ReadsWhole name.now limit (S.sight store.old) (S.sight store.new) result }
+    ensures same { (S.sight store.new).files ≡ (S.sight store.old).files }
 {
     let mut bytes = Bytes::new(alloc);
     let mut buffer = [0u8; READ_SIZE];

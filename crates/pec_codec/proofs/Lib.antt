@@ -3,6 +3,7 @@ mod CoordinateFacts
 pub mod ExtentLemmas
 pub mod HeaderLemmas
 pub mod LabelLemmas
+mod LimitFacts
 pub mod ReadingLemmas
 mod RecordFacts
 pub mod RecordLemmas

@@ -23,6 +23,11 @@ pub known_marks : pec_records 0 (0xA0 ∷ 0x01 ∷ 0x02 ∷ 0xA0 ∷ 0x01 ∷ 0x
     ≡ next 0 (TrimmedJump (point (pos 1) (pos 2))) (next 3 (Jump (point (pos 1) (pos 2))) (over true))
 known_marks = refl
 
+-- a mark of the second coordinate counts as one of the first does
+pub known_second_mark : pec_records 0 (0x02 ∷ 0xA0 ∷ 0x01 ∷ 0x02 ∷ 0x90 ∷ 0x01 ∷ 0xFF ∷ [])
+    ≡ next 0 (TrimmedJump (point (pos 2) (pos 1))) (next 3 (Jump (point (pos 2) (pos 1))) (over true))
+known_second_mark = refl
+
 -- the third byte of a stop is not looked at
 pub known_stop : pec_records 0 (0xFE ∷ 0xB0 ∷ 0xFF ∷ 0xFF ∷ []) ≡ next 0 Stop (over true)
 known_stop = refl

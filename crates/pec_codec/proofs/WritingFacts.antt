@@ -47,6 +47,15 @@ known_blocks_body = refl
 pub known_blocks_distance : distance_over (body_of blocks) ≡ 0x23
 known_blocks_distance = refl
 
+-- from -5 to 7 the width is 12, and from -6 to 300 the height is 306
+pub known_other_sizes : size_fields (extent_of (sewn (Stitch (point (negsuc 4) (pos 300)) ∷ Stitch (point (pos 7) (negsuc 5)) ∷ [])))
+    ≡ 0x0C ∷ 0x00 ∷ 0x32 ∷ 0x01 ∷ 0xE0 ∷ 0x01 ∷ 0xB0 ∷ 0x01 ∷ []
+known_other_sizes = refl
+
+-- the distance has its low byte first
+pub known_long_distance : distance_field 197121 ≡ 0x00 ∷ 0x00 ∷ 0x01 ∷ 0x02 ∷ 0x03 ∷ 0x31 ∷ 0xFF ∷ 0xF0 ∷ []
+known_long_distance = refl
+
 -- the number of blocks less one, and the thread of each
 pub known_labels : labels_of (record { label = codes "Rose"; threads = 22 ∷ 5 ∷ []; commands = [] }) 2
     ≡ codes "LA:Rose            " ++ 13 ∷ codes "            " ++ 0xFF ∷ 0x00 ∷ 0x06 ∷ 0x26 ∷ codes "            "

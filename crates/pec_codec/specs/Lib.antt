@@ -1,4 +1,3 @@
-pub mod Limits
 pub mod Coordinates
 pub mod Spelling
 pub mod Records

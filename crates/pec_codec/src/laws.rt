@@ -1,5 +1,4 @@
 ghost use Rattle.pec_codec.specs.Laws.{BlocksKeepLaws};
-ghost use Rattle.pec_codec.specs.Limits.{BlockLimits};
 
 use format_traits::{
     an_accepted_design_is_small, codecs_keep_the_laws, label_fields_read_back,
@@ -17,8 +16,3 @@ pub fn blocks_read_back()
     codecs_keep_the_laws();
     label_fields_read_back();
 }
-
-/// The limits of blocks are these numbers.
-pub fn the_limits_of_blocks()
-    ensures { BlockLimits }
-{}

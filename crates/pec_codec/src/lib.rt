@@ -15,6 +15,6 @@ mod tests;
 mod writing;
 
 pub use block::{HEADER_LENGTH, LABELS_LENGTH, LIMIT, MAX_STOPS, THUMBNAIL_LENGTH};
-pub use laws::{blocks_read_back, the_limits_of_blocks};
+pub use laws::blocks_read_back;
 pub use reading::read_block;
 pub use writing::write_block;

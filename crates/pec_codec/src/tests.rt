@@ -1,5 +1,5 @@
 use crate::{read_block, write_block};
-use design_model::{Command, Design, ModelFault, Point};
+use design_model::{Command, Design, ModelFault, Point, counts};
 use format_traits::{ReadFault, WriteFault};
 use std::alloc::{AllocError, Global};
 use std::test::Fail;
@@ -102,5 +102,44 @@ fn a_design_of_255_stops_is_refused_at_the_last(rt: HostRuntime) -> Result<(), F
         write_block(alloc, &design).err(),
         Some(WriteFault::TooManyStops { number: 255 })
     );
+    Ok(())
+}
+
+/// A design as large as a real one: a label, three threads, and 10,000 commands in four blocks, with
+/// loose needles, floats and trims.
+fn large(alloc: Global) -> Result<Design, ModelFault> {
+    let mut design = Design::new(alloc);
+    design.set_label(b"Rose of Damascus");
+    design.push_thread(9);
+    design.push_thread(200);
+    design.push_thread(64);
+    for round in 0..2_500u32 {
+        let x = (round % 100) as i32;
+        design.push(Command::Stitch(Point { x, y: 7 }))?;
+        design.push(Command::Jump(Point { x, y: 50 }))?;
+        design.push(Command::Stitch(Point { x, y: 60 }))?;
+        let last = if round % 700 == 699 {
+            Command::Stop
+        } else {
+            Command::Trim
+        };
+        design.push(last)?;
+    }
+    Ok(design)
+}
+
+#[test]
+fn a_large_design_reads_again(rt: HostRuntime) -> Result<(), Fail> {
+    let alloc = rt.alloc();
+    let design = large(alloc)?;
+    let block = write_block(alloc, &design).ok().ok_or("not written")?;
+    let loaded = read_block(alloc, block.as_slice(), 0)
+        .ok()
+        .ok_or("not read")?;
+    assert_eq!(rt; loaded.ended, true);
+    assert_eq!(rt; loaded.design.label(), b"Rose of Damascus".as_slice());
+    assert_eq!(rt; loaded.design.threads(), [9, 200, 64, 4].as_slice());
+    let all = counts(&loaded.design);
+    assert_eq!(rt; [all.needles, all.trims, all.stops], [5_000, 2_497, 3]);
     Ok(())
 }

@@ -4,7 +4,8 @@ use Rattle.design_model.specs.declared.command.Command.TheVariants.{Stitch}
 use Rattle.design_model.specs.Designs.{DesignValue}
 use Rattle.design_model.specs.Points.{origin}
 use Rattle.format_traits.specs.declared.fault.ReadFault.TheVariants as fault
-use Rattle.pes_codec.specs.Files.{block_offset, pes_front}
+use Rattle.pes_codec.specs.declared.front.TheConstants.{OFFSET_END, PEC_BLOCK}
+use Rattle.pes_codec.specs.Files.{block_offset, pec_front, pes_front}
 use Rattle.pes_codec.specs.Reading.{pec_reads, pes_reads}
 use Rattle.pes_codec.specs.Writing.{pec_writes, pes_writes}
 
@@ -21,6 +22,39 @@ known_pec_length = refl
 
 pub known_pes_length : IsOkAnd (pes_writes stitch) (λ bytes. length bytes ≡ 1009)
 known_pes_length = refl
+
+pub known_pec_front : pec_front ≡ 0x23 ∷ 0x50 ∷ 0x45 ∷ 0x43 ∷ 0x30 ∷ 0x30 ∷ 0x30 ∷ 0x31 ∷ []
+known_pec_front = refl
+
+-- where the block of a PEC file stands, and where the offset of a PES file ends
+pub known_block : PEC_BLOCK ≡ 8
+known_block = refl
+
+pub known_offset_end : OFFSET_END ≡ 12
+known_offset_end = refl
+
+-- the four bytes behind a signature are not looked at, whatever they are
+pub known_pec_version : pec_reads (codes "#PECxyz!") ≡ Err (fault.Short 8)
+known_pec_version = refl
+
+pub known_pec_alone : pec_reads (codes "#PEC") ≡ Err (fault.Short 4)
+known_pec_alone = refl
+
+pub known_pes_version : pes_reads (codes "#PESxyz!" ++ 0xFF ∷ 0x00 ∷ 0x00 ∷ 0x00 ∷ []) ≡ Err (fault.Short 12)
+known_pes_version = refl
+
+pub known_pes_alone : pes_reads (codes "#PES") ≡ Err (fault.Short 4)
+known_pes_alone = refl
+
+-- neither signature stands for the other, nor do small letters
+pub known_pes_as_pec : pec_reads (codes "#PES0001") ≡ Err (fault.Signature 0)
+known_pes_as_pec = refl
+
+pub known_pec_as_pes : pes_reads (codes "#PEC0001") ≡ Err (fault.Signature 0)
+known_pec_as_pes = refl
+
+pub known_small : pes_reads (codes "#pes0001") ≡ Err (fault.Signature 0)
+known_small = refl
 
 -- the offset is a word of 32 bits, the low byte first
 pub known_offset : block_offset (codes "#PES0060" ++ 0x01 ∷ 0x02 ∷ 0x03 ∷ 0x80 ∷ []) ≡ 2147680769

@@ -1,5 +1,5 @@
 use crate::{Pec, Pes};
-use design_model::{Command, Design, ModelFault, Point};
+use design_model::{Command, Design, ModelFault, Point, counts};
 use format_traits::{Format, ReadFault};
 use std::alloc::Global;
 use std::test::Fail;
@@ -104,5 +104,61 @@ fn a_block_may_begin_in_the_front_of_its_file(rt: HostRuntime) -> Result<(), Fai
     assert_eq!(rt; loaded.design.threads(), [32; 33].as_slice());
     assert_eq!(rt; loaded.design.label(), [].as_slice());
     assert_eq!(rt; loaded.ended, true);
+    Ok(())
+}
+
+/// A design as large as a real one: a label, three threads, and 10,000 commands in four blocks, with
+/// loose needles, floats and trims.
+fn large(alloc: Global) -> Result<Design, ModelFault> {
+    let mut design = Design::new(alloc);
+    design.set_label(b"Rose of Damascus");
+    design.push_thread(9);
+    design.push_thread(200);
+    design.push_thread(64);
+    for round in 0..2_500u32 {
+        let x = (round % 100) as i32;
+        design.push(Command::Stitch(Point { x, y: 7 }))?;
+        design.push(Command::Jump(Point { x, y: 50 }))?;
+        design.push(Command::Stitch(Point { x, y: 60 }))?;
+        let last = if round % 700 == 699 {
+            Command::Stop
+        } else {
+            Command::Trim
+        };
+        design.push(last)?;
+    }
+    Ok(design)
+}
+
+#[test]
+fn a_large_design_reads_again_at_any_offset(rt: HostRuntime) -> Result<(), Fail> {
+    let alloc = rt.alloc();
+    let design = large(alloc)?;
+    let pes = Pes.encode(alloc, &design).ok().ok_or("not written")?;
+    let pec = Pec.encode(alloc, &design).ok().ok_or("not written")?;
+    let block = pec.as_slice().get(8..).ok_or("no block")?;
+    let mut moved = Vec::new(alloc);
+    moved.extend_from_slice(b"#PES0060\x04\x03\x00\x00")?;
+    for _ in 0..760 {
+        moved.push(0xFF)?;
+    }
+    moved.extend_from_slice(block)?;
+    let mut other = Vec::new(alloc);
+    other.extend_from_slice(b"#PEC____")?;
+    other.extend_from_slice(block)?;
+    for loaded in [
+        Pes.decode(alloc, pes.as_slice()).ok().ok_or("not read")?,
+        Pec.decode(alloc, pec.as_slice()).ok().ok_or("not read")?,
+        Pes.decode(alloc, &moved).ok().ok_or("not read elsewhere")?,
+        Pec.decode(alloc, &other)
+            .ok()
+            .ok_or("not read by another version")?,
+    ] {
+        assert_eq!(rt; loaded.ended, true);
+        assert_eq!(rt; loaded.design.label(), b"Rose of Damascus".as_slice());
+        assert_eq!(rt; loaded.design.threads(), [9, 200, 64, 4].as_slice());
+        let all = counts(&loaded.design);
+        assert_eq!(rt; [all.needles, all.trims, all.stops], [5_000, 2_497, 3]);
+    }
     Ok(())
 }

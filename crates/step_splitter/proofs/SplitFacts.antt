@@ -2,6 +2,7 @@
 use Rattle.std.proofs.Common.{◌≡◌, ℤ, pos, negsuc, [], ◌∷◌, refl}
 use Rattle.design_model.specs.declared.point.Point.{Point}
 use Rattle.design_model.specs.Points.{origin}
+use Rattle.step_splitter.specs.declared.segment.TheConstants.{MAX_STEP}
 use Rattle.step_splitter.specs.Steps.{floor_quotient, split_points, steps_of}
 
 -- the point at those numbers
@@ -14,6 +15,19 @@ known_floor = refl
 
 pub known_floor_whole : floor_quotient (negsuc 5) 3 ≡ negsuc 1
 known_floor_whole = refl
+
+-- the greatest of the longest steps that may be asked for, in tenths of a millimetre
+pub known_most : MAX_STEP ≡ 2047
+known_most = refl
+
+-- the larger axis counts, in either direction
+pub known_steps_down : steps_of (at (pos 5) (pos 100)) (at (negsuc 4) (negsuc 0)) 30 ≡ 4
+known_steps_down = refl
+
+-- from (10, -10) by (6, -9) in two steps: 3 and 6, and half of -9 is rounded to -5
+pub known_moved_split : split_points (at (pos 10) (negsuc 9)) (at (pos 16) (negsuc 18)) 5
+    ≡ at (pos 13) (negsuc 14) ∷ at (pos 16) (negsuc 18) ∷ []
+known_moved_split = refl
 
 -- a move of 30 is one step of at most 30, and a move of 31 is two
 pub known_one_step : steps_of origin (at (pos 30) (pos 0)) 30 ≡ 1

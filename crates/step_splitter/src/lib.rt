@@ -10,6 +10,6 @@ mod segment;
 mod tests;
 mod way;
 
-pub use laws::{split_points_lead, the_limit_of_steps};
+pub use laws::split_points_lead;
 pub use refitting::{RefitFault, RefitMode, refit};
 pub use segment::{MAX_STEP, split, steps};

@@ -1,5 +1,7 @@
 use crate::{MAX_STEP, RefitFault, RefitMode, refit, split, steps};
-use design_model::{Command, Design, MAX_COMMANDS, ModelFault, NEEDLE_LIMIT, Point, Points};
+use design_model::{
+    Command, Design, MAX_COMMANDS, ModelFault, NEEDLE_LIMIT, Point, Points, counts,
+};
 use std::alloc::Global;
 use std::test::Fail;
 
@@ -164,5 +166,46 @@ fn a_refit_stops_at_the_act_with_a_command_too_many(rt: HostRuntime) -> Result<(
     design.push(stitch(31, 0))?;
     let fault = refit(rt.alloc(), &design, 10, RefitMode::Split).err();
     assert_eq!(rt; fault, Some(RefitFault::TooMany { number: 1_000_000 }));
+    Ok(())
+}
+
+/// A label, a thread, and 10,000 commands: needles, floats of 150 and trims, or stops at three places.
+fn large(alloc: Global) -> Result<Design, ModelFault> {
+    let mut design = Design::new(alloc);
+    design.set_label(b"Rose of Damascus");
+    design.push_thread(9);
+    for round in 0..2_500u32 {
+        let x = (round % 100) as i32;
+        design.push(stitch(x, 0))?;
+        design.push(stitch(x, 100))?;
+        design.push(if round % 2 == 0 {
+            jump(x, 5)
+        } else {
+            stitch(x, 30)
+        })?;
+        design.push(if round % 700 == 699 {
+            Command::Stop
+        } else {
+            stitch(x, 60)
+        })?;
+    }
+    Ok(design)
+}
+
+#[test]
+fn a_large_design_is_split_and_cut(rt: HostRuntime) -> Result<(), Fail> {
+    let design = large(rt.alloc())?;
+    let split = refit(rt.alloc(), &design, 50, RefitMode::Split)
+        .ok()
+        .ok_or("no memory")?;
+    let all = counts(&split);
+    assert_eq!(rt; [all.needles, all.trims, all.stops], [14_993, 0, 3]);
+    let cut = refit(rt.alloc(), &split, 50, RefitMode::Cut)
+        .ok()
+        .ok_or("no memory")?;
+    let all = counts(&cut);
+    assert_eq!(rt; [all.needles, all.trims, all.stops], [14_993, 1_250, 3]);
+    assert_eq!(rt; cut.label(), b"Rose of Damascus".as_slice());
+    assert_eq!(rt; cut.threads(), [9].as_slice());
     Ok(())
 }

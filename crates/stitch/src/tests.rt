@@ -1,47 +1,40 @@
-use dst_codec::Dst;
-use exp_codec::Exp;
-use format_traits::Format;
-use outside_io::{MemSink, MemStore};
-use pes_codec::{Pec, Pes};
-use std::test::Fail;
-use stitch_cli::{Status, run};
+/// A DST file of these records behind any header; spaces are put.
+macro_rules! records {
+    ($bytes:expr) => {
+        Holds::Behind(b"", 512, 1, $bytes)
+    };
+}
 
-mod rewriting;
-mod routing;
-mod showing;
+/// A step that is done, and prints and writes this.
+macro_rules! done {
+    ($words:expr, $out:expr, $after:expr $(,)?) => {
+        Step {
+            words: $words,
+            status: Status::Done,
+            out: $out,
+            err: "",
+            after: $after,
+        }
+    };
+}
+
+/// A step that is refused, says why, and writes nothing.
+macro_rules! refused {
+    ($words:expr, $err:expr $(,)?) => {
+        Step {
+            words: $words,
+            status: Status::Refused,
+            out: "",
+            err: $err,
+            after: &[],
+        }
+    };
+}
+
+mod checks;
+mod files;
+mod outside;
+mod rewrites;
+mod routes;
+mod rows;
 mod words;
-
-/// The status of the program over its four formats.
-pub fn answer(
-    rt: &HostRuntime,
-    words: &[&str],
-    store: &mut MemStore,
-    out: &mut MemSink,
-    err: &mut MemSink,
-) -> Result<Status, Fail> {
-    let alloc = rt.alloc();
-    let mut owned = Vec::new(alloc);
-    for word in words {
-        owned.push(String::from_str(alloc, word)?)?;
-    }
-    let mut formats: Vec<Box<dyn Format>> = Vec::new(alloc);
-    formats.push(Box::new(alloc, Dst)?)?;
-    formats.push(Box::new(alloc, Exp)?)?;
-    formats.push(Box::new(alloc, Pec)?)?;
-    formats.push(Box::new(alloc, Pes)?)?;
-    Ok(run(alloc, &owned, &formats, store, out, err))
-}
-
-#[test]
-fn each_status_has_its_number(rt: HostRuntime) {
-    let statuses = [
-        Status::Done,
-        Status::Refused,
-        Status::Usage,
-        Status::Fault,
-        Status::Memory,
-    ];
-    for (number, status) in statuses.into_iter().enumerate() {
-        assert_eq!(rt; status as usize, number, "{status:?}");
-    }
-}

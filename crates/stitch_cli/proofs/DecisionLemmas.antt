@@ -1,24 +1,40 @@
 -- Where no count of faults rises, the words and the files decide.
-use Rattle.std.proofs.Common.{◌≡◌, ℕ, Bool, true, false, ◌≤◌, ◌⊎◌, inl, inr, List, Option, Some, None, Ok, Err, Result, IsSome, length, ap, refl, subst, arith}
+use Rattle.std.proofs.Common.{◌≡◌, ℕ, Bool, true, false, ◌≤◌, ◌⊎◌, inl, inr, List, Option, Some, None, Ok, Err, Result, IsSome, length, ap, refl, subst, sym, ◌∙◌, arith}
+use Rattle.std.specs.Prelude.{nat_lt}
+use Rattle.cut_certificate.specs.declared.certificate.PieceCert.{PieceCert}
+use Rattle.cut_certificate.specs.ReadCertificates.{cert_of}
+use Rattle.design_model.specs.Designs.{DesignValue}
+use Rattle.drawing_text.specs.declared.draw_fault.DrawFault.{DrawFault}
+use Rattle.drawing_text.specs.DrawingText.{drawing_of}
+use Rattle.format_traits.specs.declared.fault.ReadFault.{ReadFault}
+use Rattle.format_traits.specs.declared.loaded.Loaded.{Loaded}
+use Rattle.hoop_check.specs.declared.fitting.Fit.{Fit}
+use Rattle.hoop_check.specs.declared.fitting.Fit.TheVariants as fit
+use Rattle.hoop_check.specs.Fits.{fit_of}
 use Rattle.line_graph.specs.Drawings.{DrawingValue}
-use Rattle.line_graph.specs.declared.draw_fault.DrawFault.{DrawFault}
-use Rattle.line_graph.specs.Pieces.{are_loops}
+use Rattle.line_graph.specs.OnePieces.{PiecesAreOne}
 use Rattle.outside_io.specs.Causes.{IsLonger}
 use Rattle.outside_io.specs.Counts.{IsQuiet, Rose}
-use Rattle.outside_io.specs.Files.{Files, HoldsNow, Lacks, WhereTold}
+use Rattle.outside_io.specs.Files.{Files, HoldsNow, Lacks}
 use Rattle.outside_io.specs.declared.limits.TheConstants.{MAX_FILE}
+use Rattle.route_core.specs.declared.verdict.Verdict.TheVariants as verdict
+use Rattle.route_core.specs.Verdicts.{verdict_of}
+use Rattle.stitch_cli.specs.declared.halt.Halt.{Halt}
+use Rattle.stitch_cli.specs.declared.halt.Halt.TheVariants as halt
 use Rattle.stitch_cli.specs.declared.status.Status.{Status}
 use Rattle.stitch_cli.specs.declared.status.Status.TheVariants as status
-use Rattle.stitch_cli.specs.declared.stop.Refusal.{Refusal}
-use Rattle.stitch_cli.specs.declared.stop.Refusal.TheVariants as refusal
-use Rattle.stitch_cli.specs.declared.stop.Stop.{Stop}
-use Rattle.stitch_cli.specs.declared.stop.Stop.TheVariants as stop
-use Rattle.stitch_cli.specs.Endings.{Ends, OrderEnds, Stops, all, but_report, made, status_of, stopped, up_to}
-use Rattle.stitch_cli.specs.Orders.{Order, RouteOrder, hooping, input_of, rewriting, routing, showing}
-use Rattle.stitch_cli.specs.Outcomes.{Comes, Makes, OutcomeOf, Refuses}
-use Rattle.stitch_cli.specs.Products.{Product}
-use Rattle.stitch_cli.specs.Routes.{Accepts, RouteRefuses}
-use Rattle.stitch_cli.specs.Runs.{AsksFor, IsDecided, IsQuietRun, Sights}
+use Rattle.stitch_cli.specs.Checks.{IsDisproved, IsProved, check_cert, check_design, check_drawing}
+use Rattle.stitch_cli.specs.Commands.{plan_of}
+use Rattle.stitch_cli.specs.Endings.{Ends, Halts, OrderEnds, all, but_report, halted, made, status_of, up_to}
+use Rattle.stitch_cli.specs.Hoops.{hoop_fitted, hoop_read}
+use Rattle.stitch_cli.specs.Orders.{CheckOrder, HoopOrder, Order, RewriteOrder, RouteOrder, ShowOrder, checking, hooping, rewriting, routing, sampling, showing}
+use Rattle.stitch_cli.specs.Plans.{ComesTo, IsAccepted, IsInput, IsTooLong, Makes, Misses, Plan, Refuses, accepts, decides, reads, refuses}
+use Rattle.stitch_cli.specs.Products.{ProductValue}
+use Rattle.stitch_cli.specs.Refusals.{RefusalValue, refusal_of}
+use Rattle.stitch_cli.specs.Rewrites.{rewrite_read}
+use Rattle.stitch_cli.specs.Routes.{route_above, route_read}
+use Rattle.stitch_cli.specs.Runs.{AsksFor, IsDecided, IsOrMemory, IsQuietRun, Sights}
+use Rattle.stitch_cli.specs.Shows.{show_read}
 use Rattle.stitch_cli.proofs.ChangeLemmas.{rewritten_not_both}
 
 -- where the count is quiet it did not rise
@@ -44,7 +60,7 @@ not_missing (Some files) name bytes lacks holds = gone (files name) (lacks.missi
 
 -- a file is not both longer than the limit and within it
 not_longer : (files : Option Files) (name bytes : List ℕ) → IsSome files → HoldsNow files name bytes → length bytes ≤ MAX_FILE
-    → WhereTold files (λ told. IsLonger (told name) MAX_FILE) → ⊥
+    → IsTooLong files name → ⊥
 not_longer None name bytes told holds short longer = cc
 not_longer (Some files) name bytes told holds short longer = less (files name) (holds files refl) (longer files refl)
   where
@@ -53,7 +69,7 @@ not_longer (Some files) name bytes told holds short longer = less (files name) (
     less (Some held) is more = let same : held ≡ bytes = cc in let count : length held ≡ length bytes = ap length same in omega (arith, count, more, short)
 
 -- a file that is too long is there
-longer_is_there : (files : Option Files) (name : List ℕ) → WhereTold files (λ told. IsLonger (told name) MAX_FILE)
+longer_is_there : (files : Option Files) (name : List ℕ) → IsTooLong files name
     → Lacks files name → ⊥
 longer_is_there None name longer lacks = cc (lacks.told)
 longer_is_there (Some files) name longer lacks = none (files name) (lacks.missing files refl) (longer files refl)
@@ -62,124 +78,175 @@ longer_is_there (Some files) name longer lacks = none (files name) (lacks.missin
     none None is more = more
     none (Some held) is more = cc
 
--- one content comes to one outcome
-comes_not_both : (files : Option Files) (name : List ℕ) (Of : List ℕ → Result Product Refusal → Type 0)
-    (product : Product) (why : Refusal) → ((bytes : List ℕ) → Of bytes (Ok product) → Of bytes (Err why) → ⊥)
-    → IsSome files → Comes files name Of (Ok product) → Comes files name Of (Err why) → ⊥
-comes_not_both files name Of product why excludes told makes refuses = excludes makes.bytes makes.is
-    (subst (λ (bytes : List ℕ). Of bytes (Err why))
-    (one_content files name refuses.bytes makes.bytes told refuses.held makes.held) refuses.is)
+-- nothing that a plan decides is both made and refused
+abbrev IsExact : Plan → Type 0
+IsExact (reads name next) = (bytes : List ℕ) → IsExact (next bytes)
+IsExact (refuses why) = Unit {0}
+IsExact (accepts Is) = Unit {0}
+IsExact (decides Is) = (product : ProductValue) (why : RefusalValue) → Is (Ok product) → Is (Err why) → ⊥
 
-not_both : (r : Result Product Refusal) (product : Product) (why : Refusal) → r ≡ Ok product → r ≡ Err why → ⊥
-not_both r product why one other = cc
+route_exact : (order : RouteOrder) (read : Result DrawingValue DrawFault) → IsExact (route_read order read)
+route_exact order (Ok d) = above (nat_lt order.format.limit d.step)
+  where
+    above : (b : Bool) → IsExact (route_above order d b)
+    above true = tt
+    above false = tt
+route_exact order (Err fault) = tt
 
--- a text says one drawing, or a fault
-same_drawing : (r : Result DrawingValue DrawFault) (a b : DrawingValue) → r ≡ Ok a → r ≡ Ok b → a ≡ b
-same_drawing r a b one other = cc
+-- a verdict is not both yes and no: there is one list of the pieces
+not_proved : PiecesAreOne → (d : DrawingValue) (design : DesignValue) (certs : List PieceCert) (product : ProductValue) (why : RefusalValue)
+    → IsProved d design certs product → IsDisproved d design certs why → ⊥
+not_proved one d design certs product why proved disproved =
+    let yes = proved.verdict.is in
+    let no = disproved.verdict.is in
+    let same : proved.verdict.pieces ≡ disproved.verdict.pieces =
+    one d proved.verdict.pieces disproved.verdict.pieces yes.pieces_are no.pieces_are in
+    let over : verdict_of d proved.verdict.pieces design certs ≡ verdict_of d disproved.verdict.pieces design certs =
+    ap (λ pieces. verdict_of d pieces design certs) same in
+    let both : verdict.Yes ≡ verdict.No disproved.reason = yes.is ∙ over ∙ sym no.is in
+    cc
 
-not_drawing : (r : Result DrawingValue DrawFault) (a : DrawingValue) (fault : DrawFault) → r ≡ Ok a → r ≡ Err fault → ⊥
-not_drawing r a fault one other = cc
+check_exact : PiecesAreOne → (order : CheckOrder) (read : Result DrawingValue DrawFault) → IsExact (check_drawing order read)
+check_exact one order (Ok d) = λ bytes. checked (order.format.reads bytes)
+  where
+    certified : (design : DesignValue) (said : Result (List PieceCert) ℕ) → IsExact (check_cert order d design said)
+    certified design (Ok certs) = λ product why proved disproved. not_proved one d design certs product why proved disproved
+    certified design (Err number) = tt
 
-not_true : (b : Bool) → b ≡ true → b ≡ false → ⊥
-not_true b one other = cc
+    checked : (read : Result Loaded ReadFault) → IsExact (check_design order d read)
+    checked (Ok loaded) = λ text. certified loaded.design (cert_of text)
+    checked (Err fault) = tt
+check_exact one order (Err fault) = tt
 
--- what a route accepts no later step refuses
-route_not_both : (order : RouteOrder) (bytes : List ℕ) (d : DrawingValue) (why : Refusal)
-    → Accepts order bytes d → RouteRefuses order bytes why → ⊥
-route_not_both order bytes d refusal.TooLong accepts never = never
-route_not_both order bytes d (refusal.BadDrawing fault) accepts refuses = not_drawing _ d fault accepts.said refuses
-route_not_both order bytes d refusal.NotOnlyLoops accepts refuses =
-    let same : refuses.drawing ≡ d = same_drawing _ refuses.drawing d refuses.said accepts.said in
-    not_true _ accepts.loops (subst (λ (one : DrawingValue). are_loops one.lines ≡ false) same refuses.other)
-route_not_both order bytes d (refusal.StepTooLong step) accepts refuses =
-    let same : refuses.drawing.step ≡ d.step =
-    ap (λ (one : DrawingValue). one.step) (same_drawing _ refuses.drawing d refuses.said accepts.said) in
-    omega (arith, same, refuses.same, refuses.above, accepts.step)
-route_not_both order bytes d (refusal.Unread f) accepts never = never
-route_not_both order bytes d (refusal.Unwritten f) accepts never = never
-route_not_both order bytes d (refusal.RefitTooMany number) accepts never = never
-route_not_both order bytes d (refusal.MovedOut number) accepts never = never
-route_not_both order bytes d (refusal.NoPlace place count) accepts never = never
-route_not_both order bytes d (refusal.TooLarge x y) accepts never = never
+rewrite_exact : (order : RewriteOrder) (read : Result Loaded ReadFault) → IsExact (rewrite_read order read)
+rewrite_exact order (Ok loaded) = λ product why made refused. rewritten_not_both order loaded product why made refused
+rewrite_exact order (Err fault) = tt
 
--- what comes of bytes is a product or a refusal
-outcome_not_both : (order : Order) (product : Product) (why : Refusal) (bytes : List ℕ)
-    → OutcomeOf order bytes (Ok product) → OutcomeOf order bytes (Err why) → ⊥
-outcome_not_both (routing order) product why bytes one other =
-    route_not_both order bytes one.drawing why one.accepted other
-outcome_not_both (rewriting order) product why bytes one other =
-    rewritten_not_both order bytes product why one other
-outcome_not_both (showing order) product why bytes one other = not_both _ product why one other
-outcome_not_both (hooping order) product why bytes one other = not_both _ product why one other
+show_exact : (order : ShowOrder) (read : Result Loaded ReadFault) → IsExact (show_read order read)
+show_exact order (Ok loaded) = tt
+show_exact order (Err fault) = tt
+
+hoop_exact : (order : HoopOrder) (read : Result Loaded ReadFault) → IsExact (hoop_read order read)
+hoop_exact order (Ok loaded) = fitted (fit_of loaded.design order.width order.height)
+  where
+    fitted : (f : Fit) → IsExact (hoop_fitted f)
+    fitted fit.Upright = tt
+    fitted fit.Turned = tt
+    fitted (fit.No x y) = tt
+hoop_exact order (Err fault) = tt
+
+-- each order's plan is so
+order_exact : PiecesAreOne → (order : Order) → IsExact (plan_of order)
+order_exact one (routing order) = λ bytes. route_exact order (drawing_of bytes)
+order_exact one (checking order) = λ bytes. check_exact one order (drawing_of bytes)
+order_exact one (sampling order) = tt
+order_exact one (rewriting order) = λ bytes. rewrite_exact order (order.source.reads bytes)
+order_exact one (showing order) = λ bytes. show_exact order (order.format.reads bytes)
+order_exact one (hooping order) = λ bytes. hoop_exact order (order.format.reads bytes)
+
+-- what is made is accepted
+made_accepted : (plan : Plan) (files : Option Files) (product : ProductValue) → Makes plan files product → IsAccepted plan files
+made_accepted (reads name next) files product (bytes, input, makes) = (bytes, input, made_accepted (next bytes) files product makes)
+made_accepted (refuses why) files product never = never
+made_accepted (accepts Is) files product makes = tt
+made_accepted (decides Is) files product makes = (product, makes)
+
+-- one file is one input
+same_input : (files : Option Files) (name a b : List ℕ) → IsSome files → IsInput files name a → IsInput files name b → a ≡ b
+same_input files name a b told one other = one_content files name a b told one.held other.held
 
 -- what is accepted isn't refused
-not_refused : (order : Order) (files : Option Files) (product : Product) (why : Refusal)
-    → IsSome files → Makes order files product → Refuses order files why → ⊥
-not_refused order files product why told makes (inl long) =
-    not_longer files (input_of order) makes.bytes told makes.held makes.short long.longer
-not_refused order files product why told makes (inr refuses) = comes_not_both files (input_of order) (OutcomeOf order)
-    product why (outcome_not_both order product why) told makes refuses
+not_refused : (plan : Plan) (files : Option Files) (why : RefusalValue) → IsExact plan → IsSome files
+    → IsAccepted plan files → Refuses plan files why → ⊥
+not_refused (reads name next) files why exact told (bytes, input, accepted) (inl (is, long)) =
+    not_longer files name bytes told input.held input.short long
+not_refused (reads name next) files why exact told (bytes, input, accepted) (inr (other, again, refused)) =
+    not_refused (next bytes) files why (exact bytes) told accepted
+    (subst (λ (b : List ℕ). Refuses (next b) files why) (same_input files name other bytes told again input) refused)
+not_refused (refuses reason) files why exact told never refused = never
+not_refused (accepts Is) files why exact told accepted never = never
+not_refused (decides Is) files why exact told (product, makes) refused = exact product why makes refused
 
--- what is refused is there
-refused_is_there : (order : Order) (files : Option Files) (why : Refusal) → Refuses order files why
-    → Lacks files (input_of order) → ⊥
-refused_is_there order files why (inl long) lacks = longer_is_there files (input_of order) long.longer lacks
-refused_is_there order files why (inr refuses) lacks =
-    not_missing files (input_of order) refuses.bytes lacks refuses.held
+-- what comes to a file that is not there is not accepted
+not_accepted : (plan : Plan) (files : Option Files) (name : List ℕ) → IsAccepted plan files → ComesTo plan files name
+    → Lacks files name → ⊥
+not_accepted (reads name next) files missing (bytes, input, accepted) (inl is) lacks =
+    not_missing files name bytes (subst (λ (n : List ℕ). Lacks files n) is lacks) input.held
+not_accepted (reads name next) files missing (bytes, input, accepted) (inr (other, again, comes)) lacks =
+    not_accepted (next bytes) files missing accepted
+    (subst (λ (b : List ℕ). ComesTo (next b) files missing) (same_input files name other bytes lacks.told again input) comes) lacks
+not_accepted (refuses reason) files missing accepted never lacks = never
+not_accepted (accepts Is) files missing accepted never lacks = never
+not_accepted (decides Is) files missing accepted never lacks = never
 
--- what is accepted is there
-made_is_there : (order : Order) (files : Option Files) (product : Product) → Makes order files product
-    → Lacks files (input_of order) → ⊥
-made_is_there order files product makes lacks = not_missing files (input_of order) makes.bytes lacks makes.held
+-- nor is it refused
+not_both : (plan : Plan) (files : Option Files) (why : RefusalValue) (name : List ℕ) → Refuses plan files why
+    → ComesTo plan files name → Lacks files name → ⊥
+not_both (reads name next) files why missing (inl (is, long)) (inl same) lacks =
+    longer_is_there files name long (subst (λ (n : List ℕ). Lacks files n) same lacks)
+not_both (reads name next) files why missing (inl (is, long)) (inr (bytes, input, comes)) lacks =
+    not_longer files name bytes lacks.told input.held input.short long
+not_both (reads name next) files why missing (inr (bytes, input, refused)) (inl same) lacks =
+    not_missing files name bytes (subst (λ (n : List ℕ). Lacks files n) same lacks) input.held
+not_both (reads name next) files why missing (inr (bytes, input, refused)) (inr (other, again, comes)) lacks =
+    not_both (next bytes) files why missing refused
+    (subst (λ (b : List ℕ). ComesTo (next b) files missing) (same_input files name other bytes lacks.told again input) comes) lacks
+not_both (refuses reason) files why missing refused never lacks = never
+not_both (accepts Is) files why missing refused never lacks = never
+not_both (decides Is) files why missing refused never lacks = never
 
--- what an order came to, where no count rose
-data Came (order : Order) (files : Option Files) (s : Status) : Type 0 where
-  came_done : (product : Product) → Makes order files product → s ≡ status.Done → Came order files s
-  came_refused : (why : Refusal) → Refuses order files why → s ≡ status.Refused → Came order files s
-  came_missing : Lacks files (input_of order) → s ≡ status.Fault → Came order files s
-  came_memory : s ≡ status.Memory → Came order files s
+-- what a plan came to, where no count rose
+data Came (plan : Plan) (files : Option Files) (s : Status) : Type 0 where
+  came_done : IsAccepted plan files → s ≡ status.Done → Came plan files s
+  came_refused : (why : RefusalValue) → Refuses plan files why → s ≡ status.Refused → Came plan files s
+  came_missing : (name : List ℕ) → Misses plan files name → s ≡ status.Fault → Came plan files s
+  came_memory : s ≡ status.Memory → Came plan files s
 
--- a step that stopped an order, where no count rose
-stop_came : (order : Order) (before after : Sights) (s : Status) (why : Stop) → IsQuietRun before after
-    → Stops order before.store after.store why → s ≡ status_of why → Came order before.store.files s
-stop_came order before after s stop.Missing quiet (lacks, store) is = came_missing lacks is
-stop_came order before after s stop.NotRead quiet (fault, files) is = absurd (no_rise _ _ quiet.store fault.rose)
-stop_came order before after s (stop.Refused why) quiet (refuses, store) is = came_refused why refuses is
-stop_came order before after s stop.Memory quiet same is = came_memory is
+-- a plan that halted, where no count rose
+halt_came : (plan : Plan) (before after : Sights) (s : Status) (why : Halt) → IsQuietRun before after
+    → Halts plan before.store after.store why → s ≡ status_of why → Came plan before.store.files s
+halt_came plan before after s halt.Unasked quiet never is = absurd never
+halt_came plan before after s (halt.Missing name) quiet (misses, store) is = came_missing name.now misses is
+halt_came plan before after s (halt.NotRead name) quiet (comes, fault, files) is = absurd (no_rise _ _ quiet.store fault.rose)
+halt_came plan before after s (halt.Refused why) quiet (refused, store) is = came_refused (refusal_of why) refused is
+halt_came plan before after s halt.Memory quiet same is = came_memory is
 
 came : (order : Order) (before after : Sights) (s : Status) → IsQuietRun before after → OrderEnds order before after s
-    → Came order before.store.files s
-came order before after s quiet (made product makes (all is wrote report err)) = came_done product makes is
+    → Came (plan_of order) before.store.files s
+came order before after s quiet (made product makes (all is wrote report err)) =
+    came_done (made_accepted (plan_of order) before.store.files product makes) is
 came order before after s quiet (made product makes (up_to name wrote out tells)) = absurd (no_rise _ _ quiet.store wrote.fault.rose)
 came order before after s quiet (made product makes (but_report wrote broke tells)) = absurd (no_rise _ _ quiet.out broke.rose)
-came order before after s quiet (stopped why stops out (inl (is, told))) = stop_came order before after s why quiet stops is
-came order before after s quiet (stopped why stops out (inr (is, broke))) = absurd (no_rise _ _ quiet.err broke.rose)
+came order before after s quiet (halted why halts out (inl (is, told))) = halt_came (plan_of order) before after s why quiet halts is
+came order before after s quiet (halted why halts out (inr (is, broke))) = absurd (no_rise _ _ quiet.err broke.rose)
 
--- how an order is decided
-done_or_memory : (order : Order) (files : Option Files) (s : Status) (product : Product)
-    → Came order files s → IsSome files → Makes order files product → (s ≡ status.Done) ⊎ (s ≡ status.Memory)
-done_or_memory order files s product (came_done other makes is) told accepted = inl is
-done_or_memory order files s product (came_refused why refuses is) told accepted =
-    absurd (not_refused order files product why told accepted refuses)
-done_or_memory order files s product (came_missing lacks is) told accepted =
-    absurd (made_is_there order files product accepted lacks)
-done_or_memory order files s product (came_memory is) told accepted = inr is
+-- how a plan is decided
+done_or_memory : (plan : Plan) (files : Option Files) (s : Status) → IsExact plan → Came plan files s → IsSome files
+    → IsAccepted plan files → IsOrMemory s status.Done
+done_or_memory plan files s exact (came_done other is) told accepted = inl is
+done_or_memory plan files s exact (came_refused why refused is) told accepted =
+    absurd (not_refused plan files why exact told accepted refused)
+done_or_memory plan files s exact (came_missing name misses is) told accepted =
+    absurd (not_accepted plan files name accepted misses.comes misses.lacks)
+done_or_memory plan files s exact (came_memory is) told accepted = inr is
 
-refused_or_memory : (order : Order) (files : Option Files) (s : Status) (why : Refusal)
-    → Came order files s → IsSome files → Refuses order files why → (s ≡ status.Refused) ⊎ (s ≡ status.Memory)
-refused_or_memory order files s why (came_done product makes is) told refuses =
-    absurd (not_refused order files product why told makes refuses)
-refused_or_memory order files s why (came_refused other others is) told refuses = inl is
-refused_or_memory order files s why (came_missing lacks is) told refuses =
-    absurd (refused_is_there order files why refuses lacks)
-refused_or_memory order files s why (came_memory is) told refuses = inr is
+refused_or_memory : (plan : Plan) (files : Option Files) (s : Status) (why : RefusalValue) → IsExact plan → Came plan files s
+    → IsSome files → Refuses plan files why → IsOrMemory s status.Refused
+refused_or_memory plan files s why exact (came_done accepted is) told refused =
+    absurd (not_refused plan files why exact told accepted refused)
+refused_or_memory plan files s why exact (came_refused other others is) told refused = inl is
+refused_or_memory plan files s why exact (came_missing name misses is) told refused =
+    absurd (not_both plan files why name refused misses.comes misses.lacks)
+refused_or_memory plan files s why exact (came_memory is) told refused = inr is
 
-fault_or_memory : (order : Order) (files : Option Files) (s : Status) → Came order files s → Lacks files (input_of order)
-    → (s ≡ status.Fault) ⊎ (s ≡ status.Memory)
-fault_or_memory order files s (came_done product makes is) lacks = absurd (made_is_there order files product makes lacks)
-fault_or_memory order files s (came_refused why refuses is) lacks = absurd (refused_is_there order files why refuses lacks)
-fault_or_memory order files s (came_missing lacking is) lacks = inl is
-fault_or_memory order files s (came_memory is) lacks = inr is
+fault_or_memory : (plan : Plan) (files : Option Files) (s : Status) (name : List ℕ) → Came plan files s → Misses plan files name
+    → IsOrMemory s status.Fault
+fault_or_memory plan files s name (came_done accepted is) misses =
+    absurd (not_accepted plan files name accepted misses.comes misses.lacks)
+fault_or_memory plan files s name (came_refused why refused is) misses =
+    absurd (not_both plan files why name refused misses.comes misses.lacks)
+fault_or_memory plan files s name (came_missing other others is) misses = inl is
+fault_or_memory plan files s name (came_memory is) misses = inr is
 
 -- nothing that is asked for is told so
 usage_told : (before after : Sights) (s : Status) → IsQuietRun before after → Ends None before after s → s ≡ status.Usage
@@ -188,19 +255,19 @@ usage_told before after s quiet (store, out, inr (is, broke)) = absurd (no_rise 
 
 -- the order that is asked for came to its end
 order_came : (asked : Option Order) (order : Order) (before after : Sights) (s : Status) → AsksFor asked order
-    → IsQuietRun before after → Ends asked before after s → Came order before.store.files s
+    → IsQuietRun before after → Ends asked before after s → Came (plan_of order) before.store.files s
 order_came asked order before after s asks quiet ends =
     came order before after s quiet (subst (λ (o : Option Order). Ends o before after s) asks ends)
 
 -- where no count rises the words and the files decide
-pub decided : (asked : Option Order) (before after : Sights) (s : Status) → Ends asked before after s
-    → IsQuietRun before after → IsDecided asked before s
-decided asked before after s ends quiet = record {
-  usage = λ (none : asked ≡ None). usage_told before after s quiet (subst (λ (o : Option Order). Ends o before after s) none ends);
-  done = λ (order : Order) (product : Product) (asks : AsksFor asked order) (told : IsSome before.store.files) (makes : Makes order before.store.files product).
-      done_or_memory order before.store.files s product (order_came asked order before after s asks quiet ends) told makes;
-  refused = λ (order : Order) (why : Refusal) (asks : AsksFor asked order) (told : IsSome before.store.files) (refuses : Refuses order before.store.files why).
-      refused_or_memory order before.store.files s why (order_came asked order before after s asks quiet ends) told refuses;
-  missing = λ (order : Order) (asks : AsksFor asked order) (lacks : Lacks before.store.files (input_of order)).
-      fault_or_memory order before.store.files s (order_came asked order before after s asks quiet ends) lacks;
+pub decided : PiecesAreOne → (asked : Option Order) (before after : Sights) (s : Status) → Ends asked before after s
+    → IsQuietRun before after → IsDecided asked before.store.files s
+decided one asked before after s ends quiet = record {
+  usage = λ none. usage_told before after s quiet (subst (λ (o : Option Order). Ends o before after s) none ends);
+  done = λ order asks told accepted. done_or_memory (plan_of order) before.store.files s (order_exact one order)
+      (order_came asked order before after s asks quiet ends) told accepted;
+  refused = λ order why asks told refused. refused_or_memory (plan_of order) before.store.files s why (order_exact one order)
+      (order_came asked order before after s asks quiet ends) told refused;
+  missing = λ order name asks misses. fault_or_memory (plan_of order) before.store.files s name
+      (order_came asked order before after s asks quiet ends) misses;
 }

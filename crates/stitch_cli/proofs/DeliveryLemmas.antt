@@ -1,11 +1,11 @@
 -- Outputs written one after another.
-use Rattle.std.proofs.Common.{◌≡◌, ◌++◌, ◌∷◌, [], ℕ, List, Option, Some, None, refl, sym, ap, subst, ◌∙◌}
-use Rattle.outside_io.specs.Blames.{write_of}
+use Rattle.std.proofs.Common.{◌≡◌, ◌≤◌, ◌++◌, ◌∷◌, [], ℕ, List, Option, Some, None, refl, sym, ap, subst, ◌∙◌}
+use Rattle.outside_io.specs.Blames.{Blame, write_of}
 use Rattle.outside_io.specs.Causes.{Faults, Stays}
+use Rattle.outside_io.specs.Counts.{Rose}
 use Rattle.outside_io.specs.Files.{ChangesOnly, Files, HoldsNow}
-use Rattle.stitch_cli.specs.Products.{AreApart, ChangesAmong, IsNoneOf, Written, Wrote, WroteUpTo, names_of}
-use Rattle.stitch_cli.specs.Sights.{StoreSight}
-use Rattle.stitch_cli.specs.Steps.{AreNamed}
+use Rattle.outside_io.specs.Sights.{StoreSight}
+use Rattle.stitch_cli.specs.Products.{AreApart, AreNamed, ChangesAmong, IsNoneOf, Written, Wrote, WroteUpTo, names_of}
 
 -- nothing is written where there are no outputs
 same_files : (files : Option Files) → ChangesAmong [] files files
@@ -41,7 +41,7 @@ changes_both (Some old) (Some mid) None name names first rest = absurd rest
 -- an output is written, and then the rest
 wrote_first : (o : Written) (rest : List Written) (s mid new : StoreSight) → IsNoneOf (names_of rest) o.name
     → HoldsNow mid.files o.name o.content → ChangesOnly s.files mid.files o.name
-    → Stays s.faults mid.faults s.blame mid.blame → Wrote rest mid new → Wrote (o ∷ rest) s new
+    → Stays s mid → Wrote rest mid new → Wrote (o ∷ rest) s new
 wrote_first o rest s mid new none holds changes stays wrote = record {
   held = (holds_still mid.files new.files (names_of rest) o.name o.content wrote.others none holds, wrote.held);
   others = changes_both s.files mid.files new.files o.name (names_of rest) changes wrote.others;
@@ -51,7 +51,7 @@ wrote_first o rest s mid new none holds changes stays wrote = record {
 
 -- the first output could not be written
 lost_first : (o : Written) (rest : List Written) (s new : StoreSight) → ChangesOnly s.files new.files o.name
-    → Faults s.faults new.faults new.blame (write_of o.name) → WroteUpTo (o ∷ rest) o.name s new
+    → Faults s new (write_of o.name) → WroteUpTo (o ∷ rest) o.name s new
 lost_first o rest s new changes fault = record {
   done = [];
   lost = o;
@@ -73,17 +73,25 @@ none_before done lost left rest name split none =
     shorter [] none = (none.0, tt)
     shorter (o ∷ more) none = (none.0, shorter more none.1)
 
+-- a fault after a call that left the count is one from before it
+later_fault : {s mid new : StoreSight} {call : Blame} → mid.faults ≡ s.faults → Faults mid new call → Faults s new call
+later_fault {s} {mid} {new} same fault = record {
+  rose = subst (λ (n : ℕ). Rose n new.faults) same fault.rose;
+  kept = subst (λ (n : ℕ). n ≤ new.faults) same fault.kept;
+  blame = fault.blame;
+}
+
 -- an output is written, and then the rest up to one that is lost
 wrote_up_to : (o : Written) (rest : List Written) (name : List ℕ) (s mid new : StoreSight)
     → IsNoneOf (names_of rest) o.name → HoldsNow mid.files o.name o.content → ChangesOnly s.files mid.files o.name
-    → Stays s.faults mid.faults s.blame mid.blame → WroteUpTo rest name mid new → WroteUpTo (o ∷ rest) name s new
+    → Stays s mid → WroteUpTo rest name mid new → WroteUpTo (o ∷ rest) name s new
 wrote_up_to o rest name s mid new none holds changes stays wrote = record {
   done = o ∷ wrote.done;
   lost = wrote.lost;
   left = wrote.left;
   split = ap (λ (xs : List Written). o ∷ xs) wrote.split;
   same = wrote.same;
-  fault = subst (λ (n : ℕ). Faults n new.faults new.blame (write_of name)) stays.count wrote.fault;
+  fault = later_fault stays.count wrote.fault;
   held = (
     holds_still mid.files new.files (names_of (wrote.done ++ wrote.lost ∷ [])) o.name o.content wrote.others
         (none_before wrote.done wrote.lost wrote.left rest o.name wrote.split none) holds,
@@ -110,7 +118,7 @@ writes_first outputs s named apart = record {
 
 pub writes_on : (outputs left : List Written) (o : Written) (rest : List Written) (before now next : StoreSight)
     → WritesOn outputs left before now → left ≡ o ∷ rest → HoldsNow next.files o.name o.content
-    → ChangesOnly now.files next.files o.name → Stays now.faults next.faults now.blame next.blame
+    → ChangesOnly now.files next.files o.name → Stays now next
     → WritesOn outputs rest before next
 writes_on outputs left o rest before now next writes is holds changes stays =
     step (subst (λ (ws : List Written). WritesOn outputs ws before now) is writes)
@@ -125,7 +133,7 @@ writes_on outputs left o rest before now next writes is holds changes stays =
 
 pub writes_up_to : (outputs left : List Written) (o : Written) (rest : List Written) (before now next : StoreSight)
     → WritesOn outputs left before now → left ≡ o ∷ rest → ChangesOnly now.files next.files o.name
-    → Faults now.faults next.faults next.blame (write_of o.name) → WroteUpTo outputs o.name before next
+    → Faults now next (write_of o.name) → WroteUpTo outputs o.name before next
 writes_up_to outputs left o rest before now next writes is changes fault =
     writes.stops o.name next (subst (λ (ws : List Written). WroteUpTo ws o.name now next) (sym is)
     (lost_first o rest now next changes fault))

@@ -4,13 +4,13 @@ use Rattle.std.specs.Prelude.{unwrap_or}
 use Rattle.command_words.specs.Changes.{Change}
 use Rattle.command_words.specs.Words.{before_edits, edit_spelled, edits_spelled}
 use Rattle.design_model.specs.Designs.{DesignValue}
-use Rattle.stitch_cli.specs.declared.stop.Refusal.{Refusal}
+use Rattle.stitch_cli.specs.declared.changing.ChangeFault.{ChangeFault}
 use Rattle.stitch_cli.specs.ChangedDesigns.{Becomes, BecomesAll}
 
 -- what the words that are left make of the design now, all words make of the first
 pub record GoesOn (words left : List (List ℕ)) (first now : DesignValue) : Type 0 where
   pub spelled : IsSome (edits_spelled left)
-  pub rest : (limit : ℕ) (r : Result DesignValue Refusal) → BecomesAll limit (unwrap_or (edits_spelled left) []) now r
+  pub rest : (limit : ℕ) (r : Result DesignValue ChangeFault) → BecomesAll limit (unwrap_or (edits_spelled left) []) now r
       → BecomesAll limit (unwrap_or (edits_spelled words) []) first r
 
 pub goes_first : (words : List (List ℕ)) (d : DesignValue) → IsSome (edits_spelled words) → GoesOn words words d d
@@ -34,13 +34,13 @@ next_spelled words left word more first now goes is = first_spelled (edit_spelle
 
 -- the first edit is made, and what the others make of that they make of the whole
 made_first : (limit : ℕ) (first : Option Change) (later : Option (List Change)) (old new : DesignValue)
-    (r : Result DesignValue Refusal) → IsSome first → IsSome later → IfSome first (λ change. Becomes limit change old (Ok new))
+    (r : Result DesignValue ChangeFault) → IsSome first → IsSome later → IfSome first (λ change. Becomes limit change old (Ok new))
     → BecomesAll limit (unwrap_or later []) new r → BecomesAll limit (unwrap_or (before_edits first later) []) old r
 made_first limit (Some change) (Some changes) old new r one more becomes rest = inl (new, becomes, rest)
 made_first limit (Some change) None old new r one more becomes rest = absurd (let no : ⊥ = cc in no)
 made_first limit None later old new r one more becomes rest = absurd (let no : ⊥ = cc in no)
 
-refused_first : (limit : ℕ) (first : Option Change) (later : Option (List Change)) (old : DesignValue) (why : Refusal)
+refused_first : (limit : ℕ) (first : Option Change) (later : Option (List Change)) (old : DesignValue) (why : ChangeFault)
     → IsSome first → IsSome later → IfSome first (λ change. Becomes limit change old (Err why))
     → BecomesAll limit (unwrap_or (before_edits first later) []) old (Err why)
 refused_first limit (Some change) (Some changes) old why one more becomes = inr (why, becomes, refl)
@@ -62,7 +62,7 @@ goes_on words left word more first now next goes is becomes =
           (later_spelled (edit_spelled word) (edits_spelled more) on.spelled) (becomes limit) rest);
     }
 
-pub goes_refused : (words left : List (List ℕ)) (word : List ℕ) (more : List (List ℕ)) (first now : DesignValue) (why : Refusal)
+pub goes_refused : (words left : List (List ℕ)) (word : List ℕ) (more : List (List ℕ)) (first now : DesignValue) (why : ChangeFault)
     → GoesOn words left first now → left ≡ word ∷ more
     → ((limit : ℕ) → IfSome (edit_spelled word) (λ change. Becomes limit change now (Err why)))
     → (limit : ℕ) → BecomesAll limit (unwrap_or (edits_spelled words) []) first (Err why)

@@ -1,49 +1,87 @@
 -- Which files a run leaves as they were.
-use Rattle.std.proofs.Common.{◌≡◌, ◌++◌, ◌∷◌, [], ℕ, List, Option, Some, None, Ok, Err, Result, refl, sym, ap, subst}
+use Rattle.std.proofs.Common.{◌≡◌, ◌++◌, ◌∷◌, [], ℕ, Bool, true, false, List, Option, Some, None, Ok, Err, Result, refl, sym, ap, subst}
+use Rattle.std.specs.Prelude.{nat_lt}
+use Rattle.cut_certificate.specs.declared.certificate.PieceCert.{PieceCert}
+use Rattle.cut_certificate.specs.ReadCertificates.{cert_of}
+use Rattle.design_model.specs.Designs.{DesignValue}
+use Rattle.drawing_text.specs.declared.draw_fault.DrawFault.{DrawFault}
+use Rattle.drawing_text.specs.DrawingText.{drawing_of}
 use Rattle.format_traits.specs.declared.fault.ReadFault.{ReadFault}
 use Rattle.format_traits.specs.declared.loaded.Loaded.{Loaded}
 use Rattle.hoop_check.specs.declared.fitting.Fit.{Fit}
 use Rattle.hoop_check.specs.declared.fitting.Fit.TheVariants as fit
 use Rattle.hoop_check.specs.Fits.{fit_of}
+use Rattle.line_graph.specs.Drawings.{DrawingValue}
 use Rattle.outside_io.specs.Files.{Files}
+use Rattle.stitch_cli.specs.declared.halt.Halt.{Halt}
+use Rattle.stitch_cli.specs.declared.halt.Halt.TheVariants as halt
 use Rattle.stitch_cli.specs.declared.status.Status.{Status}
-use Rattle.stitch_cli.specs.declared.stop.Refusal.{Refusal}
-use Rattle.stitch_cli.specs.declared.stop.Stop.{Stop}
-use Rattle.stitch_cli.specs.declared.stop.Stop.TheVariants as stop
-use Rattle.stitch_cli.specs.Endings.{Delivers, Ends, Stops, all, but_report, made, stopped, up_to}
-use Rattle.stitch_cli.specs.Hoops.{fitted_as, hooped_as}
-use Rattle.stitch_cli.specs.Orders.{Order, hooping, outputs_of, rewriting, routing, showing}
-use Rattle.stitch_cli.specs.Outcomes.{Makes}
-use Rattle.stitch_cli.specs.Products.{ChangesAmong, IsNoneOf, Product, names_of, only_report}
+use Rattle.stitch_cli.specs.Checks.{check_cert, check_design, check_drawing}
+use Rattle.stitch_cli.specs.Commands.{plan_of}
+use Rattle.stitch_cli.specs.Endings.{Delivers, Ends, Halts, all, but_report, halted, made, up_to}
+use Rattle.stitch_cli.specs.Hoops.{hoop_fitted, hoop_read}
+use Rattle.stitch_cli.specs.Orders.{CheckOrder, HoopOrder, Order, RewriteOrder, RouteOrder, ShowOrder, checking, hooping, outputs_of, rewriting, routing, sampling, showing}
+use Rattle.stitch_cli.specs.Plans.{Makes, Plan}
+use Rattle.stitch_cli.specs.Products.{ChangesAmong, IsNoneOf, ProductValue, names_of}
+use Rattle.stitch_cli.specs.Rewrites.{rewrite_read}
+use Rattle.stitch_cli.specs.Routes.{route_above, route_read}
 use Rattle.stitch_cli.specs.Runs.{KeepsOthers, Sights}
-use Rattle.stitch_cli.specs.Shows.{show_report, shown_as}
+use Rattle.stitch_cli.specs.Shows.{show_read}
 use Rattle.stitch_cli.proofs.DeliveryLemmas.{none_before}
 
--- the same outcome makes the same outputs
-same_outputs : (r : Result Product Refusal) (p q : Product) → r ≡ Ok p → r ≡ Ok q → names_of p.outputs ≡ names_of q.outputs
-same_outputs r p q one other = cc
-
 -- what an order makes stands in the files that it writes
-makes_outputs : (order : Order) (files : Option Files) (product : Product) → Makes order files product
-    → names_of product.outputs ≡ outputs_of order
-makes_outputs (routing order) files product makes = ap (λ (p : Product). names_of p.outputs) makes.is.made
-makes_outputs (rewriting order) files product makes = ap (λ (p : Product). names_of p.outputs) makes.is.made
-makes_outputs (showing order) files product makes = shown (order.format.reads makes.bytes) makes.is
+route_outputs : (order : RouteOrder) (files : Option Files) (product : ProductValue) (read : Result DrawingValue DrawFault)
+    → Makes (route_read order read) files product → names_of product.outputs ≡ order.cert ∷ order.out ∷ []
+route_outputs order files product (Ok d) makes = above (nat_lt order.format.limit d.step) makes
   where
-    shown : (r : Result Loaded ReadFault) → shown_as order.format.ending r ≡ Ok product → names_of product.outputs ≡ []
-    shown (Ok loaded) is = same_outputs (shown_as order.format.ending (Ok loaded)) product
-        (only_report (show_report order.format.ending loaded)) is refl
-    shown (Err f) is = cc
-makes_outputs (hooping order) files product makes = hooped (order.format.reads makes.bytes) makes.is
-  where
-    fitted : (f : Fit) → fitted_as f ≡ Ok product → names_of product.outputs ≡ []
-    fitted fit.Upright is = same_outputs (fitted_as fit.Upright) product (only_report _) is refl
-    fitted fit.Turned is = same_outputs (fitted_as fit.Turned) product (only_report _) is refl
-    fitted (fit.No x y) is = cc
+    above : (b : Bool) → Makes (route_above order d b) files product → names_of product.outputs ≡ order.cert ∷ order.out ∷ []
+    above true never = absurd never
+    above false makes = ap (λ (p : ProductValue). names_of p.outputs) makes.made
+route_outputs order files product (Err fault) never = absurd never
 
-    hooped : (r : Result Loaded ReadFault) → hooped_as order r ≡ Ok product → names_of product.outputs ≡ []
-    hooped (Ok loaded) is = fitted (fit_of loaded.design order.width order.height) is
-    hooped (Err f) is = cc
+check_outputs : (order : CheckOrder) (files : Option Files) (product : ProductValue) (read : Result DrawingValue DrawFault)
+    → Makes (check_drawing order read) files product → names_of product.outputs ≡ []
+check_outputs order files product (Ok d) (bytes, input, makes) = checked (order.format.reads bytes) makes
+  where
+    certified : (design : DesignValue) (said : Result (List PieceCert) ℕ) → Makes (check_cert order d design said) files product
+        → names_of product.outputs ≡ []
+    certified design (Ok certs) is = ap (λ (p : ProductValue). names_of p.outputs) is.made
+    certified design (Err number) never = absurd never
+
+    checked : (read : Result Loaded ReadFault) → Makes (check_design order d read) files product → names_of product.outputs ≡ []
+    checked (Ok loaded) (text, cert, makes) = certified loaded.design (cert_of text) makes
+    checked (Err fault) never = absurd never
+check_outputs order files product (Err fault) never = absurd never
+
+rewrite_outputs : (order : RewriteOrder) (files : Option Files) (product : ProductValue) (read : Result Loaded ReadFault)
+    → Makes (rewrite_read order read) files product → names_of product.outputs ≡ order.output ∷ []
+rewrite_outputs order files product (Ok loaded) makes = ap (λ (p : ProductValue). names_of p.outputs) makes.made
+rewrite_outputs order files product (Err fault) never = absurd never
+
+show_outputs : (order : ShowOrder) (files : Option Files) (product : ProductValue) (read : Result Loaded ReadFault)
+    → Makes (show_read order read) files product → names_of product.outputs ≡ []
+show_outputs order files product (Ok loaded) is = ap (λ (p : ProductValue). names_of p.outputs) is
+show_outputs order files product (Err fault) never = absurd never
+
+hoop_outputs : (order : HoopOrder) (files : Option Files) (product : ProductValue) (read : Result Loaded ReadFault)
+    → Makes (hoop_read order read) files product → names_of product.outputs ≡ []
+hoop_outputs order files product (Ok loaded) makes = fitted (fit_of loaded.design order.width order.height) makes
+  where
+    fitted : (f : Fit) → Makes (hoop_fitted f) files product → names_of product.outputs ≡ []
+    fitted fit.Upright is = ap (λ (p : ProductValue). names_of p.outputs) is
+    fitted fit.Turned is = ap (λ (p : ProductValue). names_of p.outputs) is
+    fitted (fit.No x y) never = absurd never
+hoop_outputs order files product (Err fault) never = absurd never
+
+makes_outputs : (order : Order) (files : Option Files) (product : ProductValue) → Makes (plan_of order) files product
+    → names_of product.outputs ≡ outputs_of order
+makes_outputs (routing order) files product (bytes, input, makes) = route_outputs order files product (drawing_of bytes) makes
+makes_outputs (checking order) files product (bytes, input, makes) = check_outputs order files product (drawing_of bytes) makes
+makes_outputs (sampling order) files product is = ap (λ (p : ProductValue). names_of p.outputs) is.made
+makes_outputs (rewriting order) files product (bytes, input, makes) =
+    rewrite_outputs order files product (order.source.reads bytes) makes
+makes_outputs (showing order) files product (bytes, input, makes) = show_outputs order files product (order.format.reads bytes) makes
+makes_outputs (hooping order) files product (bytes, input, makes) = hoop_outputs order files product (order.format.reads bytes) makes
 
 -- fewer files change among fewer names
 changes_fewer : (old new : Option Files) (few many : List (List ℕ)) → ((name : List ℕ) → IsNoneOf many name → IsNoneOf few name)
@@ -61,16 +99,17 @@ changes_none old new names same = subst (λ (f : Option Files). ChangesAmong nam
     itself None = tt
     itself (Some files) = λ name none. refl
 
--- an order that stopped changes no file
-stopped_files : (order : Order) (before after : Sights) (why : Stop) → Stops order before.store after.store why
+-- a plan that halted changes no file
+halted_files : (plan : Plan) (before after : Sights) (why : Halt) → Halts plan before.store after.store why
     → after.store.files ≡ before.store.files
-stopped_files order before after stop.Missing (lacks, same) = ap (λ s. s.files) same
-stopped_files order before after stop.NotRead (fault, files) = files
-stopped_files order before after (stop.Refused why) (refuses, same) = ap (λ s. s.files) same
-stopped_files order before after stop.Memory same = ap (λ s. s.files) same
+halted_files plan before after halt.Unasked never = absurd never
+halted_files plan before after (halt.Missing name) (misses, same) = ap (λ s. s.files) same
+halted_files plan before after (halt.NotRead name) (comes, fault, files) = files
+halted_files plan before after (halt.Refused why) (refuses, same) = ap (λ s. s.files) same
+halted_files plan before after halt.Memory same = ap (λ s. s.files) same
 
 -- a delivery changes outputs alone
-delivered_files : (order : Order) (product : Product) (before after : Sights) (s : Status)
+delivered_files : (order : Order) (product : ProductValue) (before after : Sights) (s : Status)
     → names_of product.outputs ≡ outputs_of order → Delivers product before after s
     → ChangesAmong (outputs_of order) before.store.files after.store.files
 delivered_files order product before after s names (all done wrote report err) =
@@ -84,9 +123,9 @@ delivered_files order product before after s names (but_report wrote broke tells
 
 -- files that the order doesn't write stay
 pub keeps_others : (asked : Option Order) (before after : Sights) (s : Status) → Ends asked before after s
-    → KeepsOthers asked before.store.files after.store.files
+    → KeepsOthers asked before after
 keeps_others None before after s (store, out, tells) = ap (λ s. s.files) store
 keeps_others (Some order) before after s (made product makes delivers) =
     delivered_files order product before after s (makes_outputs order before.store.files product makes) delivers
-keeps_others (Some order) before after s (stopped why stops out tells) =
-    changes_none before.store.files after.store.files (outputs_of order) (stopped_files order before after why stops)
+keeps_others (Some order) before after s (halted why halts out tells) =
+    changes_none before.store.files after.store.files (outputs_of order) (halted_files (plan_of order) before after why halts)

@@ -1,13 +1,17 @@
-pub mod RouteFacts
-pub mod ShowFacts
-pub mod OrderFacts
-pub mod SewnDesigns
-pub mod LineWalks
-pub mod PutLemmas
-pub mod DeliveryLemmas
-pub mod RunLemmas
-pub mod KeepLemmas
-pub mod RewriteLemmas
-pub mod EditLemmas
-pub mod ChangeLemmas
-pub mod DecisionLemmas
+mod PutLemmas
+mod DeliveryLemmas
+mod PlanLemmas
+mod EditLemmas
+mod ChangeLemmas
+mod KeepLemmas
+mod DecisionLemmas
+mod RunLemmas
+mod RewriteLemmas
+mod SewnDesigns
+mod ReportLemmas
+mod RouteLemmas
+mod SampleLemmas
+mod OrderFacts
+mod ShowFacts
+mod RouteFacts
+mod TextFacts

@@ -6,7 +6,7 @@ use Rattle.design_model.specs.declared.command.Command.TheVariants.{Stitch, Stop
 use Rattle.design_model.specs.declared.point.Point.{Point}
 use Rattle.design_model.specs.Designs.{DesignValue, empty_design}
 use Rattle.format_traits.specs.Meanings.{Meaning}
-use Rattle.stitch_cli.specs.declared.stop.Refusal.TheVariants as refusal
+use Rattle.stitch_cli.specs.declared.changing.ChangeFault.TheVariants as reason
 use Rattle.stitch_cli.specs.ChangedDesigns.{shifted_unless, threaded}
 use Rattle.stitch_cli.specs.Orders.{hooping, order_of, rewriting, routing, showing}
 
@@ -102,9 +102,9 @@ two_blocks = record empty_design { commands = Stitch (place (pos 0) (pos 0)) ∷
 pub known_second_thread : threaded 2 9 two_blocks ≡ Ok (record two_blocks { threads = 1 ∷ 9 ∷ [] })
 known_second_thread = refl
 
-pub known_no_third_place : threaded 3 9 two_blocks ≡ Err (refusal.NoPlace 3 2)
+pub known_no_third_place : threaded 3 9 two_blocks ≡ Err (reason.NoPlace 3 2)
 known_no_third_place = refl
 
 -- a shift that leads a command out of range names it
-pub known_moved_out : shifted_unless (Some 4) two_blocks ≡ Err (refusal.MovedOut 4)
+pub known_moved_out : shifted_unless (Some 4) two_blocks ≡ Err (reason.MovedOut 4)
 known_moved_out = refl

@@ -1,5 +1,5 @@
 -- Puts one after another.
-use Rattle.std.proofs.Common.{◌≡◌, ◌++◌, ℕ, List, Option, Some, None, Result, Ok, Err, sym, ap, refl, subst, ◌∙◌, append_assoc, take, drop, OnOk, OnErr, inl, inr}
+use Rattle.std.proofs.Common.{◌≡◌, ◌++◌, ℕ, List, [], Option, Some, None, Result, Ok, Err, sym, ap, refl, subst, ◌∙◌, append_assoc, append-nil, take, drop, OnOk, OnErr, inl, inr}
 use Rattle.std.proofs.lemmas.List.{take-append-drop}
 use Rattle.outside_io.specs.declared.store.Failed.{Failed}
 use Rattle.outside_io.specs.Causes.{with_more}
@@ -7,7 +7,12 @@ use Rattle.outside_io.specs.Counts.{Rose}
 use Rattle.stitch_cli.specs.declared.status.Status.{Status}
 use Rattle.stitch_cli.specs.declared.status.Status.TheVariants as status
 use Rattle.stitch_cli.specs.Endings.{Tells}
-use Rattle.stitch_cli.specs.Sights.{Broke, Puts, SinkSight, fed, sink_sight}
+use Rattle.outside_io.specs.Sights.{SinkSight}
+use Rattle.stitch_cli.specs.Puts.{Broke, Puts, fed}
+
+-- what a sink shows, by its parts
+abbrev seen_sink : Option (List ℕ) → ℕ → SinkSight
+seen_sink taken faults = record { taken = taken; faults = faults }
 
 -- bytes added twice are added at once
 pub with_more-append : (old : Option (List ℕ)) (a b : List ℕ) → with_more (with_more old a) b ≡ with_more old (a ++ b)
@@ -38,13 +43,12 @@ broke-after before mid after a b taken broke = record {
 pub fed-append : (before mid after : SinkSight) (a b : List ℕ) → mid ≡ fed before a → after ≡ fed mid b → after ≡ fed before (a ++ b)
 fed-append before mid after a b first second =
     second ∙ (ap (λ (s : SinkSight). fed s b) first
-    ∙ ap (λ (t : Option (List ℕ)). sink_sight t before.faults) (with_more-append before.taken a b))
+    ∙ ap (λ (t : Option (List ℕ)). seen_sink t before.faults) (with_more-append before.taken a b))
 
 -- a put that failed, in the words of sights
-pub broke_of : (old new : Option (List ℕ)) (before after : ℕ) (bytes : List ℕ) →
-    (count : ℕ) × (new ≡ with_more old (take count bytes)) → Rose before after →
-    Broke (sink_sight old before) (sink_sight new after) bytes
-broke_of old new before after bytes (count, taken) rose = record {
+pub broke_of : (before after : SinkSight) (bytes : List ℕ) → (count : ℕ) × (after.taken ≡ with_more before.taken (take count bytes))
+    → Rose before.faults after.faults → Broke before after bytes
+broke_of before after bytes (count, taken) rose = record {
   first = take count bytes;
   rest = drop count bytes;
   split = take-append-drop count bytes;
@@ -52,17 +56,36 @@ broke_of old new before after bytes (count, taken) rose = record {
   rose = rose;
 }
 
--- bytes that were taken, and then an answer to putting more
-pub puts_then : {T : Type 0} (a b : List ℕ) (before mid after : SinkSight) (r : Result T Failed) →
-    mid ≡ fed before a → Puts b mid after r → Puts (a ++ b) before after r
-puts_then a b before mid after (Ok _) first second = record {
-  ok = fed-append before mid after a b first second.ok;
-  err = tt;
+-- nothing put is nothing taken
+fed-nil : (now : SinkSight) → now ≡ fed now []
+fed-nil now = ap (λ (t : Option (List ℕ)). seen_sink t now.faults) (same now.taken)
+  where
+    same : (held : Option (List ℕ)) → held ≡ with_more held []
+    same None = refl
+    same (Some bytes) = ap (λ (xs : List ℕ). Some xs) (sym (append-nil bytes))
+
+-- some pieces of a text were put, and once those that are left are put too, the whole is; so it is where one breaks
+pub record PutsOn (whole left : List ℕ) (before now : SinkSight) : Type 0 where
+  pub ok : (after : SinkSight) → after ≡ fed now left → after ≡ fed before whole
+  pub err : (after : SinkSight) → Broke now after left → Broke before after whole
+
+pub puts_first : (whole : List ℕ) (s : SinkSight) → PutsOn whole whole s s
+puts_first whole s = record { ok = λ after is. is; err = λ after broke. broke }
+
+pub puts_on : (whole left piece rest : List ℕ) (before now next : SinkSight) → PutsOn whole left before now
+    → left ≡ piece ++ rest → next ≡ fed now piece → PutsOn whole rest before next
+puts_on whole left piece rest before now next on is taken = record {
+  ok = λ after more. on.ok after (subst (λ (xs : List ℕ). after ≡ fed now xs) (sym is) (fed-append now next after piece rest taken more));
+  err = λ after broke. on.err after (subst (λ (xs : List ℕ). Broke now after xs) (sym is) (broke-after now next after piece rest taken broke));
 }
-puts_then a b before mid after (Err _) first second = record {
-  ok = tt;
-  err = broke-after before mid after a b first second.err;
-}
+
+pub puts_broke : (whole left piece rest : List ℕ) (before now next : SinkSight) → PutsOn whole left before now
+    → left ≡ piece ++ rest → Broke now next piece → Broke before next whole
+puts_broke whole left piece rest before now next on is broke =
+    on.err next (subst (λ (xs : List ℕ). Broke now next xs) (sym is) (broke-more now next piece rest broke))
+
+pub puts_all : (whole left : List ℕ) (before now : SinkSight) → PutsOn whole left before now → left ≡ [] → now ≡ fed before whole
+puts_all whole left before now on none = on.ok now (subst (λ (xs : List ℕ). now ≡ fed now xs) (sym none) (fed-nil now))
 
 -- the status that is planned where a text was put, and `Fault` where it wasn't, tell that text
 pub told_by : {T : Type 0} (text : List ℕ) (before after : SinkSight) (planned : Status) (put : Result T Failed) (s : Status)

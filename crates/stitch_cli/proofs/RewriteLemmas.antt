@@ -1,99 +1,71 @@
--- What stops a rewriting, from what stops its steps.
-use Rattle.std.proofs.Common.{◌≡◌, ℕ, IfErr, Ok, Err, Result, inl, inr, refl, subst}
+-- What comes of a rewriting, from what comes of its steps.
+use Rattle.std.proofs.Common.{◌≡◌, ℕ, List, Result, Ok, Err, refl, subst, ◌∙◌, sym}
 use Rattle.design_model.specs.Designs.{DesignValue}
 use Rattle.format_traits.specs.declared.loaded.Loaded.{Loaded}
-use Rattle.stitch_cli.specs.declared.making.Made.{Made}
-use Rattle.stitch_cli.specs.declared.stop.Refusal.TheVariants as refusal
-use Rattle.stitch_cli.specs.declared.stop.Stop.{Stop}
-use Rattle.stitch_cli.specs.declared.stop.Stop.TheVariants as stop
-use Rattle.stitch_cli.specs.Endings.{Stops}
-use Rattle.stitch_cli.specs.Orders.{RewriteOrder, rewriting}
-use Rattle.stitch_cli.specs.RewriteSteps.{ChangesTo, IsRemade}
-use Rattle.stitch_cli.specs.Rewrites.{unchanged, unread, unwritten}
-use Rattle.stitch_cli.specs.Sights.{StoreSight}
-use Rattle.stitch_cli.specs.Steps.{IsRead, ReadsDesign}
+use Rattle.outside_io.specs.Sights.{StoreSight}
+use Rattle.stitch_cli.specs.declared.changing.Unchanged.{Unchanged}
+use Rattle.stitch_cli.specs.declared.changing.Unchanged.TheVariants as unchanged
+use Rattle.stitch_cli.specs.declared.halt.Halt.{Halt}
+use Rattle.stitch_cli.specs.declared.halt.Halt.TheVariants as halt
+use Rattle.stitch_cli.specs.declared.product.Product.{Product}
+use Rattle.stitch_cli.specs.Endings.{IsPrepared, Settles}
+use Rattle.stitch_cli.specs.Orders.{RewriteOrder}
+use Rattle.stitch_cli.specs.Plans.{decides}
+use Rattle.stitch_cli.specs.RewriteSteps.{ChangesTo, IsUnchangedFor, WriteOf}
+use Rattle.stitch_cli.specs.Rewrites.{RewriteOf, not_changed, not_written}
 
--- a file that was not read
-pub read_stops : (order : RewriteOrder) (store store' : StoreSight) (why : Stop)
-    → ReadsDesign order.source order.input store store' (Err why) → Stops (rewriting order) store store' why
-read_stops order store store' stop.Missing stops = stops
-read_stops order store store' stop.NotRead stops = stops
-read_stops order store store' (stop.Refused refusal.TooLong) (longer, same) =
-    (inl (record { is = refl; longer = longer }), same)
-read_stops order store store' (stop.Refused (refusal.Unread f)) (refuses, same) = (
-  inr (record {
-    bytes = refuses.bytes;
-    held = refuses.held;
-    short = refuses.short;
-    is = unread f refl refuses.read;
-  }),
+-- a changed design is written, or can't be
+written_of : (order : RewriteOrder) (loaded : Loaded) (d : DesignValue)
+    (store store' : StoreSight) (result : Result Product Halt) → ChangesTo order.target.limit order.changes loaded.design (Ok d)
+    → IsPrepared (decides (WriteOf order.output order.target d)) store store' result
+    → IsPrepared (decides (RewriteOf order loaded)) store store' result
+written_of order loaded d store store' (Ok product) becomes (is, fit, same) = (
+  record {
+    design = d;
+    becomes = becomes;
+    out = is.out;
+    written = is.written;
+    again = is.again;
+    within = is.within;
+    made = is.made;
+  },
+  fit,
   same,
 )
-read_stops order store store' (stop.Refused (refusal.BadDrawing fault)) never = absurd never
-read_stops order store store' (stop.Refused refusal.NotOnlyLoops) never = absurd never
-read_stops order store store' (stop.Refused (refusal.StepTooLong step)) never = absurd never
-read_stops order store store' (stop.Refused (refusal.Unwritten f)) never = absurd never
-read_stops order store store' (stop.Refused (refusal.RefitTooMany number)) never = absurd never
-read_stops order store store' (stop.Refused (refusal.MovedOut number)) never = absurd never
-read_stops order store store' (stop.Refused (refusal.NoPlace place count)) never = absurd never
-read_stops order store store' (stop.Refused (refusal.TooLarge x y)) never = absurd never
-read_stops order store store' stop.Memory same = same
+written_of order loaded d store store' (Err halt.Unasked) becomes never = never
+written_of order loaded d store store' (Err (halt.Missing name)) becomes (misses, same) = absurd (misses.comes)
+written_of order loaded d store store' (Err (halt.NotRead name)) becomes (never, fault, files) = absurd never
+written_of order loaded d store store' (Err (halt.Refused why)) becomes (is, same) =
+    (not_written d is.fault is.is becomes is.refuses, same)
+written_of order loaded d store store' (Err halt.Memory) becomes same = same
 
--- a change that was refused
-change_stops_by : (order : RewriteOrder) (loaded : Loaded) (store store' : StoreSight) (why : Stop)
-    → IsRead order.source order.input store loaded → store' ≡ store
-    → ChangesTo order.target.limit order.changes loaded.design (Err why) → Stops (rewriting order) store store' why
-change_stops_by order loaded store store' stop.Missing is same never = absurd never
-change_stops_by order loaded store store' stop.NotRead is same never = absurd never
-change_stops_by order loaded store store' (stop.Refused why) is same refused = (
-  inr (record {
-    bytes = is.bytes;
-    held = is.held;
-    short = is.short;
-    is = unchanged loaded is.read refused;
-  }),
-  same,
-)
-change_stops_by order loaded store store' stop.Memory is same none = same
+pub settles_written : (order : RewriteOrder) (loaded : Loaded) (d : DesignValue)
+    (limit : ℕ) (result : Result Product Halt) → limit ≡ order.target.limit → ChangesTo limit order.changes loaded.design (Ok d)
+    → Settles (decides (WriteOf order.output order.target d)) result
+    → Settles (decides (RewriteOf order loaded)) result
+settles_written order loaded d limit result at becomes settles = record {
+  at = λ store. written_of order loaded d store store result
+      (subst (λ (n : ℕ). ChangesTo n order.changes loaded.design (Ok d)) at becomes) (settles.at store);
+}
 
-pub change_stops : (order : RewriteOrder) (limit : ℕ) (loaded : Loaded) (store store' : StoreSight) (why : Stop)
-    → IsRead order.source order.input store loaded → store' ≡ store → limit ≡ order.target.limit
-    → ChangesTo limit order.changes loaded.design (Err why) → Stops (rewriting order) store store' why
-change_stops order limit loaded store store' why is same at becomes = change_stops_by order loaded store store' why is same
-    (subst (λ (n : ℕ). ChangesTo n order.changes loaded.design (Err why)) at becomes)
+-- a design was not changed
+unchanged_of : (order : RewriteOrder) (loaded : Loaded) (fault : Unchanged) (store : StoreSight)
+    (why : Halt) → ChangesTo order.target.limit order.changes loaded.design (Err fault) → IsUnchangedFor order.input order.output fault why
+    → IsPrepared (decides (RewriteOf order loaded)) store store (Err why)
+unchanged_of order loaded unchanged.Memory store why becomes is =
+    subst (λ (w : Halt). IsPrepared (decides (RewriteOf order loaded)) store store (Err w)) (sym is) refl
+unchanged_of order loaded (unchanged.For fault) store halt.Unasked becomes never = absurd never
+unchanged_of order loaded (unchanged.For fault) store (halt.Missing name) becomes never = absurd never
+unchanged_of order loaded (unchanged.For fault) store (halt.NotRead name) becomes never = absurd never
+unchanged_of order loaded (unchanged.For fault) store (halt.Refused why) becomes is =
+    (not_changed fault is becomes, refl)
+unchanged_of order loaded (unchanged.For fault) store halt.Memory becomes never = absurd never
 
--- a design that could not be written
-remake_stops_by : (order : RewriteOrder) (loaded : Loaded) (design : DesignValue) (store store' : StoreSight) (why : Stop)
-    → IsRead order.source order.input store loaded → store' ≡ store
-    → ChangesTo order.target.limit order.changes loaded.design (Ok design) → IsRemade order.target design (Err why)
-    → Stops (rewriting order) store store' why
-remake_stops_by order loaded design store store' stop.Missing is same becomes never = absurd never
-remake_stops_by order loaded design store store' stop.NotRead is same becomes never = absurd never
-remake_stops_by order loaded design store store' (stop.Refused (refusal.Unwritten f)) is same becomes refuses = (
-  inr (record {
-    bytes = is.bytes;
-    held = is.held;
-    short = is.short;
-    is = unwritten loaded design f refl is.read becomes refuses;
-  }),
-  same,
-)
-remake_stops_by order loaded design store store' (stop.Refused refusal.TooLong) is same becomes never = absurd never
-remake_stops_by order loaded design store store' (stop.Refused (refusal.BadDrawing fault)) is same becomes never = absurd never
-remake_stops_by order loaded design store store' (stop.Refused refusal.NotOnlyLoops) is same becomes never = absurd never
-remake_stops_by order loaded design store store' (stop.Refused (refusal.StepTooLong step)) is same becomes never = absurd never
-remake_stops_by order loaded design store store' (stop.Refused (refusal.Unread f)) is same becomes never = absurd never
-remake_stops_by order loaded design store store' (stop.Refused (refusal.RefitTooMany number)) is same becomes never = absurd never
-remake_stops_by order loaded design store store' (stop.Refused (refusal.MovedOut number)) is same becomes never = absurd never
-remake_stops_by order loaded design store store' (stop.Refused (refusal.NoPlace place count)) is same becomes never = absurd never
-remake_stops_by order loaded design store store' (stop.Refused (refusal.TooLarge x y)) is same becomes never = absurd never
-remake_stops_by order loaded design store store' stop.Memory is same becomes none = same
-
-pub remake_stops : (order : RewriteOrder) (limit : ℕ) (loaded : Loaded) (design : DesignValue) (store store' : StoreSight)
-    (r : Result Made Stop) → IsRead order.source order.input store loaded → store' ≡ store → limit ≡ order.target.limit
-    → ChangesTo limit order.changes loaded.design (Ok design) → IsRemade order.target design r
-    → IfErr r (Stops (rewriting order) store store')
-remake_stops order limit loaded design store store' (Ok made) is same at becomes remade = tt
-remake_stops order limit loaded design store store' (Err why) is same at becomes remade =
-    remake_stops_by order loaded design store store' why is same
-    (subst (λ (n : ℕ). ChangesTo n order.changes loaded.design (Ok design)) at becomes) remade
+pub settles_unchanged : (order : RewriteOrder) (loaded : Loaded) (fault : Unchanged)
+    (limit : ℕ) (why : Halt) → limit ≡ order.target.limit → ChangesTo limit order.changes loaded.design (Err fault)
+    → IsUnchangedFor order.input order.output fault why
+    → Settles (decides (RewriteOf order loaded)) (Err why)
+settles_unchanged order loaded fault limit why at becomes is = record {
+  at = λ store. unchanged_of order loaded fault store why
+      (subst (λ (n : ℕ). ChangesTo n order.changes loaded.design (Err fault)) at becomes) is;
+}

@@ -1,77 +1,45 @@
 -- What the end of a run means.
-use Rattle.std.proofs.Common.{◌≡◌, ℕ, inl, inr, Bool, true, false, List, Option, Some, None, refl, sym, subst, if◌then◌else◌, bytes_eq}
+use Rattle.std.proofs.Common.{◌≡◌, ℕ, inl, inr, Bool, true, false, List, Option, Some, None, Ok, Err, Result, refl, sym, subst, bytes_eq, if◌then◌else◌}
 use Rattle.command_words.specs.Changes.{Change}
 use Rattle.format_traits.specs.Meanings.{Meaning}
+use Rattle.outside_io.specs.Sights.{SinkSight, StoreSight}
+use Rattle.stitch_cli.specs.declared.halt.Halt.{Halt}
+use Rattle.stitch_cli.specs.declared.halt.Halt.TheVariants as halt
+use Rattle.stitch_cli.specs.declared.product.Product.{Product}
 use Rattle.stitch_cli.specs.declared.status.Status.{Status}
 use Rattle.stitch_cli.specs.declared.status.Status.TheVariants as status
-use Rattle.stitch_cli.specs.declared.stop.Stop.{Stop}
-use Rattle.stitch_cli.specs.declared.stop.Stop.TheVariants as stop
-use Rattle.stitch_cli.specs.Endings.{Delivers, Ends, OrderEnds, Stops, Tells, all, but_report, made, status_of, stopped, up_to}
-use Rattle.stitch_cli.specs.Orders.{Order, are_apart, input_of, hoop_order, hooping, hooping_by, rewriting, rewriting_by, routing, routing_to, show_order, showing, showing_by, subject_of}
-use Rattle.stitch_cli.specs.Outcomes.{Makes}
-use Rattle.stitch_cli.specs.Products.{Product}
-use Rattle.stitch_cli.specs.Runs.{CallsFor, IsDone, IsFault, IsMemory, IsRefused, IsUsage, Sights, failed, memory, missing, refused, unprinted, unread, unwritten, usage}
-use Rattle.stitch_cli.specs.Sights.{SinkSight, StoreSight}
-use Rattle.stitch_cli.specs.Texts.{stop_line, unprinted_line, unread_line, unwritten_line, usage_text}
+use Rattle.stitch_cli.specs.Commands.{plan_of}
+use Rattle.stitch_cli.specs.Endings.{Answers, Delivers, Ends, Halts, IsPrepared, OrderEnds, Tells, all, but_report, halted, made, status_of, up_to}
+use Rattle.stitch_cli.specs.Orders.{Order, are_apart, hoop_order, hooping, hooping_by, rewriting, rewriting_by, routing, routing_to, show_order, showing, showing_by}
+use Rattle.stitch_cli.specs.Plans.{Makes}
+use Rattle.stitch_cli.specs.Products.{ProductValue, product_of}
+use Rattle.stitch_cli.specs.Refusals.{refusal_of}
+use Rattle.stitch_cli.specs.Runs.{CallsFor, IsDone, IsFault, IsMemory, IsRefused, IsUsage, RunEnds, Sights, failed, memory, missing, not_read, not_written, refused, seen, unprinted, usage}
+use Rattle.stitch_cli.specs.Texts.{halt_text, memory_line, refusal_line, unprinted_line, unread_line, unwritten_line, usage_text}
+use Rattle.line_graph.specs.OnePieces.{PiecesAreOne}
+use Rattle.stitch_cli.proofs.DecisionLemmas.{decided}
+use Rattle.stitch_cli.proofs.KeepLemmas.{keeps_others}
 
--- a route that is complete ends as the words ask
-pub route_ends : (drawing out cert : List ℕ) (found : Option Meaning) (format : Meaning) (before after : Sights) (s : Status)
-    → Some format ≡ found → are_apart drawing out cert ≡ true
-    → Ends (Some (routing (record { drawing = drawing; out = out; cert = cert; format = format }))) before after s
-    → Ends (routing_to drawing out cert found) before after s
-route_ends drawing out cert found format before after s is apart ends =
-    subst (λ (m : Option Meaning). Ends (routing_to drawing out cert m) before after s) is
-    (subst (λ (b : Bool). Ends (if b then Some (routing (record { drawing = drawing; out = out; cert = cert; format = format }))
-    else None) before after s) (sym apart) ends)
+-- a product that was prepared is delivered from where the store stood before
+pub ends_made : (asked : Option Order) (product : Product) (store mid : StoreSight) (out err : SinkSight) (after : Sights) (s : Status)
+    → Answers asked store mid (Ok product) → Delivers (product_of product) (seen mid out err) after s
+    → Ends asked (seen store out err) after s
+ends_made None product store mid out err after s (never, same) delivers = absurd (let no : ⊥ = cc in no)
+ends_made (Some order) product store mid out err after s prepared delivers = delivered prepared.is
+  where
+    delivered : IsPrepared (plan_of order) store mid (Ok product) → Ends (Some order) (seen store out err) after s
+    delivered (makes, fit, same) = made (product_of product) makes (subst (λ (t : StoreSight). Delivers (product_of product) (seen t out err) after s) same delivers)
 
--- a showing that is complete ends as the words ask
-pub show_ends : (file : List ℕ) (found : Option Meaning) (format : Meaning) (before after : Sights) (s : Status)
-    → Some format ≡ found → OrderEnds (showing (show_order file format)) before after s
-    → Ends (showing_by file found) before after s
-show_ends file found format before after s is ends =
-    subst (λ (m : Option Meaning). Ends (showing_by file m) before after s) is ends
-
--- a check of a hoop that is complete ends as the words ask
-pub hoop_ends : (file : List ℕ) (width height : ℕ) (found : Option Meaning) (format : Meaning) (before after : Sights)
-    (s : Status) → Some format ≡ found → OrderEnds (hooping (hoop_order file format width height)) before after s
-    → Ends (hooping_by file width height found) before after s
-hoop_ends file width height found format before after s is ends =
-    subst (λ (m : Option Meaning). Ends (hooping_by file width height m) before after s) is ends
-
--- a rewriting that is complete ends as the words ask
-pub rewrite_ends : (input output : List ℕ) (changes : List Change) (found there : Option Meaning) (source target : Meaning)
-    (before after : Sights) (s : Status) → Some source ≡ found → Some target ≡ there → bytes_eq input output ≡ false
-    → Ends (Some (rewriting (record {
-      input = input;
-      output = output;
-      source = source;
-      target = target;
-      changes = changes;
-    }))) before after s → Ends (rewriting_by input output changes found there) before after s
-rewrite_ends input output changes found there source target before after s one other apart ends =
-    subst (λ (m : Option Meaning). Ends (rewriting_by input output changes m there) before after s) one
-    (subst (λ (m : Option Meaning). Ends (rewriting_by input output changes (Some source) m) before after s) other
-    (subst (λ (b : Bool). Ends (if b then None else Some (rewriting (record {
-      input = input;
-      output = output;
-      source = source;
-      target = target;
-      changes = changes;
-    }))) before after s) (sym apart) ends))
-
--- what was prepared is delivered from where the store stood before
-pub ends_made : (order : Order) (product : Product) (store mid : StoreSight) (out err : SinkSight) (after : Sights) (s : Status)
-    → Makes order store.files product → mid ≡ store
-    → Delivers product (record { store = mid; out = out; err = err }) after s
-    → OrderEnds order (record { store = store; out = out; err = err }) after s
-ends_made order product store mid out err after s makes same delivers = made product makes
-    (subst (λ (t : StoreSight). Delivers product (record { store = t; out = out; err = err }) after s) same delivers)
-
--- what stopped is told
-pub ends_stopped : (order : Order) (store store' : StoreSight) (out err err' : SinkSight) (why : Stop) (s : Status)
-    → Stops order store store' why → Tells (stop_line (subject_of order) why) (status_of why) err err' s
-    → OrderEnds order (record { store = store; out = out; err = err }) (record { store = store'; out = out; err = err' }) s
-ends_stopped order store store' out err err' why s stops tells = stopped why stops refl tells
+-- what halted is told
+pub ends_halted : (asked : Option Order) (store store' : StoreSight) (out err err' : SinkSight) (why : Halt) (s : Status)
+    → Answers asked store store' (Err why) → Tells (halt_text why) (status_of why) err err' s
+    → Ends asked (seen store out err) (seen store' out err') s
+ends_halted None store store' out err err' why s (is, same) tells =
+    (same, refl, subst (λ (w : Halt). Tells (halt_text w) (status_of w) err err' s) (unasked (Err why) refl is) tells)
+  where
+    unasked : (r : Result Product Halt) → r ≡ Err why → r ≡ Err halt.Unasked → why ≡ halt.Unasked
+    unasked r one other = cc
+ends_halted (Some order) store store' out err err' why s prepared tells = halted why prepared.is refl tells
 
 -- how a run came out: it is done, or it calls for a status and a text
 data ComesOut (asked : Option Order) (before after : Sights) (s : Status) : Type 0 where
@@ -79,23 +47,24 @@ data ComesOut (asked : Option Order) (before after : Sights) (s : Status) : Type
   calls_for : (planned : Status) (text : List ℕ) → CallsFor asked before after planned text
       → Tells text planned before.err after.err s → ComesOut asked before after s
 
--- an order that stopped
-stop_out : (order : Order) (before after : Sights) (s : Status) (why : Stop) → Stops order before.store after.store why
-    → after.out ≡ before.out → Tells (stop_line (subject_of order) why) (status_of why) before.err after.err s
+-- an order that halted
+halt_out : (order : Order) (before after : Sights) (s : Status) (why : Halt) → Halts (plan_of order) before.store after.store why
+    → after.out ≡ before.out → Tells (halt_text why) (status_of why) before.err after.err s
     → ComesOut (Some order) before after s
-stop_out order before after s stop.Missing (lacks, store) out tells = calls_for status.Fault (unread_line (input_of order))
-    (failed order refl refl (missing refl lacks (record { store = store; out = out }))) tells
-stop_out order before after s stop.NotRead (fault, files) out tells = calls_for status.Fault (unread_line (input_of order))
-    (failed order refl refl (unread refl (record { fault = fault; files = files; out = out }))) tells
-stop_out order before after s (stop.Refused why) (refuses, store) out tells =
-    calls_for status.Refused (stop_line (subject_of order) (stop.Refused why))
-    (refused order why refl refl refl refuses (record { store = store; out = out })) tells
-stop_out order before after s stop.Memory store out tells = calls_for status.Memory (stop_line (subject_of order) stop.Memory)
+halt_out order before after s halt.Unasked never out tells = absurd never
+halt_out order before after s (halt.Missing name) (misses, store) out tells = calls_for status.Fault (unread_line name.now)
+    (failed order refl refl (missing name.now refl (record { misses = misses; untouched = record { store = store; out = out } }))) tells
+halt_out order before after s (halt.NotRead name) (comes, fault, files) out tells = calls_for status.Fault (unread_line name.now)
+    (failed order refl refl (not_read name.now refl (record { comes = comes; fault = fault; files = files; out = out }))) tells
+halt_out order before after s (halt.Refused why) (refuses, store) out tells =
+    calls_for status.Refused (refusal_line (refusal_of why))
+    (refused order (refusal_of why) refl refl refl refuses (record { store = store; out = out })) tells
+halt_out order before after s halt.Memory store out tells = calls_for status.Memory memory_line
     (memory refl refl (record { store = store; out = out })) tells
 
 -- a product that was delivered, or not
-delivery_out : (order : Order) (product : Product) (before after : Sights) (s : Status)
-    → Makes order before.store.files product → Delivers product before after s → ComesOut (Some order) before after s
+delivery_out : (order : Order) (product : ProductValue) (before after : Sights) (s : Status)
+    → Makes (plan_of order) before.store.files product → Delivers product before after s → ComesOut (Some order) before after s
 delivery_out order product before after s makes (all done wrote report err) = is_done done (record {
   order = order;
   asks = refl;
@@ -106,7 +75,7 @@ delivery_out order product before after s makes (all done wrote report err) = is
   err = err;
 })
 delivery_out order product before after s makes (up_to name wrote out tells) =
-    calls_for status.Fault (unwritten_line name) (failed order refl refl (unwritten name refl
+    calls_for status.Fault (unwritten_line name) (failed order refl refl (not_written name refl
     (record { product = product; made = makes; wrote = wrote; out = out }))) tells
 delivery_out order product before after s makes (but_report wrote broke tells) =
     calls_for status.Fault unprinted_line (failed order refl refl (unprinted refl
@@ -117,7 +86,7 @@ comes_out : (asked : Option Order) (before after : Sights) (s : Status) → Ends
 comes_out None before after s (store, out, tells) =
     calls_for status.Usage usage_text (usage refl refl refl (record { store = store; out = out })) tells
 comes_out (Some order) before after s (made product makes delivers) = delivery_out order product before after s makes delivers
-comes_out (Some order) before after s (stopped why stops out tells) = stop_out order before after s why stops out tells
+comes_out (Some order) before after s (halted why halts out tells) = halt_out order before after s why halts out tells
 
 -- what `Done` means
 done_out : (asked : Option Order) (before after : Sights) → ComesOut asked before after status.Done → IsDone asked before after
@@ -128,7 +97,7 @@ done_out asked before after (calls_for planned text (refused order why asks is s
 done_out asked before after (calls_for planned text (failed order asks is fails) (inl (so, told))) = cc
 done_out asked before after (calls_for planned text (memory is same kept) (inl (so, told))) = cc
 
-pub done_means : (asked : Option Order) (before after : Sights) (s : Status) → Ends asked before after s
+done_means : (asked : Option Order) (before after : Sights) (s : Status) → Ends asked before after s
     → s ≡ status.Done → IsDone asked before after
 done_means asked before after s ends is =
     done_out asked before after (comes_out asked before after status.Done (subst (λ (t : Status). Ends asked before after t) is ends))
@@ -150,7 +119,7 @@ refused_out asked before after (calls_for planned text (refused order why asks i
 refused_out asked before after (calls_for planned text (failed order asks is fails) (inl (so, told))) = cc
 refused_out asked before after (calls_for planned text (memory is same kept) (inl (so, told))) = cc
 
-pub refused_means : (asked : Option Order) (before after : Sights) (s : Status) → Ends asked before after s
+refused_means : (asked : Option Order) (before after : Sights) (s : Status) → Ends asked before after s
     → s ≡ status.Refused → IsRefused asked before after
 refused_means asked before after s ends is =
     refused_out asked before after (comes_out asked before after status.Refused (subst (λ (t : Status). Ends asked before after t) is ends))
@@ -168,7 +137,7 @@ usage_out asked before after (calls_for planned text (refused order why asks is 
 usage_out asked before after (calls_for planned text (failed order asks is fails) (inl (so, told))) = cc
 usage_out asked before after (calls_for planned text (memory is same kept) (inl (so, told))) = cc
 
-pub usage_means : (asked : Option Order) (before after : Sights) (s : Status) → Ends asked before after s
+usage_means : (asked : Option Order) (before after : Sights) (s : Status) → Ends asked before after s
     → s ≡ status.Usage → IsUsage asked before after
 usage_means asked before after s ends is =
     usage_out asked before after (comes_out asked before after status.Usage (subst (λ (t : Status). Ends asked before after t) is ends))
@@ -185,7 +154,7 @@ memory_out asked before after (calls_for planned text (memory is same kept) (inl
   told = rw same at told;
 }
 
-pub memory_means : (asked : Option Order) (before after : Sights) (s : Status) → Ends asked before after s
+memory_means : (asked : Option Order) (before after : Sights) (s : Status) → Ends asked before after s
     → s ≡ status.Memory → IsMemory before after
 memory_means asked before after s ends is =
     memory_out asked before after (comes_out asked before after status.Memory (subst (λ (t : Status). Ends asked before after t) is ends))
@@ -201,7 +170,19 @@ fault_out asked before after (calls_for planned text (failed order asks is fails
     inl (record { order = order; asks = asks; line = text; fails = fails; told = told })
 fault_out asked before after (calls_for planned text (memory is same kept) (inl (so, told))) = cc
 
-pub fault_means : (asked : Option Order) (before after : Sights) (s : Status) → Ends asked before after s
+fault_means : (asked : Option Order) (before after : Sights) (s : Status) → Ends asked before after s
     → s ≡ status.Fault → IsFault asked before after
 fault_means asked before after s ends is =
     fault_out asked before after (comes_out asked before after status.Fault (subst (λ (t : Status). Ends asked before after t) is ends))
+
+-- how a run ends, in the words of its contract
+pub run_ends : PiecesAreOne → (asked : Option Order) (before after : Sights) (s : Status) → Ends asked before after s → RunEnds asked before after s
+run_ends one asked before after s ends = record {
+  done = done_means asked before after s ends;
+  refused = refused_means asked before after s ends;
+  usage = usage_means asked before after s ends;
+  fault = fault_means asked before after s ends;
+  memory = memory_means asked before after s ends;
+  others = keeps_others asked before after s ends;
+  decided = decided one asked before after s ends;
+}

@@ -1,8 +1,7 @@
--- The sewn design of walks, as a design that every format can write.
-use Rattle.std.proofs.Common.{◌≡◌, ℕ, zero, suc, ℤ, ◌-ℤ◌, ◌+◌, ◌-◌, ◌*◌, ◌/◌, ◌<◌, ◌≤◌, Bool, true, false, ◌&&◌, List, [], ◌∷◌, ◌++◌, length, map, replicate, All, max, IsTrue, Result, Ok, Err, IsOkAnd, nat_le, unsigned_abs, refl, ◌∙◌, arith, if◌then◌else◌}
+-- The design of runs, as a design that every format can write.
+use Rattle.std.proofs.Common.{◌≡◌, ℕ, zero, suc, ℤ, ◌-ℤ◌, ◌+◌, ◌-◌, ◌*◌, ◌/◌, ◌<◌, ◌≤◌, Bool, true, false, ◌&&◌, List, [], ◌∷◌, ◌++◌, length, map, replicate, All, max, IsTrue, Result, Ok, Err, IsOkAnd, nat_le, unsigned_abs, refl, ap, ◌∙◌, arith, if◌then◌else◌}
 use Rattle.std.proofs.lemmas.Int.{ints}
 use Rattle.std.proofs.lemmas.Bool.Decides.{nat_tests}
-use Rattle.std.proofs.lemmas.List.{length-append, length-map, length-replicate}
 use Rattle.std.proofs.lemmas.List.Elements.{All-head, All-tail}
 use Rattle.std.proofs.lemmas.List.Sums.{sum_by-cons}
 use Rattle.std.proofs.Math.Nat.{div-lt_iff_lt-mul}
@@ -10,7 +9,7 @@ use Rattle.std.specs.Prelude.{sum_by}
 use Rattle.design_model.specs.declared.command.Command.TheVariants.{Stitch, Stop, Trim}
 use Rattle.design_model.specs.declared.command.Command.{Command}
 use Rattle.design_model.specs.declared.point.Point.{Point}
-use Rattle.design_model.specs.Acts.{acts_from, acts_of}
+use Rattle.design_model.specs.Acts.{acts_from, acts_of, bare}
 use Rattle.design_model.specs.Designs.{DesignValue}
 use Rattle.design_model.specs.Points.{is_within, move_between, origin, size_of}
 use Rattle.format_traits.specs.declared.fault.ReadFault.{ReadFault}
@@ -22,9 +21,7 @@ use Rattle.format_traits.specs.Refusals.{stops_of}
 use Rattle.format_traits.specs.Rooms.{loose_room, room_from}
 use Rattle.line_graph.specs.declared.pass.Pass.{Pass}
 use Rattle.line_graph.specs.Drawings.{DrawingValue}
-use Rattle.line_graph.specs.Sewing.{Sews, block_of_walk, commands_after, sewn_design}
-use Rattle.line_graph.specs.SewnPieces.{AreNear, AreWritable, stops_after}
-use Rattle.line_graph.specs.Walks.{needles_of_walk}
+use Rattle.line_graph.specs.Runs.{AreNear, AreWritable, Run, RunsAreSewn, Sews, commands_after, design_of_runs, runs_of, sewn_design, stops_after}
 use Rattle.step_splitter.specs.Chains.{IsNeedlePoint, KeepsClose}
 
 -- both of two tests hold, or either alone
@@ -158,64 +155,41 @@ walk_goes step limit (p ∷ points) rest stops room least more near on place in_
       room_to = λ n. omega (arith, later.room_to (n + 1), far, few);
     }
 
--- the needles of walks, counted
-abbrev pub needle_sum : DrawingValue → List (List Pass) → ℕ
-needle_sum d walks = sum_by (λ (walk : List Pass). length (needles_of_walk d walk)) walks
+-- the needles of runs, counted
+abbrev needle_sum : List Run → ℕ
+needle_sum runs = sum_by (λ (run : Run). length run.needles) runs
 
-module _ (d : DrawingValue) (limit : ℕ) (least : 121 ≤ limit) (more : d.step ≤ limit) where
-  walks_go : (block : ℕ) (walks : List (List Pass)) → All (λ walk. AreNear d.step (needles_of_walk d walk)) walks
-      → GoesOn limit (commands_after d block walks) (stops_after d block walks)
-      (stops_after d block walks + (needle_sum d walks + 501 * length walks))
-  walks_go block [] near place in_range = record {
+module _ (step limit : ℕ) (least : 121 ≤ limit) (more : step ≤ limit) where
+  runs_go : (block : ℕ) (runs : List Run) → All (λ (run : Run). AreNear step run.needles) runs
+      → GoesOn limit (commands_after block runs) (stops_after block runs)
+      (stops_after block runs + (needle_sum runs + 501 * length runs))
+  runs_go block [] near place in_range = record {
     needles = λ n. refl;
     stops_are = λ n. refl;
     room_to = λ n. omega arith;
   }
-  walks_go block (walk ∷ rest) near place in_range =
-      let later = walks_go (block_of_walk d walk) rest (All-tail (λ one. AreNear d.step (needles_of_walk d one)) walk rest near) in
-      let here = walk_goes d.step limit (needles_of_walk d walk) (commands_after d (block_of_walk d walk) rest) _ _ least more
-      (All-head (λ one. AreNear d.step (needles_of_walk d one)) walk rest near) later place in_range in
-      let all = stops_go limit (block_of_walk d walk - block) place _ _ _ here in
-      let sum = sum_by-cons (λ (one : List Pass). length (needles_of_walk d one)) walk rest in
+  runs_go block (run ∷ rest) near place in_range =
+      let later = runs_go run.block rest (All-tail (λ (one : Run). AreNear step one.needles) run rest near) in
+      let here = walk_goes step limit run.needles (commands_after run.block rest) _ _ least more
+      (All-head (λ (one : Run). AreNear step one.needles) run rest near) later place in_range in
+      let all = stops_go limit (run.block - block) place _ _ _ here in
+      let sum = sum_by-cons (λ (one : Run). length one.needles) run rest in
       record {
         needles = all.needles;
         stops_are = all.stops_are;
         room_to = λ n. omega (arith, all.room_to n, sum);
       }
 
--- the sewn design of walks that can be written is plain
-pub sewn_is_plain : (d : DrawingValue) (walks : List (List Pass)) (limit : ℕ) → AreWritable d walks → 121 ≤ limit
-    → d.step ≤ limit → IsPlain limit (sewn_design d walks)
-sewn_is_plain d walks limit able least more =
-    let goes = walks_go d limit least more 0 walks able.near origin refl in
+-- the design of runs that can be written is plain
+pub runs_are_plain : (d : DrawingValue) (runs : List Run) (step limit : ℕ) → AreWritable step runs → 121 ≤ limit
+    → step ≤ limit → IsPlain limit (design_of_runs d runs)
+runs_are_plain d runs step limit able least more =
+    let goes = runs_go step limit least more 0 runs able.near origin refl in
     record {
       needles = goes.needles 1;
       stops = omega (arith, goes.stops_are 1, able.stops_to);
-      room = omega (arith, goes.room_to 1, able.stops_to, able.needles_to, able.walks_to);
+      room = omega (arith, goes.room_to 1, able.stops_to, able.needles_to, able.runs_to);
     }
-
--- the commands of walks are their stops, their needles and a trim for each
-commands_count : (d : DrawingValue) (block : ℕ) (walks : List (List Pass))
-    → length (commands_after d block walks) ≡ stops_after d block walks + (needle_sum d walks + length walks)
-commands_count d block [] = omega arith
-commands_count d block (walk ∷ rest) =
-    let points : List Point = needles_of_walk d walk in
-    let later : List Command = commands_after d (block_of_walk d walk) rest in
-    omega (
-      arith,
-      commands_count d (block_of_walk d walk) rest,
-      length-append (replicate (block_of_walk d walk - block) Stop) (map (λ p. Stitch p) points ++ Trim ∷ later),
-      length-append (map (λ (p : Point). Stitch p) points) (Trim ∷ later),
-      length-map points (λ (p : Point). Stitch p),
-      length-replicate (block_of_walk d walk - block) Stop,
-      sum_by-cons (λ (one : List Pass). length (needles_of_walk d one)) walk rest,
-    )
-
--- those that can be written are few
-pub commands_few : (d : DrawingValue) (walks : List (List Pass)) → AreWritable d walks
-    → length (commands_after d 0 walks) ≤ 1000000
-commands_few d walks able =
-    omega (arith, commands_count d 0 walks, able.stops_to, able.needles_to, able.walks_to)
 
 -- what reads again as a design sews what the design sews
 pub sews_again : (d : DrawingValue) (walks : List (List Pass)) (design : DesignValue) (read : Result Loaded ReadFault)
@@ -223,3 +197,9 @@ pub sews_again : (d : DrawingValue) (walks : List (List Pass)) (design : DesignV
     → IsOkAnd read (λ loaded. (loaded.ended ≡ true) × Sews d walks (acts_of loaded.design))
 sews_again d walks design (Ok loaded) sews again = (again.ended, again.acts ∙ sews)
 sews_again d walks design (Err f) sews again = absurd again
+
+-- the sewn design of walks that can be written sews the drawing by them
+pub sewn_sews : RunsAreSewn → (d : DrawingValue) (walks : List (List Pass)) (design : DesignValue) (step : ℕ)
+    → design ≡ sewn_design d walks → AreWritable step (runs_of d walks) → Sews d walks (acts_of design)
+sewn_sews law d walks design step is able =
+    ap (λ (one : DesignValue). bare (acts_of one)) is ∙ law d (runs_of d walks) (λ k run less. (able.near k run less).some)

@@ -1,19 +1,19 @@
 -- Worked values of what is printed of a design, and of the lines of refusals that have numbers.
-use Rattle.std.proofs.Common.{◌≡◌, ℤ, pos, negsuc, true, false, [], ◌∷◌, ◌++◌, Ok, Err, refl}
+use Rattle.std.proofs.Common.{◌≡◌, ℤ, pos, negsuc, true, false, [], ◌∷◌, ◌++◌, None, refl}
 use Rattle.std.specs.Fmt.{digits}
-use Rattle.std.specs.Prelude.{codes, decimal}
+use Rattle.std.specs.Prelude.{codes}
 use Rattle.design_model.specs.declared.command.Command.TheVariants.{Stitch, Jump, Trim, Stop}
 use Rattle.design_model.specs.declared.point.Point.{Point}
 use Rattle.design_model.specs.Counts.{counts_of}
 use Rattle.design_model.specs.Designs.{DesignValue, empty_design}
 use Rattle.hoop_check.specs.declared.fitting.Fit.TheVariants as fit
-use Rattle.stitch_cli.specs.declared.stop.Refusal.TheVariants as refusal
-use Rattle.stitch_cli.specs.Certificates.{line_end}
-use Rattle.stitch_cli.specs.Hoops.{fitted_as}
+use Rattle.cut_certificate.specs.CertificateTexts.{line_end}
+use Rattle.stitch_cli.specs.Hoops.{hoop_fitted}
+use Rattle.stitch_cli.specs.Plans.{Makes, Refuses}
 use Rattle.stitch_cli.specs.Products.{only_report}
+use Rattle.stitch_cli.specs.Refusals.{too_large}
 use Rattle.stitch_cli.specs.Rewrites.{written_report}
 use Rattle.stitch_cli.specs.Shows.{show_report}
-use Rattle.stitch_cli.specs.Texts.{large_text, long_text, place_text}
 
 abbrev place : ℤ → ℤ → Point
 place x y = record { x = x; y = y }
@@ -68,27 +68,12 @@ pub known_written : written_report (counts_of two_blocks) ≡ codes "needles 3 t
 unfolding digits
 known_written = refl
 
--- a design that fits has a report, and one that doesn't is refused with how much it is too large by
-pub known_upright : fitted_as fit.Upright ≡ Ok (only_report (codes "fits upright" ++ line_end))
+-- a design that fits is told so, and one that doesn't is refused with how much it is too large by
+pub known_upright : Makes (hoop_fitted fit.Upright) None (only_report (codes "fits upright" ++ line_end))
 known_upright = refl
 
-pub known_turned : fitted_as fit.Turned ≡ Ok (only_report (codes "fits turned" ++ line_end))
+pub known_turned : Makes (hoop_fitted fit.Turned) None (only_report (codes "fits turned" ++ line_end))
 known_turned = refl
 
-pub known_too_large : fitted_as (fit.No 40 0) ≡ Err (refusal.TooLarge 40 0)
+pub known_too_large : Refuses (hoop_fitted (fit.No 40 7)) None (too_large 40 7)
 known_too_large = refl
-
-pub known_large_text : large_text (decimal 40) (decimal 0) ≡ codes "stitch: too large by 40 0" ++ line_end
-unfolding digits
-known_large_text = refl
-
--- a place for a thread that isn't there, and a stitch that is too long
-pub known_place_text : place_text (codes "a.pes") (decimal 9) (decimal 2)
-    ≡ codes "stitch: a.pes: no colour place 9, there are 2" ++ line_end
-unfolding digits
-known_place_text = refl
-
-pub known_long_text : long_text (codes "long.dst") (decimal 2) (decimal 121)
-    ≡ codes "stitch: long.dst: command 2: stitch longer than 121" ++ line_end
-unfolding digits
-known_long_text = refl

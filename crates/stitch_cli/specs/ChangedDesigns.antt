@@ -8,27 +8,27 @@ use Rattle.step_splitter.specs.declared.refitting.RefitFault.TheVariants as faul
 use Rattle.step_splitter.specs.declared.refitting.RefitMode.{RefitMode}
 use Rattle.step_splitter.specs.declared.refitting.RefitMode.TheVariants as mode
 use Rattle.step_splitter.specs.Refits.{Refits}
-use Rattle.stitch_cli.specs.declared.stop.Refusal.{Refusal}
-use Rattle.stitch_cli.specs.declared.stop.Refusal.TheVariants as refusal
+use Rattle.stitch_cli.specs.declared.changing.ChangeFault.{ChangeFault}
+use Rattle.stitch_cli.specs.declared.changing.ChangeFault.TheVariants as reason
 
 -- what a refit at that limit makes of a design
-abbrev pub RefitsTo : RefitMode → ℕ → DesignValue → Result DesignValue Refusal → Type 0
+abbrev pub RefitsTo : RefitMode → ℕ → DesignValue → Result DesignValue ChangeFault → Type 0
 RefitsTo m limit d (Ok refitted) = Refits m limit d (Ok refitted)
-RefitsTo m limit d (Err (refusal.RefitTooMany number)) = Refits m limit d (Err (fault.TooMany number))
+RefitsTo m limit d (Err (reason.RefitTooMany number)) = Refits m limit d (Err (fault.TooMany number))
 RefitsTo m limit d (Err _) = ⊥
 
 -- a shifted design, unless the point of a command would be out of range
-abbrev pub shifted_unless : Option ℕ → DesignValue → Result DesignValue Refusal
+abbrev pub shifted_unless : Option ℕ → DesignValue → Result DesignValue ChangeFault
 shifted_unless None moved = Ok moved
-shifted_unless (Some number) moved = Err (refusal.MovedOut number)
+shifted_unless (Some number) moved = Err (reason.MovedOut number)
 
 -- a design with a thread for a block counted from 1, unless it has no such place for a thread
-abbrev pub threaded : ℕ → ℕ → DesignValue → Result DesignValue Refusal
+abbrev pub threaded : ℕ → ℕ → DesignValue → Result DesignValue ChangeFault
 threaded place number d = if nat_lt (place - 1) (place_count d)
-    then Ok (recoloured (place - 1) number d) else Err (refusal.NoPlace place (place_count d))
+    then Ok (recoloured (place - 1) number d) else Err (reason.NoPlace place (place_count d))
 
 -- what a change makes of a design, refits being at that limit
-abbrev pub Becomes : ℕ → Change → DesignValue → Result DesignValue Refusal → Type 0
+abbrev pub Becomes : ℕ → Change → DesignValue → Result DesignValue ChangeFault → Type 0
 Becomes limit split d r = RefitsTo mode.Split limit d r
 Becomes limit cut d r = RefitsTo mode.Cut limit d r
 Becomes limit (shift dx dy) d r = r ≡ shifted_unless (first_outside (shifted dx dy d).commands) (shifted dx dy d)
@@ -37,8 +37,8 @@ Becomes limit (mirror axis) d r = r ≡ Ok (mirrored axis d)
 Becomes limit (thread place number) d r = r ≡ threaded place number d
 
 -- what changes in order make of a design: the first that is refused decides
-abbrev pub BecomesAll : ℕ → List Change → DesignValue → Result DesignValue Refusal → Type 0
+abbrev pub BecomesAll : ℕ → List Change → DesignValue → Result DesignValue ChangeFault → Type 0
 BecomesAll limit [] d r = r ≡ Ok d
 BecomesAll limit (change ∷ later) d r =
     ((mid : DesignValue) × Becomes limit change d (Ok mid) × BecomesAll limit later mid r)
-    ⊎ ((why : Refusal) × Becomes limit change d (Err why) × (r ≡ Err why))
+    ⊎ ((why : ChangeFault) × Becomes limit change d (Err why) × (r ≡ Err why))

@@ -1,25 +1,30 @@
 -- How the inner steps of a run end. No public clause cites this file.
-use Rattle.std.specs.Prelude.{◌≡◌, ◌⊎◌, List, ℕ, Option, Some, None}
+use Rattle.std.specs.Prelude.{◌≡◌, ◌⊎◌, ℕ, List, Option, Some, None, Result, Ok, Err}
 use Rattle.outside_io.specs.Blames.{read_of}
 use Rattle.outside_io.specs.Causes.{Faults}
 use Rattle.outside_io.specs.Files.{Lacks}
+use Rattle.outside_io.specs.Sights.{SinkSight, StoreSight}
+use Rattle.stitch_cli.specs.declared.halt.Halt.{Halt}
+use Rattle.stitch_cli.specs.declared.halt.Halt.TheVariants as halt
+use Rattle.stitch_cli.specs.declared.product.Product.{Product}
 use Rattle.stitch_cli.specs.declared.status.Status.{Status}
 use Rattle.stitch_cli.specs.declared.status.Status.TheVariants as status
-use Rattle.stitch_cli.specs.declared.stop.Stop.{Stop}
-use Rattle.stitch_cli.specs.declared.stop.Stop.TheVariants as stop
-use Rattle.stitch_cli.specs.Orders.{Order, input_of, subject_of}
-use Rattle.stitch_cli.specs.Outcomes.{Makes, Refuses}
-use Rattle.stitch_cli.specs.Products.{Product, Wrote, WroteUpTo}
+use Rattle.stitch_cli.specs.Commands.{plan_of}
+use Rattle.stitch_cli.specs.Orders.{Order}
+use Rattle.stitch_cli.specs.Plans.{ComesTo, IsInput, IsTooLong, Makes, Misses, Plan, Refuses}
+use Rattle.stitch_cli.specs.Products.{AreApart, AreNamed, ProductValue, Wrote, WroteUpTo, product_of}
+use Rattle.stitch_cli.specs.Puts.{Broke, fed}
+use Rattle.stitch_cli.specs.Refusals.{refusal_of, too_long}
 use Rattle.stitch_cli.specs.Runs.{Sights}
-use Rattle.stitch_cli.specs.Sights.{Broke, SinkSight, StoreSight, fed}
-use Rattle.stitch_cli.specs.Texts.{stop_line, unprinted_line, unwritten_line, usage_text}
+use Rattle.stitch_cli.specs.Texts.{halt_text, unprinted_line, unwritten_line}
 
--- the status that a reason to stop gives
-abbrev pub status_of : Stop → Status
-status_of stop.Missing = status.Fault
-status_of stop.NotRead = status.Fault
-status_of (stop.Refused why) = status.Refused
-status_of stop.Memory = status.Memory
+-- the status of an order that came to no product
+abbrev pub status_of : Halt → Status
+status_of halt.Unasked = status.Usage
+status_of (halt.Missing name) = status.Fault
+status_of (halt.NotRead name) = status.Fault
+status_of (halt.Refused why) = status.Refused
+status_of halt.Memory = status.Memory
 
 -- the text is on the standard error and the status is as planned; or it could not be put there, and
 -- the status is `Fault`
@@ -27,13 +32,50 @@ abbrev pub Tells : List ℕ → Status → SinkSight → SinkSight → Status �
 Tells text planned err err' s =
     ((s ≡ planned) × (err' ≡ fed err text)) ⊎ ((s ≡ status.Fault) × Broke err err' text)
 
--- what each reason to stop before anything is written means
-abbrev pub Stops : Order → StoreSight → StoreSight → Stop → Type 0
-Stops order store store' stop.Missing = Lacks store.files (input_of order) × (store' ≡ store)
-Stops order store store' stop.NotRead =
-    Faults store.faults store'.faults store'.blame (read_of (input_of order)) × (store'.files ≡ store.files)
-Stops order store store' (stop.Refused why) = Refuses order store.files why × (store' ≡ store)
-Stops order store store' stop.Memory = store' ≡ store
+-- what each reason means for which a plan came to no product
+abbrev pub Halts : Plan → StoreSight → StoreSight → Halt → Type 0
+Halts plan store store' halt.Unasked = ⊥
+Halts plan store store' (halt.Missing name) = Misses plan store.files name.now × (store' ≡ store)
+Halts plan store store' (halt.NotRead name) = ComesTo plan store.files name.now
+    × Faults store store' (read_of name.now) × (store'.files ≡ store.files)
+Halts plan store store' (halt.Refused why) = Refuses plan store.files (refusal_of why) × (store' ≡ store)
+Halts plan store store' halt.Memory = store' ≡ store
+
+-- a product that can be delivered
+pub record CanBeDelivered (product : ProductValue) : Type 0 where
+  pub named : AreNamed product.outputs
+  pub apart : AreApart product.outputs
+
+-- what a plan comes to by an answer: the product that it makes, or why there is none
+abbrev pub IsPrepared : Plan → StoreSight → StoreSight → Result Product Halt → Type 0
+IsPrepared plan store store' (Ok product) = Makes plan store.files (product_of product)
+    × CanBeDelivered (product_of product) × (store' ≡ store)
+IsPrepared plan store store' (Err why) = Halts plan store store' why
+
+-- the answer to a plan over a store
+pub record Prepares (plan : Plan) (store store' : StoreSight) (result : Result Product Halt) : Type 0 where
+  pub is : IsPrepared plan store store' result
+
+-- the answer to a plan that reads no file
+pub record Settles (plan : Plan) (result : Result Product Halt) : Type 0 where
+  pub at : (store : StoreSight) → IsPrepared plan store store result
+
+-- what words come to: nothing where they ask for none, and else what the plan of their order comes to
+abbrev pub Answers : Option Order → StoreSight → StoreSight → Result Product Halt → Type 0
+Answers None store store' result = (result ≡ Err halt.Unasked) × (store' ≡ store)
+Answers (Some order) store store' result = Prepares (plan_of order) store store' result
+
+-- the reading of an input's file: its bytes, or why there are none
+abbrev pub ReadsInput : List ℕ → StoreSight → StoreSight → Result (List ℕ) Halt → Type 0
+ReadsInput name store store' (Ok bytes) = IsInput store.files name bytes × (store' ≡ store)
+ReadsInput name store store' (Err halt.Unasked) = ⊥
+ReadsInput name store store' (Err (halt.Missing missing)) =
+    (missing.now ≡ name) × Lacks store.files name × (store' ≡ store)
+ReadsInput name store store' (Err (halt.NotRead lost)) =
+    (lost.now ≡ name) × Faults store store' (read_of name) × (store'.files ≡ store.files)
+ReadsInput name store store' (Err (halt.Refused why)) =
+    (refusal_of why ≡ too_long name) × IsTooLong store.files name × (store' ≡ store)
+ReadsInput name store store' (Err halt.Memory) = store' ≡ store
 
 -- the report is printed; or it could not be, and its line is told
 abbrev pub Prints : List ℕ → SinkSight → SinkSight → SinkSight → SinkSight → Status → Type 0
@@ -42,7 +84,7 @@ Prints report out out' err err' s =
     ⊎ (Broke out out' report × Tells unprinted_line status.Fault err err' s)
 
 -- a product is delivered, or a write or the print of its report failed and its line is told
-pub data Delivers (product : Product) (before after : Sights) (s : Status) : Type 0 where
+pub data Delivers (product : ProductValue) (before after : Sights) (s : Status) : Type 0 where
   all : s ≡ status.Done → Wrote product.outputs before.store after.store
       → after.out ≡ fed before.out product.report → after.err ≡ before.err → Delivers product before after s
   up_to : (name : List ℕ) → WroteUpTo product.outputs name before.store after.store → after.out ≡ before.out
@@ -50,15 +92,15 @@ pub data Delivers (product : Product) (before after : Sights) (s : Status) : Typ
   but_report : Wrote product.outputs before.store after.store → Broke before.out after.out product.report
       → Tells unprinted_line status.Fault before.err after.err s → Delivers product before after s
 
--- an order ends: what it makes is delivered, or it stopped before and says why
+-- an order ends: what its plan makes is delivered, or it came to no product and says why
 pub data OrderEnds (order : Order) (before after : Sights) (s : Status) : Type 0 where
-  made : (product : Product) → Makes order before.store.files product → Delivers product before after s
-      → OrderEnds order before after s
-  stopped : (why : Stop) → Stops order before.store after.store why → after.out ≡ before.out
-      → Tells (stop_line (subject_of order) why) (status_of why) before.err after.err s → OrderEnds order before after s
+  made : (product : ProductValue) → Makes (plan_of order) before.store.files product
+      → Delivers product before after s → OrderEnds order before after s
+  halted : (why : Halt) → Halts (plan_of order) before.store after.store why → after.out ≡ before.out
+      → Tells (halt_text why) (status_of why) before.err after.err s → OrderEnds order before after s
 
 -- how the program ends, where the words spell this complete request, or none
 abbrev pub Ends : Option Order → Sights → Sights → Status → Type 0
 Ends None before after s = (after.store ≡ before.store) × (after.out ≡ before.out)
-    × Tells usage_text status.Usage before.err after.err s
+    × Tells (halt_text halt.Unasked) status.Usage before.err after.err s
 Ends (Some order) before after s = OrderEnds order before after s

@@ -5,23 +5,23 @@ use Rattle.format_traits.specs.declared.loaded.Loaded.{Loaded}
 use Rattle.hoop_check.specs.declared.fitting.Fit.{Fit}
 use Rattle.hoop_check.specs.declared.fitting.Fit.TheVariants as fit
 use Rattle.hoop_check.specs.Fits.{fit_of}
-use Rattle.stitch_cli.specs.declared.stop.Refusal.{Refusal}
-use Rattle.stitch_cli.specs.declared.stop.Refusal.TheVariants as refusal
-use Rattle.stitch_cli.specs.Certificates.{line_end}
+use Rattle.cut_certificate.specs.CertificateTexts.{line_end}
 use Rattle.stitch_cli.specs.Orders.{HoopOrder}
-use Rattle.stitch_cli.specs.Products.{Product, only_report}
+use Rattle.stitch_cli.specs.Plans.{Plan, accepts, reads, refuses}
+use Rattle.stitch_cli.specs.Products.{only_report}
+use Rattle.stitch_cli.specs.Refusals.{too_large, unread}
 
--- the report on a design that fits into a hoop, or by how much it is too large
-abbrev pub fitted_as : Fit → Result Product Refusal
-fitted_as fit.Upright = Ok (only_report (codes "fits upright" ++ line_end))
-fitted_as fit.Turned = Ok (only_report (codes "fits turned" ++ line_end))
-fitted_as (fit.No over_x over_y) = Err (refusal.TooLarge over_x over_y)
+-- a design that fits into a hoop is told so; else by how much it is too large
+abbrev pub hoop_fitted : Fit → Plan
+hoop_fitted fit.Upright = accepts (λ product. product ≡ only_report (codes "fits upright" ++ line_end))
+hoop_fitted fit.Turned = accepts (λ product. product ≡ only_report (codes "fits turned" ++ line_end))
+hoop_fitted (fit.No over_x over_y) = refuses (too_large over_x over_y)
 
--- what comes of a file that was read, or refused
-abbrev pub hooped_as : HoopOrder → Result Loaded ReadFault → Result Product Refusal
-hooped_as order (Ok loaded) = fitted_as (fit_of loaded.design order.width order.height)
-hooped_as order (Err f) = Err (refusal.Unread f)
+-- a file that was read is held against the hoop, and one that was not is refused
+abbrev pub hoop_read : HoopOrder → Result Loaded ReadFault → Plan
+hoop_read order (Ok loaded) = hoop_fitted (fit_of loaded.design order.width order.height)
+hoop_read order (Err fault) = refuses (unread order.file fault)
 
--- what comes of a file's bytes
-abbrev pub HoopOf : HoopOrder → List ℕ → Result Product Refusal → Type 0
-HoopOf order bytes r = hooped_as order (order.format.reads bytes) ≡ r
+-- the plan of checking whether a file fits into a hoop
+abbrev pub hoop_plan : HoopOrder → Plan
+hoop_plan order = reads order.file (λ bytes. hoop_read order (order.format.reads bytes))

@@ -1,19 +1,25 @@
--- words of the crate below that public clauses cite
+-- words of the crates below that public clauses cite
 pub use Rattle.command_words.specs.Changes
 pub use Rattle.command_words.specs.Requests
-pub mod Sights
+pub use Rattle.cut_certificate.specs.CertificateTexts
+pub mod Refusals
 pub mod Products
+pub mod Puts
+pub mod Plans
 pub mod ChangedDesigns
 pub mod Orders
-pub mod Certificates
+pub mod Reasons
 pub mod Texts
--- read these first: what each order comes to, and what each status of the program means
+-- read these first: what each command does, and what each status of the program means
 pub mod Routes
+pub mod Checks
+pub mod Samples
 pub mod Shows
 pub mod Hoops
 pub mod Rewrites
-pub mod Outcomes
+pub mod Commands
 pub mod Runs
 pub mod Endings
 pub mod RewriteSteps
-pub mod Steps
+pub mod RouteSteps
+pub mod SampleSteps

@@ -1,10 +1,11 @@
 -- Requests that are complete: the formats that they need are there, and their names differ.
 use Rattle.std.specs.Prelude.{ℕ, Bool, ◌&&◌, not, List, [], ◌∷◌, Option, Some, None, bytes_eq, slice_get, if◌then◌else◌}
 use Rattle.std.specs.Option.{option_and_then}
+use Rattle.command_words.specs.declared.requests.CheckNames.{CheckNames}
 use Rattle.command_words.specs.declared.requests.Names.{Names}
 use Rattle.command_words.specs.declared.requests.RouteNames.{RouteNames}
 use Rattle.command_words.specs.Changes.{Change}
-use Rattle.command_words.specs.Requests.{Asked, asked_of, convert, edit, hoop, route, show}
+use Rattle.command_words.specs.Requests.{Asked, asked_of, check, convert, edit, hoop, route, sample, show}
 use Rattle.command_words.specs.Words.{refits}
 use Rattle.format_traits.specs.Meanings.{Meaning}
 use Rattle.format_traits.specs.Endings.{found_in}
@@ -15,6 +16,18 @@ pub record RouteOrder : Type 0 where
   pub out : List ℕ
   pub cert : List ℕ
   pub format : Meaning
+
+-- the files that a check reads, and what the format of the design means
+pub record CheckOrder : Type 0 where
+  pub drawing : List ℕ
+  pub file : List ℕ
+  pub cert : List ℕ
+  pub format : Meaning
+
+-- the number of a sample drawing, and the file that it is written to
+pub record SampleOrder : Type 0 where
+  pub number : ℕ
+  pub drawing : List ℕ
 
 -- the file that is shown, and what its format means
 pub record ShowOrder : Type 0 where
@@ -44,6 +57,19 @@ route_order names format = record {
   cert = names.cert.now;
   format = format;
 }
+
+-- the order of a check by its names and by what its format means
+abbrev pub check_order : CheckNames → Meaning → CheckOrder
+check_order names format = record {
+  drawing = names.drawing.now;
+  file = names.file.now;
+  cert = names.cert.now;
+  format = format;
+}
+
+-- the order of a sample by its number and the name of its file
+abbrev pub sample_order : ℕ → List ℕ → SampleOrder
+sample_order number drawing = record { number = number; drawing = drawing }
 
 -- the order of showing a file by what its format means
 abbrev pub show_order : List ℕ → Meaning → ShowOrder
@@ -75,6 +101,8 @@ format_of formats name = option_and_then (λ place. slice_get formats place) (fo
 -- a complete request: the formats that it needs are there, and its names differ
 pub data Order : Type 0 where
   routing : RouteOrder → Order
+  checking : CheckOrder → Order
+  sampling : SampleOrder → Order
   rewriting : RewriteOrder → Order
   showing : ShowOrder → Order
   hooping : HoopOrder → Order
@@ -85,6 +113,12 @@ routing_to drawing out cert None = None
 routing_to drawing out cert (Some format) = if are_apart drawing out cert
     then Some (routing (record { drawing = drawing; out = out; cert = cert; format = format }))
     else None
+
+-- the check of these files by that format, where there is one
+abbrev pub checking_by : (drawing file cert : List ℕ) → Option Meaning → Option Order
+checking_by drawing file cert None = None
+checking_by drawing file cert (Some format) =
+    Some (checking (record { drawing = drawing; file = file; cert = cert; format = format }))
 
 -- the showing of that file by that format, where there is one
 abbrev pub showing_by : List ℕ → Option Meaning → Option Order
@@ -116,6 +150,8 @@ abbrev pub completed : List Meaning → Option Asked → Option Order
 completed formats None = None
 completed formats (Some (route drawing out cert)) =
     routing_to drawing out cert (format_of formats out)
+completed formats (Some (check drawing file cert)) = checking_by drawing file cert (format_of formats file)
+completed formats (Some (sample number drawing)) = Some (sampling (sample_order number drawing))
 completed formats (Some (convert input output splits cuts)) =
     rewriting_by input output (refits splits cuts) (format_of formats input) (format_of formats output)
 completed formats (Some (show file)) = showing_by file (format_of formats file)
@@ -127,31 +163,11 @@ completed formats (Some (hoop file width height)) = hooping_by file width height
 abbrev pub order_of : List Meaning → List (List ℕ) → Option Order
 order_of formats words = completed formats (asked_of words)
 
--- the file that an order reads, the design that it writes, and the format that it works with: of these
--- the lines on standard error speak
-pub record Subject : Type 0 where
-  pub input : List ℕ
-  pub output : List ℕ
-  pub format : Meaning
-
--- an order's subject
-abbrev pub subject_of : Order → Subject
-subject_of (routing order) = record { input = order.drawing; output = order.out; format = order.format }
-subject_of (rewriting order) = record { input = order.input; output = order.output; format = order.target }
-subject_of (showing order) = record { input = order.file; output = []; format = order.format }
-subject_of (hooping order) = record { input = order.file; output = []; format = order.format }
-
--- the file that an order reads
-abbrev pub input_of : Order → List ℕ
-input_of order = (subject_of order).input
-
 -- the files that an order writes, in this order
 abbrev pub outputs_of : Order → List (List ℕ)
 outputs_of (routing order) = order.cert ∷ order.out ∷ []
+outputs_of (checking order) = []
+outputs_of (sampling order) = order.drawing ∷ []
 outputs_of (rewriting order) = order.output ∷ []
 outputs_of (showing order) = []
 outputs_of (hooping order) = []
-
--- a subject, by its names and by what its format means
-abbrev pub subject_by : Names → Meaning → Subject
-subject_by names format = record { input = names.input.now; output = names.output.now; format = format }

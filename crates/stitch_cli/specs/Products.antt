@@ -2,8 +2,10 @@
 use Rattle.std.specs.Prelude.{◌≡◌, ◌≢◌, ℕ, List, [], ◌∷◌, ◌++◌, map, Option, Some, None}
 use Rattle.outside_io.specs.Blames.{write_of}
 use Rattle.outside_io.specs.Causes.{Faults}
-use Rattle.outside_io.specs.Files.{Files, HoldsNow}
-use Rattle.stitch_cli.specs.Sights.{StoreSight}
+use Rattle.outside_io.specs.Files.{Files, HoldsNow, IsName}
+use Rattle.outside_io.specs.Sights.{StoreSight}
+use Rattle.stitch_cli.specs.declared.product.Output.{Output}
+use Rattle.stitch_cli.specs.declared.product.Product.{Product}
 
 -- an output: the name of its file, and what the file is to hold
 pub record Written : Type 0 where
@@ -11,20 +13,36 @@ pub record Written : Type 0 where
   pub content : List ℕ
 
 -- the outputs in the order in which they are written, and the report on the standard output
-pub record Product : Type 0 where
+pub record ProductValue : Type 0 where
   pub outputs : List Written
   pub report : List ℕ
 
+-- an output of the program, by its name and its content
+abbrev pub written_as : Output → Written
+written_as output = record { name = output.name.now; content = output.content }
+
+-- the outputs, by names and contents
+abbrev pub all_written : List Output → List Written
+all_written outputs = map written_as outputs
+
+-- what a product of the program is
+abbrev pub product_of : Product → ProductValue
+product_of product = record { outputs = all_written product.outputs; report = product.report }
+
 -- nothing is written
-abbrev pub only_report : List ℕ → Product
+abbrev pub only_report : List ℕ → ProductValue
 only_report report = record { outputs = []; report = report }
 
 -- one file is written
-abbrev pub one_output : List ℕ → List ℕ → List ℕ → Product
+abbrev pub one_output : List ℕ → List ℕ → List ℕ → ProductValue
 one_output name content report = record {
   outputs = (record { name = name; content = content }) ∷ [];
   report = report;
 }
+
+-- two files are written
+abbrev pub two_outputs : (first second : Written) → List ℕ → ProductValue
+two_outputs first second report = record { outputs = first ∷ second ∷ []; report = report }
 
 -- the names of outputs
 abbrev pub names_of : List Written → List (List ℕ)
@@ -52,6 +70,11 @@ ChangesAmong names (Some old) (Some new) = (name : List ℕ) → IsNoneOf names 
 ChangesAmong names None (Some new) = ⊥
 ChangesAmong names (Some old) None = ⊥
 
+-- each output has a name that a file may have
+abbrev pub AreNamed : List Written → Type 0
+AreNamed [] = Unit {0}
+AreNamed (o ∷ rest) = IsName o.name × AreNamed rest
+
 -- the outputs are written, the other files stay, and nothing failed
 pub record Wrote (outputs : List Written) (before after : StoreSight) : Type 0 where
   pub held : AllHold after.files outputs
@@ -67,6 +90,6 @@ pub record WroteUpTo (outputs : List Written) (name : List ℕ) (before after : 
   pub left : List Written
   pub split : done ++ lost ∷ left ≡ outputs
   pub same : lost.name ≡ name
-  pub fault : Faults before.faults after.faults after.blame (write_of name)
+  pub fault : Faults before after (write_of name)
   pub held : AllHold after.files done
   pub others : ChangesAmong (names_of (done ++ lost ∷ [])) before.files after.files

@@ -7,11 +7,12 @@ use Rattle.format_traits.specs.declared.fault.ReadFault.{ReadFault}
 use Rattle.format_traits.specs.declared.fault.WriteFault.{WriteFault}
 use Rattle.format_traits.specs.declared.loaded.Loaded.{Loaded}
 use Rattle.format_traits.specs.Laws.{MovesWithin, ReadsAgain}
-use Rattle.stitch_cli.specs.declared.stop.Refusal.{Refusal}
-use Rattle.stitch_cli.specs.declared.stop.Refusal.TheVariants as refusal
+use Rattle.stitch_cli.specs.declared.changing.ChangeFault.{ChangeFault}
 use Rattle.stitch_cli.specs.ChangedDesigns.{BecomesAll}
 use Rattle.stitch_cli.specs.Orders.{RewriteOrder}
-use Rattle.stitch_cli.specs.Products.{Product, one_output}
+use Rattle.stitch_cli.specs.Plans.{Plan, decides, reads, refuses}
+use Rattle.stitch_cli.specs.Products.{ProductValue, one_output}
+use Rattle.stitch_cli.specs.Refusals.{RefusalValue, unchanged, unread, unwritten}
 use Rattle.stitch_cli.specs.Shows.{number_line, number_text}
 
 -- the report on a design that was written
@@ -19,11 +20,9 @@ abbrev pub written_report : Counts → List ℕ
 written_report counts = number_text (codes "needles ") counts.needles
     ++ (number_text (codes " trims ") counts.trims ++ number_line (codes " stops ") counts.stops)
 
--- the bytes are read, the design becomes another by the changes, and that is written: what is written
--- reads again as the same acts, and no record of it moves farther than the limit
-pub record Rewritten (order : RewriteOrder) (bytes : List ℕ) (product : Product) : Type 0 where
-  pub loaded : Loaded
-  pub read : order.source.reads bytes ≡ Ok loaded
+-- the design becomes another by the changes, and that is written: what is written reads again as the same
+-- acts, and no record of it moves farther than the limit
+pub record Rewritten (order : RewriteOrder) (loaded : Loaded) (product : ProductValue) : Type 0 where
   pub design : DesignValue
   pub becomes : BecomesAll order.target.limit order.changes loaded.design (Ok design)
   pub out : List ℕ
@@ -32,18 +31,25 @@ pub record Rewritten (order : RewriteOrder) (bytes : List ℕ) (product : Produc
   pub within : MovesWithin order.target out
   pub made : product ≡ one_output order.output out (written_report (counts_of design))
 
--- the bytes are not read, a change is refused, or what the design became can't be written
-pub data NotRewritten (order : RewriteOrder) (bytes : List ℕ) (why : Refusal) : Type 0 where
-  unread : (f : ReadFault) → why ≡ refusal.Unread f → order.source.reads bytes ≡ Err f
-      → NotRewritten order bytes why
-  unchanged : (loaded : Loaded) → order.source.reads bytes ≡ Ok loaded
-      → BecomesAll order.target.limit order.changes loaded.design (Err why) → NotRewritten order bytes why
-  unwritten : (loaded : Loaded) (design : DesignValue) (f : WriteFault) → why ≡ refusal.Unwritten f
-      → order.source.reads bytes ≡ Ok loaded
+-- a change is refused, or what the design became can't be written
+pub data NotRewritten (order : RewriteOrder) (loaded : Loaded) (why : RefusalValue) : Type 0 where
+  not_changed : (fault : ChangeFault) → why ≡ unchanged order.input order.output fault
+      → BecomesAll order.target.limit order.changes loaded.design (Err fault) → NotRewritten order loaded why
+  not_written : (design : DesignValue) (fault : WriteFault)
+      → why ≡ unwritten order.output order.target.limit fault
       → BecomesAll order.target.limit order.changes loaded.design (Ok design)
-      → order.target.writes design ≡ Err f → NotRewritten order bytes why
+      → order.target.writes design ≡ Err fault → NotRewritten order loaded why
 
--- what comes of a file's bytes
-abbrev pub RewriteOf : RewriteOrder → List ℕ → Result Product Refusal → Type 0
-RewriteOf order bytes (Ok product) = Rewritten order bytes product
-RewriteOf order bytes (Err why) = NotRewritten order bytes why
+-- what comes of a design that was read
+abbrev pub RewriteOf : RewriteOrder → Loaded → Result ProductValue RefusalValue → Type 0
+RewriteOf order loaded (Ok product) = Rewritten order loaded product
+RewriteOf order loaded (Err why) = NotRewritten order loaded why
+
+-- a file that was read is rewritten, and one that was not is refused
+abbrev pub rewrite_read : RewriteOrder → Result Loaded ReadFault → Plan
+rewrite_read order (Ok loaded) = decides (RewriteOf order loaded)
+rewrite_read order (Err fault) = refuses (unread order.input fault)
+
+-- the plan of writing a file's design into another
+abbrev pub rewrite_plan : RewriteOrder → Plan
+rewrite_plan order = reads order.input (λ bytes. rewrite_read order (order.source.reads bytes))

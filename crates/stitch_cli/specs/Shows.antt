@@ -10,11 +10,11 @@ use Rattle.design_model.specs.Designs.{DesignValue, thread_of}
 use Rattle.design_model.specs.Extents.{extent_of}
 use Rattle.format_traits.specs.declared.fault.ReadFault.{ReadFault}
 use Rattle.format_traits.specs.declared.loaded.Loaded.{Loaded}
-use Rattle.stitch_cli.specs.declared.stop.Refusal.{Refusal}
-use Rattle.stitch_cli.specs.declared.stop.Refusal.TheVariants as refusal
-use Rattle.stitch_cli.specs.Certificates.{line_end}
+use Rattle.cut_certificate.specs.CertificateTexts.{line_end}
 use Rattle.stitch_cli.specs.Orders.{ShowOrder}
-use Rattle.stitch_cli.specs.Products.{Product, only_report}
+use Rattle.stitch_cli.specs.Plans.{Plan, accepts, reads, refuses}
+use Rattle.stitch_cli.specs.Products.{only_report}
+use Rattle.stitch_cli.specs.Refusals.{unread}
 
 -- a word and a number
 abbrev pub number_text : List ℕ → ℕ → List ℕ
@@ -69,11 +69,11 @@ show_report ending loaded = title_lines ending loaded.design.label
     ++ (ended_line loaded.ended
     ++ block_lines loaded.design 0 (needles_of_blocks loaded.design))))
 
--- what comes of a file that was read, or refused
-abbrev pub shown_as : List ℕ → Result Loaded ReadFault → Result Product Refusal
-shown_as ending (Ok loaded) = Ok (only_report (show_report ending loaded))
-shown_as ending (Err f) = Err (refusal.Unread f)
+-- a file that was read is shown, and one that was not is refused
+abbrev pub show_read : ShowOrder → Result Loaded ReadFault → Plan
+show_read order (Ok loaded) = accepts (λ product. product ≡ only_report (show_report order.format.ending loaded))
+show_read order (Err fault) = refuses (unread order.file fault)
 
--- what comes of a file's bytes
-abbrev pub ShowOf : ShowOrder → List ℕ → Result Product Refusal → Type 0
-ShowOf order bytes r = shown_as order.format.ending (order.format.reads bytes) ≡ r
+-- the plan of showing a file
+abbrev pub show_plan : ShowOrder → Plan
+show_plan order = reads order.file (λ bytes. show_read order (order.format.reads bytes))

@@ -4,17 +4,18 @@ use Rattle.format_traits.specs.declared.fault.ReadFault.{ReadFault}
 use Rattle.format_traits.specs.declared.fault.ReadFault.TheVariants as read
 use Rattle.format_traits.specs.declared.fault.WriteFault.{WriteFault}
 use Rattle.format_traits.specs.declared.fault.WriteFault.TheVariants as write
-use Rattle.format_traits.specs.Meanings.{Meaning}
-use Rattle.line_graph.specs.declared.draw_fault.DrawFault.{DrawFault}
-use Rattle.line_graph.specs.declared.draw_fault.DrawKind.{DrawKind}
-use Rattle.line_graph.specs.declared.draw_fault.DrawKind.TheVariants as kind
+use Rattle.cut_certificate.specs.CertificateTexts.{line_end}
+use Rattle.line_graph.specs.declared.draw_kind.DrawKind.{DrawKind}
+use Rattle.line_graph.specs.declared.draw_kind.DrawKind.TheVariants as kind
+use Rattle.drawing_text.specs.declared.draw_fault.DrawFault.{DrawFault}
 use Rattle.stitch_cli.specs.declared.reports.PieceReport.{PieceReport}
-use Rattle.stitch_cli.specs.declared.stop.Stop.{Stop}
-use Rattle.stitch_cli.specs.declared.stop.Stop.TheVariants as stop
-use Rattle.stitch_cli.specs.declared.stop.Refusal.{Refusal}
-use Rattle.stitch_cli.specs.declared.stop.Refusal.TheVariants as refusal
-use Rattle.stitch_cli.specs.Certificates.{line_end}
-use Rattle.stitch_cli.specs.Orders.{Order, Subject, subject_of}
+use Rattle.stitch_cli.specs.declared.summary.Summary.{Summary}
+use Rattle.stitch_cli.specs.declared.changing.ChangeFault.{ChangeFault}
+use Rattle.stitch_cli.specs.declared.changing.ChangeFault.TheVariants as reason
+use Rattle.stitch_cli.specs.declared.halt.Halt.{Halt}
+use Rattle.stitch_cli.specs.declared.halt.Halt.TheVariants as halt
+use Rattle.stitch_cli.specs.Reasons.{reason_line}
+use Rattle.stitch_cli.specs.Refusals.{RefusalValue, disproved, refusal_of, step_too_long, too_large, too_long, uncertified, unchanged, undrawn, unread, unwritten}
 
 -- what the words may be
 abbrev pub usage_text : List ℕ
@@ -58,19 +59,33 @@ totals_line pieces penetrations = codes "pieces " ++ (decimal pieces
 abbrev pub route_report : List PieceReport → List ℕ
 route_report pieces = piece_lines pieces ++ totals_line (length pieces) (sum_by penetrations_of pieces)
 
+-- how large a sample drawing is
+abbrev pub summary_counts : Summary → List ℕ
+summary_counts s = codes "sample " ++ (decimal s.number ++ (line_end ++ (codes "lines " ++ (decimal s.lines
+    ++ (line_end ++ (codes "junctions " ++ (decimal s.junctions ++ line_end)))))))
+
+-- what is to be routed
+abbrev pub summary_odds : Summary → List ℕ
+summary_odds s = codes "odd " ++ (decimal s.odd ++ (line_end ++ (codes "pieces " ++ (decimal s.pieces
+    ++ (line_end ++ (codes "cost " ++ (decimal s.cost ++ line_end)))))))
+
+-- what its route costs
+abbrev pub summary_costs : Summary → List ℕ
+summary_costs s = codes "retraced " ++ (decimal s.retraced ++ (line_end ++ (codes "penetrations "
+    ++ (decimal s.penetrations ++ (line_end ++ (codes "cuts " ++ (decimal s.cuts ++ line_end)))))))
+
+-- the report of a sample: a line for each number
+abbrev pub summary_text : Summary → List ℕ
+summary_text s = summary_counts s ++ (summary_odds s ++ summary_costs s)
+
 -- a line about a file
 abbrev pub line_about : List ℕ → List ℕ → List ℕ
 line_about name text = codes "stitch: " ++ (name ++ (codes ": " ++ (text ++ line_end)))
 
 -- a line about a step that is above the limit of a format, the numbers as digits
 abbrev pub step_text : (name step limit ending : List ℕ) → List ℕ
-step_text name step limit ending =
-    (codes "stitch: " ++ (name ++ (codes ": step " ++ step)))
-    ++ (codes " is above " ++ (limit ++ (codes ", the limit of " ++ (ending ++ line_end))))
-
--- a line about a step that is above the limit of a format
-abbrev pub step_line : List ℕ → ℕ → Meaning → List ℕ
-step_line name step format = step_text name (decimal step) (decimal format.limit) format.ending
+step_text name step limit ending = codes "stitch: " ++ (name ++ (codes ": step " ++ (step
+    ++ (codes " is above " ++ (limit ++ (codes ", the limit of " ++ (ending ++ line_end)))))))
 
 -- the line that memory was wanted and not found
 abbrev pub memory_line : List ℕ
@@ -78,8 +93,8 @@ memory_line = codes "stitch: out of memory" ++ line_end
 
 -- a line about a file, at a place that has a number
 abbrev pub line_at : (name word digits text : List ℕ) → List ℕ
-line_at name word digits text = (codes "stitch: " ++ (name ++ (word ++ digits)))
-    ++ (codes ": " ++ (text ++ line_end))
+line_at name word digits text =
+    codes "stitch: " ++ (name ++ (word ++ (digits ++ (codes ": " ++ (text ++ line_end)))))
 
 -- what is wrong with a drawing text; a refusal is never for want of memory
 abbrev pub draw_text : DrawKind → List ℕ
@@ -121,8 +136,8 @@ command_line name number text = line_at name (codes ": command ") (decimal numbe
 
 -- a line about a command that is too long a stitch for a format with that limit, the numbers as digits
 abbrev pub long_text : (name number limit : List ℕ) → List ℕ
-long_text name number limit = (codes "stitch: " ++ (name ++ (codes ": command " ++ number)))
-    ++ (codes ": stitch longer than " ++ (limit ++ line_end))
+long_text name number limit = codes "stitch: " ++ (name ++ (codes ": command " ++ (number
+    ++ (codes ": stitch longer than " ++ (limit ++ line_end)))))
 
 -- why a design was not written, the limit of its format being that; want of memory has a line of its own
 abbrev pub write_line : List ℕ → ℕ → WriteFault → List ℕ
@@ -135,29 +150,30 @@ write_line name limit write.Memory = memory_line
 
 -- a line about a place for a thread, counted from 1, that the design does not have, the numbers as digits
 abbrev pub place_text : (name place count : List ℕ) → List ℕ
-place_text name place count = (codes "stitch: " ++ (name ++ (codes ": no colour place " ++ place)))
-    ++ (codes ", there are " ++ (count ++ line_end))
+place_text name place count = codes "stitch: " ++ (name ++ (codes ": no colour place " ++ (place
+    ++ (codes ", there are " ++ (count ++ line_end)))))
 
 -- a line about a design that is too large for a hoop by those digits
 abbrev pub large_text : (x y : List ℕ) → List ℕ
 large_text x y = codes "stitch: too large by " ++ (x ++ (codes " " ++ (y ++ line_end)))
 
--- why an order about that subject was refused
-abbrev pub reason_line : Subject → Refusal → List ℕ
-reason_line about refusal.TooLong = line_about about.input (codes "longer than 67108864 bytes")
-reason_line about (refusal.BadDrawing fault) = draw_line about.input fault
-reason_line about refusal.NotOnlyLoops = line_about about.input (codes "a piece is not one closed line")
-reason_line about (refusal.StepTooLong step) = step_line about.input step about.format
-reason_line about (refusal.Unread f) = read_line about.input f
-reason_line about (refusal.Unwritten f) = write_line about.output about.format.limit f
-reason_line about (refusal.RefitTooMany number) = command_line about.output number (codes "too many commands")
-reason_line about (refusal.MovedOut number) = command_line about.input number (codes "moved out of range")
-reason_line about (refusal.NoPlace place count) = place_text about.input (decimal place) (decimal count)
-reason_line about (refusal.TooLarge x y) = large_text (decimal x) (decimal y)
+-- why the changes of a design were refused
+abbrev pub change_line : (input output : List ℕ) → ChangeFault → List ℕ
+change_line input output (reason.RefitTooMany number) = command_line output number (codes "too many commands")
+change_line input output (reason.MovedOut number) = command_line input number (codes "moved out of range")
+change_line input output (reason.NoPlace place count) = place_text input (decimal place) (decimal count)
 
 -- why an order was refused
-abbrev pub refusal_line : Order → Refusal → List ℕ
-refusal_line order why = reason_line (subject_of order) why
+abbrev pub refusal_line : RefusalValue → List ℕ
+refusal_line (too_long name) = line_about name (codes "longer than 67108864 bytes")
+refusal_line (undrawn name fault) = draw_line name fault
+refusal_line (step_too_long name step limit ending) = step_text name (decimal step) (decimal limit) ending
+refusal_line (unread name fault) = read_line name fault
+refusal_line (unchanged input output fault) = change_line input output fault
+refusal_line (unwritten name limit fault) = write_line name limit fault
+refusal_line (uncertified name number) = line_at name (codes ": line ") (decimal number) (codes "not a certificate")
+refusal_line (disproved why) = reason_line why
+refusal_line (too_large x y) = large_text (decimal x) (decimal y)
 
 -- a line about an input that could not be read
 abbrev pub unread_line : List ℕ → List ℕ
@@ -171,9 +187,10 @@ unwritten_line name = codes "stitch: cannot write " ++ (name ++ line_end)
 abbrev pub unprinted_line : List ℕ
 unprinted_line = codes "stitch: cannot print" ++ line_end
 
--- the line for an order about that subject that stopped before anything was written
-abbrev pub stop_line : Subject → Stop → List ℕ
-stop_line about stop.Missing = unread_line about.input
-stop_line about stop.NotRead = unread_line about.input
-stop_line about (stop.Refused why) = reason_line about why
-stop_line about stop.Memory = memory_line
+-- the text for an order that came to no product
+abbrev pub halt_text : Halt → List ℕ
+halt_text halt.Unasked = usage_text
+halt_text (halt.Missing name) = unread_line name.now
+halt_text (halt.NotRead name) = unread_line name.now
+halt_text (halt.Refused why) = refusal_line (refusal_of why)
+halt_text halt.Memory = memory_line

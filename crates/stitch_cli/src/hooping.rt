@@ -1,91 +1,66 @@
-ghost use Rattle.std.specs.Prelude.{◌≡◌, IfErr, IfOk, Ok, OnOk};
 ghost use Rattle.outside_io.specs.Files.{IsName};
-ghost use Rattle.stitch_cli.specs.Endings.{OrderEnds, Stops};
-ghost use Rattle.stitch_cli.specs.Hoops.{fitted_as};
-ghost use Rattle.stitch_cli.specs.Orders.{hoop_order, hooping};
-ghost use Rattle.stitch_cli.specs.Outcomes.{Makes};
-ghost use Rattle.stitch_cli.specs.Products.{only_report};
-ghost use Rattle.stitch_cli.specs.Runs.{sights};
-ghost use Rattle.stitch_cli.specs.Sights.{store_sight};
-ghost use Rattle.stitch_cli.specs.Steps.{FitStops};
+ghost use Rattle.hoop_check.specs.Fits.{fit_of};
+ghost use Rattle.stitch_cli.specs.Endings.{Prepares, Settles};
+ghost use Rattle.stitch_cli.specs.Hoops.{hoop_fitted, hoop_plan, hoop_read};
+ghost use Rattle.stitch_cli.specs.Orders.{hoop_order};
 
-use crate::delivery::deliver;
-use crate::messages::tell_stop;
-use crate::reading::read_design;
-use crate::status::Status;
-use crate::stop::{Refusal, Stop};
-use command_words::Names;
-use format_traits::Format;
+use crate::halt::{Halt, Refusal};
+use crate::product::{Product, only_report};
+use crate::reading::read_input;
+use crate::reports::bytes_of;
+use format_traits::{Format, ReadFault, decode_by};
 use hoop_check::{Fit, fits};
-use outside_io::{Sink, Store};
+use outside_io::Store;
 use std::alloc::Global;
 
-/// Says whether the design of a file fits into a hoop with sides of so many tenths of a millimetre.
-pub(crate) fn hoop<S: Store, O: Sink, E: Sink>(
+/// Whether a file's design fits into a hoop, whose sides are in tenths of a millimetre.
+pub(crate) fn hoop<'a, S: Store>(
     alloc: Global,
-    file: &str,
+    file: &'a str,
     format: &Box<dyn Format>,
     width: u32,
     height: u32,
     store: &mut S,
-    out: &mut O,
-    err: &mut E,
-) -> Status
+) -> Result<Product<'a>, Halt<'a>>
     requires { IsName file.now }
-    ensures { OrderEnds (hooping (hoop_order file.now (meaning format.now) width height))
-        (sights (S.files store.old) (S.faults store.old) (S.blame store.old)
-        (O.taken out.old) (O.faults out.old) (E.taken err.old) (E.faults err.old))
-        (sights (S.files store.new) (S.faults store.new) (S.blame store.new)
-        (O.taken out.new) (O.faults out.new) (E.taken err.new) (E.faults err.new)) result }
+    ensures { Prepares (hoop_plan (hoop_order file.now (meaning format.now) width height))
+        (S.sight store.old) (S.sight store.new) result }
 {
-    match prepare(alloc, file, format, width, height, store) {
-        Ok(report) => deliver(&[], report, store, out, err),
-        Err(why) => tell_stop(
-            err,
-            &Names {
-                input: file,
-                output: "",
-            },
-            format,
-            why,
-        ),
-    }
+    let bytes = read_input(alloc, store, file)?;
+    hooped(alloc, file, format, width, height, bytes.as_slice())
 }
 
-/// The report on a file's design.
-fn prepare<S: Store>(
+fn hooped<'a>(
     alloc: Global,
-    file: &str,
+    file: &'a str,
     format: &Box<dyn Format>,
     width: u32,
     height: u32,
-    store: &mut S,
-) -> Result<&'static [u8], Stop>
-    requires { IsName file.now }
-    ensures done { IfOk result (λ report.
-        Makes (hooping (hoop_order file.now (meaning format.now) width height))
-        (S.files store.old) (only_report report.now)) }
-    ensures same { OnOk result (
-        store_sight (S.files store.new) (S.faults store.new) (S.blame store.new)
-        ≡ store_sight (S.files store.old) (S.faults store.old) (S.blame store.old)) }
-    ensures stops { IfErr result (Stops (hooping (hoop_order file.now (meaning format.now) width height))
-        (store_sight (S.files store.old) (S.faults store.old) (S.blame store.old))
-        (store_sight (S.files store.new) (S.faults store.new) (S.blame store.new))) }
+    bytes: &[u8],
+) -> Result<Product<'a>, Halt<'a>>
+    ensures { Settles (hoop_read (hoop_order file.now (meaning format.now) width height)
+        ((meaning format.now).reads bytes.now)) result }
 {
-    match read_design(alloc, store, file, format) {
-        Ok(loaded) => fitted(fits(&loaded.design, width, height)),
-        Err(why) => Err(why),
+    match decode_by(alloc, format, bytes) {
+        Ok(loaded) => fitted(alloc, fits(&loaded.design, width, height)),
+        Err(ReadFault::Memory) => Err(Halt::Memory),
+        Err(fault) => Err(Halt::Refused(Refusal::Unread { name: file, fault })),
     }
 }
 
-fn fitted(fit: Fit) -> Result<&'static [u8], Stop>
-    ensures done { IfOk result (λ report. fitted_as fit ≡ Ok (only_report report.now)) }
-    ensures stops { IfErr result (FitStops fit) }
+fn fitted<'a>(alloc: Global, fit: Fit) -> Result<Product<'a>, Halt<'a>>
+    ensures { Settles (hoop_fitted fit) result }
 {
     match fit {
-        Fit::Upright => Ok(b"fits upright\n"),
-        Fit::Turned => Ok(b"fits turned\n"),
-        Fit::No { over_x, over_y } => Err(Stop::Refused(Refusal::TooLarge {
+        Fit::Upright => {
+            let report = bytes_of(alloc, b"fits upright\n")?;
+            Ok(only_report(alloc, report))
+        }
+        Fit::Turned => {
+            let report = bytes_of(alloc, b"fits turned\n")?;
+            Ok(only_report(alloc, report))
+        }
+        Fit::No { over_x, over_y } => Err(Halt::Refused(Refusal::TooLarge {
             x: over_x,
             y: over_y,
         })),

@@ -2,28 +2,35 @@
 //! prints.
 #![tactic(auto)]
 
-mod certificate;
 mod changing;
+mod checking;
+mod commands;
 mod delivery;
 mod design_reports;
+mod halt;
 mod hooping;
-mod making;
 mod messages;
+mod product;
 mod putting;
 mod reading;
+mod reasons;
 mod reports;
 mod rewriting;
 mod routing;
 mod running;
-mod sewing;
+mod sampling;
 mod showing;
 mod status;
-mod stop;
+mod summary;
 mod usage;
 
+pub use changing::ChangeFault;
+pub use halt::{Halt, Refusal};
 pub use messages::out_of_memory;
+pub use product::{Output, Product};
 pub use reports::PieceReport;
 pub use running::run;
+pub use sample_drawings::sample_drawing;
 pub use status::Status;
-pub use stop::{Refusal, Stop};
+pub use summary::Summary;
 pub use usage::USAGE;

@@ -1,153 +1,97 @@
-ghost use Rattle.std.specs.Prelude.{◌≡◌, OnErr, OnOk, decimal};
+ghost use Rattle.std.specs.Prelude.{◌≡◌, ◌++◌, codes, decimal};
+ghost use Rattle.cut_certificate.specs.CertificateTexts.{line_end};
 ghost use Rattle.stitch_cli.specs.declared.status.Status.TheVariants as status;
 ghost use Rattle.stitch_cli.specs.Endings.{Tells, status_of};
-ghost use Rattle.stitch_cli.specs.Orders.{subject_by};
-ghost use Rattle.stitch_cli.specs.Sights.{Puts, sink_sight};
-ghost use Rattle.stitch_cli.specs.Texts.{byte_line, command_line, draw_line, draw_text as draw_text_of, large_text, line_about, line_at, long_text, memory_line, place_text, read_line, reason_line, step_line, step_text, stop_line, unprinted_line, unread_line, unwritten_line, usage_text, write_line};
+ghost use Rattle.stitch_cli.specs.Refusals.{refusal_of};
+ghost use Rattle.stitch_cli.specs.Texts.{byte_line, change_line, command_line, draw_line, draw_text as draw_text_of, halt_text, large_text, line_about, line_at, long_text, memory_line, place_text, read_line, refusal_line, step_text, unprinted_line, unread_line, unwritten_line, usage_text, write_line};
 
-use crate::putting::{put_five, put_four, put_one, put_three};
+use crate::changing::ChangeFault;
+use crate::halt::{Halt, Refusal};
+use crate::putting::tell;
+use crate::reasons::tell_reason;
 use crate::status::Status;
-use crate::stop::{Refusal, Stop};
 use crate::usage::usage;
 use command_words::Names;
-use format_traits::{Format, ReadFault, WriteFault, ext_of, limit_of};
+use drawing_text::DrawFault;
+use format_traits::{ReadFault, WriteFault};
 use itoa::Buffer;
-use line_graph::{DrawFault, DrawKind};
-use outside_io::{Failed, Sink};
+use line_graph::DrawKind;
+use outside_io::Sink;
 
-const OUT_OF_MEMORY: &[u8] = b"stitch: out of memory\n";
-
-/// Tells that an input could not be read.
-fn tell_unread<E: Sink>(err: &mut E, name: &str) -> Status
-    ensures { Tells (unread_line name.now) status.Fault
-        (sink_sight (E.taken err.old) (E.faults err.old))
-        (sink_sight (E.taken err.new) (E.faults err.new)) result }
+/// Tells why words came to no product. It takes no memory.
+pub(crate) fn tell_halt<E: Sink>(err: &mut E, why: Halt<'_>) -> Status
+    ensures { Tells (halt_text why.entry) (status_of why.entry) (E.sight err.old) (E.sight err.new) result }
 {
-    let put = put_three(err, b"stitch: cannot read ", name.as_bytes(), b"\n");
-    told(put, Status::Fault)
+    match why {
+        Halt::Unasked => tell_usage(err),
+        Halt::Missing(name) => tell_unread(err, name),
+        Halt::NotRead(name) => tell_unread(err, name),
+        Halt::Refused(why) => tell_refusal(err, why),
+        Halt::Memory => out_of_memory(err),
+    }
 }
 
 /// Tells that an output could not be written.
 pub(crate) fn tell_unwritten<E: Sink>(err: &mut E, name: &str) -> Status
-    ensures { Tells (unwritten_line name.now) status.Fault
-        (sink_sight (E.taken err.old) (E.faults err.old))
-        (sink_sight (E.taken err.new) (E.faults err.new)) result }
+    ensures { Tells (unwritten_line name.now) status.Fault (E.sight err.old) (E.sight err.new) result }
 {
-    let put = put_three(err, b"stitch: cannot write ", name.as_bytes(), b"\n");
-    told(put, Status::Fault)
+    tell_name(err, b"stitch: cannot write ", name, Status::Fault)
 }
 
 /// Tells that the report could not be printed.
 pub(crate) fn tell_unprinted<E: Sink>(err: &mut E) -> Status
-    ensures { Tells unprinted_line status.Fault
-        (sink_sight (E.taken err.old) (E.faults err.old))
-        (sink_sight (E.taken err.new) (E.faults err.new)) result }
+    ensures { Tells unprinted_line status.Fault (E.sight err.old) (E.sight err.new) result }
 {
-    let put = put_one(err, b"stitch: cannot print\n");
-    told(put, Status::Fault)
-}
-
-/// Puts the usage text.
-pub(crate) fn tell_usage<E: Sink>(err: &mut E) -> Status
-    ensures { Tells usage_text status.Usage
-        (sink_sight (E.taken err.old) (E.faults err.old))
-        (sink_sight (E.taken err.new) (E.faults err.new)) result }
-{
-    let put = put_one(err, usage());
-    told(put, Status::Usage)
+    tell(err, &[b"stitch: cannot print\n"], Status::Fault)
 }
 
 /// Says that memory was wanted and not found, where nothing else can be done.
 pub fn out_of_memory<E: Sink>(err: &mut E) -> Status
-    ensures { Tells memory_line status.Memory
-        (sink_sight (E.taken err.old) (E.faults err.old))
-        (sink_sight (E.taken err.new) (E.faults err.new)) result }
+    ensures { Tells memory_line status.Memory (E.sight err.old) (E.sight err.new) result }
 {
-    let put = put_one(err, OUT_OF_MEMORY);
-    told(put, Status::Memory)
+    tell(err, &[b"stitch: out of memory\n"], Status::Memory)
 }
 
-/// Tells why an order stopped before anything was written. It takes no memory.
-pub(crate) fn tell_stop<E: Sink>(
-    err: &mut E,
-    about: &Names<'_>,
-    format: &Box<dyn Format>,
-    why: Stop,
-) -> Status
-    ensures { Tells (stop_line (subject_by about.now (meaning format.now)) why) (status_of why)
-        (sink_sight (E.taken err.old) (E.faults err.old))
-        (sink_sight (E.taken err.new) (E.faults err.new)) result }
+/// Tells that an input could not be read.
+fn tell_unread<E: Sink>(err: &mut E, name: &str) -> Status
+    ensures { Tells (unread_line name.now) status.Fault (E.sight err.old) (E.sight err.new) result }
 {
-    match why {
-        Stop::Missing => tell_unread(err, about.input),
-        Stop::NotRead => tell_unread(err, about.input),
-        Stop::Refused(why) => tell_refusal(err, about, format, why),
-        Stop::Memory => out_of_memory(err),
-    }
+    tell_name(err, b"stitch: cannot read ", name, Status::Fault)
 }
 
-fn tell_refusal<E: Sink>(
-    err: &mut E,
-    about: &Names<'_>,
-    format: &Box<dyn Format>,
-    why: Refusal,
-) -> Status
-    ensures { Tells (reason_line (subject_by about.now (meaning format.now)) why) status.Refused
-        (sink_sight (E.taken err.old) (E.faults err.old))
-        (sink_sight (E.taken err.new) (E.faults err.new)) result }
+fn tell_usage<E: Sink>(err: &mut E) -> Status
+    ensures { Tells usage_text status.Usage (E.sight err.old) (E.sight err.new) result }
 {
-    let put = put_reason(err, about, format, why);
-    told(put, Status::Refused)
+    tell(err, &[usage()], Status::Usage)
 }
 
-/// The status that is planned, where its text was put.
-fn told(put: Result<(), Failed>, planned: Status) -> Status
-    ensures ok { OnOk put (result ≡ planned) }
-    ensures err { OnErr put (result ≡ status.Fault) }
-{
-    match put {
-        Ok(()) => planned,
-        Err(Failed) => Status::Fault,
-    }
-}
-
-fn put_reason<E: Sink>(
-    err: &mut E,
-    about: &Names<'_>,
-    format: &Box<dyn Format>,
-    why: Refusal,
-) -> Result<(), Failed>
-    ensures { Puts (reason_line (subject_by about.now (meaning format.now)) why)
-        (sink_sight (E.taken err.old) (E.faults err.old))
-        (sink_sight (E.taken err.new) (E.faults err.new)) result }
+fn tell_refusal<E: Sink>(err: &mut E, why: Refusal<'_>) -> Status
+    ensures { Tells (refusal_line (refusal_of why.entry)) status.Refused (E.sight err.old) (E.sight err.new) result }
 {
     match why {
-        Refusal::TooLong => put_about(err, about.input, b"longer than 67108864 bytes"),
-        Refusal::BadDrawing(fault) => put_draw_fault(err, about.input, fault),
-        Refusal::NotOnlyLoops => { put_about(err, about.input, b"a piece is not one closed line") }
-        Refusal::StepTooLong { step } => put_step_above(err, about.input, step, format),
-        Refusal::Unread(fault) => put_read_fault(err, about.input, fault),
-        Refusal::Unwritten(fault) => put_write_fault(err, about.output, format, fault),
-        Refusal::RefitTooMany { number } => {
-            put_command(err, about.output, number, b"too many commands")
-        }
-        Refusal::MovedOut { number } => {
-            put_command(err, about.input, number, b"moved out of range")
-        }
-        Refusal::NoPlace { place, count } => put_no_place(err, about.input, place, count),
-        Refusal::TooLarge { x, y } => put_too_large(err, x, y),
+        Refusal::TooLong { name } => tell_about(err, name, b"longer than 67108864 bytes"),
+        Refusal::Undrawn { name, fault } => tell_draw_fault(err, name, fault),
+        Refusal::StepTooLong {
+            name,
+            step,
+            limit,
+            ending,
+        } => tell_step(err, name, step, limit, ending),
+        Refusal::Unread { name, fault } => tell_read_fault(err, name, fault),
+        Refusal::Unchanged { names, fault } => tell_change_fault(err, names, fault),
+        Refusal::Unwritten { name, limit, fault } => tell_write_fault(err, name, limit, fault),
+        Refusal::Uncertified { name, number } => tell_uncertified(err, name, number),
+        Refusal::Disproved(why) => tell_reason(err, why),
+        Refusal::TooLarge { x, y } => tell_too_large(err, x, y),
     }
 }
 
-fn put_draw_fault<E: Sink>(err: &mut E, name: &str, fault: DrawFault) -> Result<(), Failed>
-    ensures { Puts (draw_line name.now fault)
-        (sink_sight (E.taken err.old) (E.faults err.old))
-        (sink_sight (E.taken err.new) (E.faults err.new)) result }
+fn tell_draw_fault<E: Sink>(err: &mut E, name: &str, fault: DrawFault) -> Status
+    ensures { Tells (draw_line name.now fault) status.Refused (E.sight err.old) (E.sight err.new) result }
 {
     let mut buffer = Buffer::new();
     let digits = buffer.format(fault.number).as_bytes();
-    let text = draw_text(fault.kind);
-    put_at(err, name.as_bytes(), b": line ", digits, text)
+    tell_at(err, name, b": line ", digits, draw_text(fault.kind))
 }
 
 /// What is wrong with a drawing text.
@@ -171,184 +115,203 @@ fn draw_text(kind: DrawKind) -> &'static [u8]
     }
 }
 
-fn put_read_fault<E: Sink>(err: &mut E, name: &str, fault: ReadFault) -> Result<(), Failed>
-    ensures { Puts (read_line name.now fault)
-        (sink_sight (E.taken err.old) (E.faults err.old))
-        (sink_sight (E.taken err.new) (E.faults err.new)) result }
+fn tell_step<E: Sink>(err: &mut E, name: &str, step: u32, limit: u32, ending: &str) -> Status
+    ensures { Tells (step_text name.now (decimal step) (decimal limit) ending.now) status.Refused (E.sight err.old) (E.sight err.new) result }
+{
+    let mut step_buffer = Buffer::new();
+    let mut limit_buffer = Buffer::new();
+    let steps = step_buffer.format(step).as_bytes();
+    let most = limit_buffer.format(limit).as_bytes();
+    tell_step_digits(err, name, steps, most, ending)
+}
+
+fn tell_step_digits<E: Sink>(
+    err: &mut E,
+    name: &str,
+    step: &[u8],
+    limit: &[u8],
+    ending: &str,
+) -> Status
+    ensures { Tells (step_text name.now step.now limit.now ending.now) status.Refused (E.sight err.old) (E.sight err.new) result }
+{
+    let pieces: [&[u8]; 9] = [
+        b"stitch: ",
+        name.as_bytes(),
+        b": step ",
+        step,
+        b" is above ",
+        limit,
+        b", the limit of ",
+        ending.as_bytes(),
+        b"\n",
+    ];
+    tell(err, &pieces, Status::Refused)
+}
+
+fn tell_read_fault<E: Sink>(err: &mut E, name: &str, fault: ReadFault) -> Status
+    ensures { Tells (read_line name.now fault) status.Refused (E.sight err.old) (E.sight err.new) result }
 {
     match fault {
-        ReadFault::Short { at } => put_byte(err, name, at, b"file too short"),
-        ReadFault::Signature { at } => put_byte(err, name, at, b"signature not known"),
-        ReadFault::Sequin { at } => put_byte(err, name, at, b"sequin"),
-        ReadFault::Control { at } => put_byte(err, name, at, b"control code not known"),
-        ReadFault::Range { at } => put_byte(err, name, at, b"point out of range"),
-        ReadFault::TooMany { at } => put_byte(err, name, at, b"more than 1000000 commands"),
-        ReadFault::Memory => put_one(err, OUT_OF_MEMORY),
+        ReadFault::Short { at } => tell_byte(err, name, at, b"file too short"),
+        ReadFault::Signature { at } => tell_byte(err, name, at, b"signature not known"),
+        ReadFault::Sequin { at } => tell_byte(err, name, at, b"sequin"),
+        ReadFault::Control { at } => tell_byte(err, name, at, b"control code not known"),
+        ReadFault::Range { at } => tell_byte(err, name, at, b"point out of range"),
+        ReadFault::TooMany { at } => tell_byte(err, name, at, b"more than 1000000 commands"),
+        ReadFault::Memory => tell(err, &[b"stitch: out of memory\n"], Status::Refused),
     }
 }
 
-/// Puts a line about a byte of a file, counted from 0.
-fn put_byte<E: Sink>(err: &mut E, name: &str, offset: u64, text: &[u8]) -> Result<(), Failed>
-    ensures { Puts (byte_line name.now offset text.now)
-        (sink_sight (E.taken err.old) (E.faults err.old))
-        (sink_sight (E.taken err.new) (E.faults err.new)) result }
+/// Tells of a byte of a file, counted from 0.
+fn tell_byte<E: Sink>(err: &mut E, name: &str, offset: u64, text: &[u8]) -> Status
+    ensures { Tells (byte_line name.now offset text.now) status.Refused (E.sight err.old) (E.sight err.new) result }
 {
     let mut buffer = Buffer::new();
     let digits = buffer.format(offset).as_bytes();
-    put_at(err, name.as_bytes(), b": byte ", digits, text)
+    tell_at(err, name, b": byte ", digits, text)
 }
 
-fn put_write_fault<E: Sink>(
-    err: &mut E,
-    name: &str,
-    format: &Box<dyn Format>,
-    fault: WriteFault,
-) -> Result<(), Failed>
-    ensures { Puts (write_line name.now (meaning format.now).limit fault)
-        (sink_sight (E.taken err.old) (E.faults err.old))
-        (sink_sight (E.taken err.new) (E.faults err.new)) result }
+fn tell_change_fault<E: Sink>(err: &mut E, names: Names<'_>, fault: ChangeFault) -> Status
+    ensures { Tells (change_line names.entry.input.now names.entry.output.now fault) status.Refused (E.sight err.old) (E.sight err.new) result }
 {
     match fault {
-        WriteFault::StitchTooLong { number } => put_long_stitch(
-            err,
-            name,
-            number,
-            limit_of(format),
-        ),
-        WriteFault::FloatTooLong { number } => put_command(err, name, number, b"float too long"),
-        WriteFault::TooManyStops { number } => put_command(err, name, number, b"too many stops"),
-        WriteFault::TooLong { number } => {
-            put_command(err, name, number, b"more than 1000000 commands written")
+        ChangeFault::RefitTooMany { number } => {
+            tell_command(err, names.output, number, b"too many commands")
         }
-        WriteFault::Memory => put_one(err, OUT_OF_MEMORY),
+        ChangeFault::MovedOut { number } => {
+            tell_command(err, names.input, number, b"moved out of range")
+        }
+        ChangeFault::NoPlace { place, count } => tell_no_place(err, names.input, place, count),
     }
 }
 
-fn put_long_stitch<E: Sink>(err: &mut E, name: &str, number: u32, limit: u32) -> Result<(), Failed>
-    ensures { Puts (long_text name.now (decimal number) (decimal limit))
-        (sink_sight (E.taken err.old) (E.faults err.old))
-        (sink_sight (E.taken err.new) (E.faults err.new)) result }
+fn tell_write_fault<E: Sink>(err: &mut E, name: &str, limit: u32, fault: WriteFault) -> Status
+    ensures { Tells (write_line name.now limit fault) status.Refused (E.sight err.old) (E.sight err.new) result }
+{
+    match fault {
+        WriteFault::StitchTooLong { number } => tell_long_stitch(err, name, number, limit),
+        WriteFault::FloatTooLong { number } => tell_command(err, name, number, b"float too long"),
+        WriteFault::TooManyStops { number } => tell_command(err, name, number, b"too many stops"),
+        WriteFault::TooLong { number } => {
+            tell_command(err, name, number, b"more than 1000000 commands written")
+        }
+        WriteFault::Memory => tell(err, &[b"stitch: out of memory\n"], Status::Refused),
+    }
+}
+
+fn tell_long_stitch<E: Sink>(err: &mut E, name: &str, number: u32, limit: u32) -> Status
+    ensures { Tells (long_text name.now (decimal number) (decimal limit)) status.Refused (E.sight err.old) (E.sight err.new) result }
 {
     let mut number_buffer = Buffer::new();
     let mut limit_buffer = Buffer::new();
     let digits = number_buffer.format(number).as_bytes();
     let most = limit_buffer.format(limit).as_bytes();
-    put_long(err, name.as_bytes(), digits, most)
+    tell_long_digits(err, name.as_bytes(), digits, most)
 }
 
-fn put_long<E: Sink>(err: &mut E, name: &[u8], number: &[u8], limit: &[u8]) -> Result<(), Failed>
-    ensures { Puts (long_text name.now number.now limit.now)
-        (sink_sight (E.taken err.old) (E.faults err.old))
-        (sink_sight (E.taken err.new) (E.faults err.new)) result }
+fn tell_long_digits<E: Sink>(err: &mut E, name: &[u8], number: &[u8], limit: &[u8]) -> Status
+    ensures { Tells (long_text name.now number.now limit.now) status.Refused (E.sight err.old) (E.sight err.new) result }
 {
-    match put_four(err, b"stitch: ", name, b": command ", number) {
-        Ok(()) => put_three(err, b": stitch longer than ", limit, b"\n"),
-        Err(Failed) => Err(Failed),
-    }
+    let pieces: [&[u8]; 7] = [
+        b"stitch: ",
+        name,
+        b": command ",
+        number,
+        b": stitch longer than ",
+        limit,
+        b"\n",
+    ];
+    tell(err, &pieces, Status::Refused)
 }
 
-/// Puts a line about a command of a design, counted from 1.
-fn put_command<E: Sink>(err: &mut E, name: &str, number: u32, text: &[u8]) -> Result<(), Failed>
-    ensures { Puts (command_line name.now number text.now)
-        (sink_sight (E.taken err.old) (E.faults err.old))
-        (sink_sight (E.taken err.new) (E.faults err.new)) result }
+/// Tells of a command of a design, counted from 1.
+fn tell_command<E: Sink>(err: &mut E, name: &str, number: u32, text: &[u8]) -> Status
+    ensures { Tells (command_line name.now number text.now) status.Refused (E.sight err.old) (E.sight err.new) result }
 {
     let mut buffer = Buffer::new();
     let digits = buffer.format(number).as_bytes();
-    put_at(err, name.as_bytes(), b": command ", digits, text)
+    tell_at(err, name, b": command ", digits, text)
 }
 
-fn put_no_place<E: Sink>(err: &mut E, name: &str, place: u32, count: u32) -> Result<(), Failed>
-    ensures { Puts (place_text name.now (decimal place) (decimal count))
-        (sink_sight (E.taken err.old) (E.faults err.old))
-        (sink_sight (E.taken err.new) (E.faults err.new)) result }
+fn tell_no_place<E: Sink>(err: &mut E, name: &str, place: u32, count: u32) -> Status
+    ensures { Tells (place_text name.now (decimal place) (decimal count)) status.Refused (E.sight err.old) (E.sight err.new) result }
 {
     let mut place_buffer = Buffer::new();
     let mut count_buffer = Buffer::new();
     let wanted = place_buffer.format(place).as_bytes();
     let there = count_buffer.format(count).as_bytes();
-    put_place(err, name.as_bytes(), wanted, there)
+    tell_place_digits(err, name.as_bytes(), wanted, there)
 }
 
-fn put_place<E: Sink>(err: &mut E, name: &[u8], place: &[u8], count: &[u8]) -> Result<(), Failed>
-    ensures { Puts (place_text name.now place.now count.now)
-        (sink_sight (E.taken err.old) (E.faults err.old))
-        (sink_sight (E.taken err.new) (E.faults err.new)) result }
+fn tell_place_digits<E: Sink>(err: &mut E, name: &[u8], place: &[u8], count: &[u8]) -> Status
+    ensures { Tells (place_text name.now place.now count.now) status.Refused (E.sight err.old) (E.sight err.new) result }
 {
-    match put_four(err, b"stitch: ", name, b": no colour place ", place) {
-        Ok(()) => put_three(err, b", there are ", count, b"\n"),
-        Err(Failed) => Err(Failed),
-    }
+    let pieces: [&[u8]; 7] = [
+        b"stitch: ",
+        name,
+        b": no colour place ",
+        place,
+        b", there are ",
+        count,
+        b"\n",
+    ];
+    tell(err, &pieces, Status::Refused)
 }
 
-fn put_too_large<E: Sink>(err: &mut E, x: u32, y: u32) -> Result<(), Failed>
-    ensures { Puts (large_text (decimal x) (decimal y))
-        (sink_sight (E.taken err.old) (E.faults err.old))
-        (sink_sight (E.taken err.new) (E.faults err.new)) result }
+fn tell_uncertified<E: Sink>(err: &mut E, name: &str, number: u32) -> Status
+    ensures { Tells (line_at name.now (codes ": line ") (decimal number) (codes "not a certificate"))
+        status.Refused (E.sight err.old) (E.sight err.new) result }
+{
+    let mut buffer = Buffer::new();
+    let digits = buffer.format(number).as_bytes();
+    tell_at(err, name, b": line ", digits, b"not a certificate")
+}
+
+fn tell_too_large<E: Sink>(err: &mut E, x: u32, y: u32) -> Status
+    ensures { Tells (large_text (decimal x) (decimal y)) status.Refused (E.sight err.old) (E.sight err.new) result }
 {
     let mut x_buffer = Buffer::new();
     let mut y_buffer = Buffer::new();
     let over_x = x_buffer.format(x).as_bytes();
     let over_y = y_buffer.format(y).as_bytes();
-    put_five(err, b"stitch: too large by ", over_x, b" ", over_y, b"\n")
+    tell_large_digits(err, over_x, over_y)
 }
 
-fn put_at<E: Sink>(
-    err: &mut E,
-    name: &[u8],
-    word: &[u8],
-    digits: &[u8],
-    text: &[u8],
-) -> Result<(), Failed>
-    ensures { Puts (line_at name.now word.now digits.now text.now)
-        (sink_sight (E.taken err.old) (E.faults err.old))
-        (sink_sight (E.taken err.new) (E.faults err.new)) result }
+fn tell_large_digits<E: Sink>(err: &mut E, x: &[u8], y: &[u8]) -> Status
+    ensures { Tells (large_text x.now y.now) status.Refused (E.sight err.old) (E.sight err.new) result }
 {
-    match put_four(err, b"stitch: ", name, word, digits) {
-        Ok(()) => put_three(err, b": ", text, b"\n"),
-        Err(Failed) => Err(Failed),
-    }
+    let pieces: [&[u8]; 5] = [b"stitch: too large by ", x, b" ", y, b"\n"];
+    tell(err, &pieces, Status::Refused)
 }
 
-fn put_about<E: Sink>(err: &mut E, name: &str, text: &[u8]) -> Result<(), Failed>
-    ensures { Puts (line_about name.now text.now)
-        (sink_sight (E.taken err.old) (E.faults err.old))
-        (sink_sight (E.taken err.new) (E.faults err.new)) result }
+/// Tells of a place in a file that has a number.
+fn tell_at<E: Sink>(err: &mut E, name: &str, word: &[u8], digits: &[u8], text: &[u8]) -> Status
+    ensures { Tells (line_at name.now word.now digits.now text.now) status.Refused (E.sight err.old) (E.sight err.new) result }
 {
-    put_five(err, b"stitch: ", name.as_bytes(), b": ", text, b"\n")
+    let pieces: [&[u8]; 7] = [
+        b"stitch: ",
+        name.as_bytes(),
+        word,
+        digits,
+        b": ",
+        text,
+        b"\n",
+    ];
+    tell(err, &pieces, Status::Refused)
 }
 
-fn put_step_above<E: Sink>(
-    err: &mut E,
-    name: &str,
-    step: u32,
-    format: &Box<dyn Format>,
-) -> Result<(), Failed>
-    ensures { Puts (step_line name.now step (meaning format.now))
-        (sink_sight (E.taken err.old) (E.faults err.old))
-        (sink_sight (E.taken err.new) (E.faults err.new)) result }
+/// Tells of a file.
+fn tell_about<E: Sink>(err: &mut E, name: &str, text: &[u8]) -> Status
+    ensures { Tells (line_about name.now text.now) status.Refused (E.sight err.old) (E.sight err.new) result }
 {
-    let mut step_buffer = Buffer::new();
-    let mut limit_buffer = Buffer::new();
-    let step_digits = step_buffer.format(step).as_bytes();
-    let limit_digits = limit_buffer.format(limit_of(format)).as_bytes();
-    let ending = ext_of(format).as_bytes();
-    put_step(err, name.as_bytes(), step_digits, limit_digits, ending)
+    let pieces: [&[u8]; 5] = [b"stitch: ", name.as_bytes(), b": ", text, b"\n"];
+    tell(err, &pieces, Status::Refused)
 }
 
-fn put_step<E: Sink>(
-    err: &mut E,
-    name: &[u8],
-    step: &[u8],
-    limit: &[u8],
-    ending: &[u8],
-) -> Result<(), Failed>
-    ensures { Puts (step_text name.now step.now limit.now ending.now)
-        (sink_sight (E.taken err.old) (E.faults err.old))
-        (sink_sight (E.taken err.new) (E.faults err.new)) result }
+/// Tells a text that ends with a file's name.
+fn tell_name<E: Sink>(err: &mut E, text: &[u8], name: &str, planned: Status) -> Status
+    ensures { Tells (text.now ++ (name.now ++ line_end)) planned (E.sight err.old) (E.sight err.new) result }
 {
-    match put_four(err, b"stitch: ", name, b": step ", step) {
-        Ok(()) => put_five(err, b" is above ", limit, b", the limit of ", ending, b"\n"),
-        Err(Failed) => Err(Failed),
-    }
+    let pieces: [&[u8]; 3] = [text, name.as_bytes(), b"\n"];
+    tell(err, &pieces, planned)
 }

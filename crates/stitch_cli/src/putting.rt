@@ -1,13 +1,15 @@
-ghost use Rattle.std.specs.Prelude.{◌≡◌, ◌++◌};
-ghost use Rattle.stitch_cli.specs.Sights.{Puts, sink_sight};
+ghost use Rattle.std.specs.Prelude.{◌≡◌, OnErr, OnOk, map};
+ghost use Rattle.std.specs.List.{concat};
+ghost use Rattle.stitch_cli.specs.declared.status.Status.TheVariants as status;
+ghost use Rattle.stitch_cli.specs.Endings.{Tells};
+ghost use Rattle.stitch_cli.specs.Puts.{Puts};
 
+use crate::status::Status;
 use outside_io::{Failed, Sink};
 
 /// Puts one text.
 pub(crate) fn put_one<E: Sink>(err: &mut E, text: &[u8]) -> Result<(), Failed>
-    ensures { Puts text.now
-        (sink_sight (E.taken err.old) (E.faults err.old))
-        (sink_sight (E.taken err.new) (E.faults err.new)) result }
+    ensures { Puts text.now (E.sight err.old) (E.sight err.new) result }
 {
     match err.put(text) {
         Ok(()) => Ok(()),
@@ -15,68 +17,35 @@ pub(crate) fn put_one<E: Sink>(err: &mut E, text: &[u8]) -> Result<(), Failed>
     }
 }
 
-/// Puts two texts after one another.
-pub(crate) fn put_two<E: Sink>(err: &mut E, first: &[u8], second: &[u8]) -> Result<(), Failed>
-    ensures { Puts (first.now ++ second.now)
-        (sink_sight (E.taken err.old) (E.faults err.old))
-        (sink_sight (E.taken err.new) (E.faults err.new)) result }
+/// Puts pieces of a text one after another.
+fn put_all<E: Sink>(err: &mut E, pieces: &[&[u8]]) -> Result<(), Failed>
+    ensures { Puts (concat (map (λ piece. piece.now) pieces.now)) (E.sight err.old) (E.sight err.new) result }
 {
-    match put_one(err, first) {
-        Ok(()) => put_one(err, second),
-        Err(Failed) => Err(Failed),
+    for piece in pieces {
+        match put_one(err, piece) {
+            Ok(()) => {}
+            Err(Failed) => return Err(Failed),
+        }
     }
+    Ok(())
 }
 
-/// Puts three texts after one another.
-pub(crate) fn put_three<E: Sink>(
-    err: &mut E,
-    first: &[u8],
-    second: &[u8],
-    third: &[u8],
-) -> Result<(), Failed>
-    ensures { Puts (first.now ++ (second.now ++ third.now))
-        (sink_sight (E.taken err.old) (E.faults err.old))
-        (sink_sight (E.taken err.new) (E.faults err.new)) result }
+/// Puts the pieces of a text, and answers the status that is planned where that went well.
+pub(crate) fn tell<E: Sink>(err: &mut E, pieces: &[&[u8]], planned: Status) -> Status
+    ensures { Tells (concat (map (λ piece. piece.now) pieces.now)) planned
+        (E.sight err.old) (E.sight err.new) result }
 {
-    match put_one(err, first) {
-        Ok(()) => put_two(err, second, third),
-        Err(Failed) => Err(Failed),
-    }
+    let put = put_all(err, pieces);
+    told(put, planned)
 }
 
-/// Puts four texts after one another.
-pub(crate) fn put_four<E: Sink>(
-    err: &mut E,
-    first: &[u8],
-    second: &[u8],
-    third: &[u8],
-    fourth: &[u8],
-) -> Result<(), Failed>
-    ensures { Puts (first.now ++ (second.now ++ (third.now ++ fourth.now)))
-        (sink_sight (E.taken err.old) (E.faults err.old))
-        (sink_sight (E.taken err.new) (E.faults err.new)) result }
+/// The status that is planned, where its text was put.
+fn told(put: Result<(), Failed>, planned: Status) -> Status
+    ensures ok { OnOk put (result ≡ planned) }
+    ensures err { OnErr put (result ≡ status.Fault) }
 {
-    match put_one(err, first) {
-        Ok(()) => put_three(err, second, third, fourth),
-        Err(Failed) => Err(Failed),
-    }
-}
-
-/// Puts five texts after one another.
-pub(crate) fn put_five<E: Sink>(
-    err: &mut E,
-    first: &[u8],
-    second: &[u8],
-    third: &[u8],
-    fourth: &[u8],
-    fifth: &[u8],
-) -> Result<(), Failed>
-    ensures { Puts (first.now ++ (second.now ++ (third.now ++ (fourth.now ++ fifth.now))))
-        (sink_sight (E.taken err.old) (E.faults err.old))
-        (sink_sight (E.taken err.new) (E.faults err.new)) result }
-{
-    match put_one(err, first) {
-        Ok(()) => put_four(err, second, third, fourth, fifth),
-        Err(Failed) => Err(Failed),
+    match put {
+        Ok(()) => planned,
+        Err(Failed) => Status::Fault,
     }
 }

@@ -1,7 +1,14 @@
-ghost use Rattle.std.specs.Prelude.{◌≡◌, ◌<◌, ◌+◌, ◌^◌, IfOk, length, string_bytes, sum_by};
+ghost use Rattle.std.specs.Prelude.{◌≡◌, ◌<◌, ◌≤◌, ◌+◌, ◌∷◌, ◌^◌, [], All, IfNone, IfOk, IfSome, length, string_bytes, sum_by};
+ghost use Rattle.line_graph.specs.declared.limits.TheConstants.{MAX_BLOCKS, MAX_COST, MAX_LINES};
+ghost use Rattle.line_graph.specs.CutPieces.{graph_of};
+ghost use Rattle.line_graph.specs.PieceWalks.{cost_of, edge_sum};
+ghost use Rattle.stitch_cli.specs.RouteSteps.{reports_from};
+ghost use Rattle.stitch_cli.specs.Routes.{piece_report};
 ghost use Rattle.stitch_cli.specs.Texts.{cost_text, penetrations_of, piece_place as piece_place_text, route_report, totals_line as totals_text};
 
-use design_model::{Bytes, Memory};
+use cut_certificate::PieceCert;
+use design_model::{Bytes, Items, Memory};
+use line_graph::{Edge, Piece};
 use std::alloc::Global;
 
 /// What the report says of a routed piece: the numbers of its block and its own, both from 1, how
@@ -15,8 +22,86 @@ pub struct PieceReport {
     pub retraced: u32,
 }
 
+/// The report of a route over pieces, each with its certificate.
+pub(crate) fn print_route(
+    alloc: Global,
+    pieces: &[Piece],
+    certs: &[PieceCert],
+) -> Result<Bytes, Memory>
+    requires blocks { All (λ p. p.block < MAX_BLOCKS) pieces.now }
+    requires lines { length pieces.now ≤ MAX_LINES }
+    requires few { sum_by penetrations_of (reports_from 1 pieces.now certs.now) < 2 ^ 32 }
+    ensures { IfOk result (λ text. text ≡ route_report (reports_from 1 pieces.now certs.now)) }
+{
+    let reports = reports_of(alloc, pieces, certs)?;
+    print_report(alloc, reports.as_slice())
+}
+
+/// What the report says of pieces, each with its certificate, numbered from 1 on.
+pub(crate) fn reports_of(
+    alloc: Global,
+    pieces: &[Piece],
+    certs: &[PieceCert],
+) -> Result<Items<PieceReport>, Memory>
+    requires blocks { All (λ p. p.block < MAX_BLOCKS) pieces.now }
+    requires lines { length pieces.now ≤ MAX_LINES }
+    ensures { IfOk result (λ reports. reports ≡ reports_from 1 pieces.now certs.now) }
+{
+    let mut reports = Items::new(alloc);
+    let mut number = 1;
+    let mut rest = pieces;
+    let mut left = certs;
+    while let Some((piece, more)) = first_lent(rest) {
+        let Some((cert, after)) = first_lent(left) else {
+            return Ok(reports);
+        };
+        reports.push(report_of(piece, number, cert))?;
+        number += 1;
+        rest = more;
+        left = after;
+    }
+    Ok(reports)
+}
+
+/// The first item of a slice, and those behind it.
+fn first_lent<T>(items: &[T]) -> Option<(&T, &[T])>
+    ensures some { IfSome result (λ r. items.now ≡ r.0.now ∷ r.1.now) }
+    ensures none { IfNone result (items.now ≡ []) }
+{
+    match items {
+        [first, after @ ..] => Some((first, after)),
+        [] => None,
+    }
+}
+
+/// What the report says of a piece with that number.
+fn report_of(p: &Piece, number: u32, cert: &PieceCert) -> PieceReport
+    requires { p.now.block < MAX_BLOCKS }
+    ensures { result ≡ piece_report (graph_of p.now) number cert.now }
+{
+    PieceReport {
+        block: p.block + 1,
+        piece: number,
+        lines: p.lines.len() as u32,
+        cost: cost_of_edges(p.edges.as_slice()),
+        retraced: cert.retraced,
+    }
+}
+
+/// What edges cost, each once.
+fn cost_of_edges(edges: &[Edge]) -> u32
+    requires { edge_sum cost_of edges.now ≤ MAX_COST }
+    ensures { result ≡ edge_sum cost_of edges.now }
+{
+    let mut cost = 0;
+    for edge in edges {
+        cost += edge.cost;
+    }
+    cost
+}
+
 /// The report of a route: a line for each piece, and the sums.
-pub(crate) fn print_report(alloc: Global, pieces: &[PieceReport]) -> Result<Bytes, Memory>
+fn print_report(alloc: Global, pieces: &[PieceReport]) -> Result<Bytes, Memory>
     requires { sum_by penetrations_of pieces.now < 2 ^ 32 }
     ensures { IfOk result (λ text. text ≡ route_report pieces.now) }
 {
@@ -57,4 +142,13 @@ fn totals_line(alloc: Global, pieces: usize, penetrations: u32) -> Result<String
 {
     let text = format!(in alloc; "pieces {pieces} penetrations {penetrations}\n")?;
     Ok(text)
+}
+
+/// A text as bytes.
+pub(crate) fn bytes_of(alloc: Global, text: &[u8]) -> Result<Bytes, Memory>
+    ensures { IfOk result (λ bytes. bytes ≡ text.now) }
+{
+    let mut bytes = Bytes::new(alloc);
+    bytes.append(text)?;
+    Ok(bytes)
 }

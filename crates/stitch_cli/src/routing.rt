@@ -1,133 +1,145 @@
-ghost use Rattle.std.specs.Prelude.{◌≡◌, ◌≢◌, ◌≤◌, IfErr, IfOk, OnOk, length};
+ghost use Rattle.std.specs.Prelude.{◌≡◌, ◌≢◌, ◌≤◌, IfOk, length};
 ghost use Rattle.command_words.specs.Requests.{AreNames};
+ghost use Rattle.format_traits.specs.PlainDesigns.{IsPlain};
+ghost use Rattle.line_graph.specs.Runs.{AreWritable, runs_of, sewn_design};
 ghost use Rattle.outside_io.specs.declared.limits.TheConstants.{MAX_FILE};
-ghost use Rattle.stitch_cli.specs.Endings.{Delivers, OrderEnds, Stops};
-ghost use Rattle.stitch_cli.specs.Orders.{route_order, routing};
-ghost use Rattle.stitch_cli.specs.Outcomes.{Makes};
-ghost use Rattle.stitch_cli.specs.Runs.{sights};
-ghost use Rattle.stitch_cli.specs.Sights.{store_sight};
-ghost use Rattle.stitch_cli.specs.Steps.{ReadsLoops, routed_product};
+ghost use Rattle.drawing_text.specs.DrawingText.{drawing_of};
+ghost use Rattle.route_core.specs.Routes.{walks_of};
+ghost use Rattle.stitch_cli.specs.Endings.{Prepares, Settles};
+ghost use Rattle.stitch_cli.specs.Orders.{route_order};
+ghost use Rattle.stitch_cli.specs.Routes.{RouteMakes, SewsIn, route_drawing, route_plan, route_read};
+ghost use Rattle.stitch_cli.specs.Products.{product_of};
 
-use crate::delivery::{Output, deliver};
-use crate::making::{Routed, make};
-use crate::messages::tell_stop;
+use crate::halt::{Halt, Refusal};
+use crate::product::{Output, Product, two_outputs};
 use crate::reading::read_input;
-use crate::status::Status;
-use crate::stop::{Refusal, Stop};
-use command_words::{Names, RouteNames};
-use format_traits::Format;
-use line_graph::{DrawFault, DrawKind, Drawing, only_loops, read_drawing};
-use outside_io::{Sink, Store};
+use crate::reports::print_route;
+use command_words::RouteNames;
+use cut_certificate::print_cert;
+use design_model::{Bytes, Memory};
+use drawing_text::{DrawFault, read_drawing};
+use format_traits::{Format, WriteFault, encode_by, ext_of, limit_of};
+use line_graph::{DrawKind, Drawing, pieces, runs_are_sewn};
+use outside_io::Store;
+use route_core::{Routed, route_pieces};
 use std::alloc::Global;
 
-/// Routes a drawing in which each piece is one closed line: reads it, and only then writes the
-/// certificate, the design and the report, in this order.
-pub(crate) fn route<S: Store, O: Sink, E: Sink>(
+/// The route of a drawing: its certificate, the design that sews it, and the report.
+pub(crate) fn route<'a, S: Store>(
     alloc: Global,
-    names: &RouteNames<'_>,
-    format: &Box<dyn Format>,
+    names: RouteNames<'a>,
+    format: &'a Box<dyn Format>,
     store: &mut S,
-    out: &mut O,
-    err: &mut E,
-) -> Status
-    requires names { AreNames names.now }
-    requires apart { names.now.cert.now ≢ names.now.out.now }
-    ensures { OrderEnds (routing (route_order names.now (meaning format.now)))
-        (sights (S.files store.old) (S.faults store.old) (S.blame store.old)
-        (O.taken out.old) (O.faults out.old) (E.taken err.old) (E.faults err.old))
-        (sights (S.files store.new) (S.faults store.new) (S.blame store.new)
-        (O.taken out.new) (O.faults out.new) (E.taken err.new) (E.faults err.new)) result }
+) -> Result<Product<'a>, Halt<'a>>
+    requires names { AreNames names }
+    requires apart { names.cert.now ≢ names.out.now }
+    ensures { Prepares (route_plan (route_order names.entry (meaning format.now)))
+        (S.sight store.old) (S.sight store.new) result }
 {
-    match prepare(alloc, names, format, store) {
-        Ok(routed) => deliver_route(names, &routed, store, out, err),
-        Err(why) => tell_stop(
-            err,
-            &Names {
-                input: names.drawing,
-                output: names.out,
-            },
-            format,
-            why,
-        ),
-    }
+    let bytes = read_input(alloc, store, names.drawing)?;
+    route_text(alloc, names, format, bytes.as_slice())
 }
 
-fn deliver_route<S: Store, O: Sink, E: Sink>(
-    names: &RouteNames<'_>,
-    routed: &Routed,
-    store: &mut S,
-    out: &mut O,
-    err: &mut E,
-) -> Status
-    requires names { AreNames names.now }
-    requires apart { names.now.cert.now ≢ names.now.out.now }
-    ensures { Delivers (routed_product names.now routed.now)
-        (sights (S.files store.old) (S.faults store.old) (S.blame store.old)
-        (O.taken out.old) (O.faults out.old) (E.taken err.old) (E.faults err.old))
-        (sights (S.files store.new) (S.faults store.new) (S.blame store.new)
-        (O.taken out.new) (O.faults out.new) (E.taken err.new) (E.faults err.new)) result }
-{
-    let outputs = [
-        Output {
-            name: names.cert,
-            content: routed.cert.as_slice(),
-        },
-        Output {
-            name: names.out,
-            content: routed.made.bytes.as_slice(),
-        },
-    ];
-    deliver(&outputs, routed.made.report.as_slice(), store, out, err)
-}
-
-/// Does all that can refuse.
-fn prepare<S: Store>(
+fn route_text<'a>(
     alloc: Global,
-    names: &RouteNames<'_>,
-    format: &Box<dyn Format>,
-    store: &mut S,
-) -> Result<Routed, Stop>
-    requires { AreNames names.now }
-    ensures done { IfOk result (λ routed. Makes (routing (route_order names.now (meaning format.now)))
-        (S.files store.old) (routed_product names.now routed)) }
-    ensures same { OnOk result (
-        store_sight (S.files store.new) (S.faults store.new) (S.blame store.new)
-        ≡ store_sight (S.files store.old) (S.faults store.old) (S.blame store.old)) }
-    ensures stops { IfErr result (Stops (routing (route_order names.now (meaning format.now)))
-        (store_sight (S.files store.old) (S.faults store.old) (S.blame store.old))
-        (store_sight (S.files store.new) (S.faults store.new) (S.blame store.new))) }
+    names: RouteNames<'a>,
+    format: &'a Box<dyn Format>,
+    bytes: &[u8],
+) -> Result<Product<'a>, Halt<'a>>
+    requires names { AreNames names }
+    requires apart { names.cert.now ≢ names.out.now }
+    requires short { length bytes.now ≤ MAX_FILE }
+    ensures { Settles (route_read (route_order names.entry (meaning format.now)) (drawing_of bytes.now)) result }
 {
-    let bytes = match read_input(alloc, store, names.drawing) {
-        Ok(bytes) => bytes,
-        Err(why) => return Err(why),
-    };
-    let drawing = match read_loops(alloc, bytes.as_slice()) {
-        Ok(drawing) => drawing,
-        Err(why) => return Err(why),
-    };
-    match make(alloc, &drawing, format) {
-        Ok(routed) => Ok(routed),
-        Err(why) => Err(why),
-    }
-}
-
-/// The drawing that the bytes say, where each of its pieces is one closed line.
-fn read_loops(alloc: Global, bytes: &[u8]) -> Result<Drawing, Stop>
-    requires { length bytes.now ≤ MAX_FILE }
-    ensures { ReadsLoops bytes.now result }
-{
-    let drawing = match read_drawing(alloc, bytes) {
-        Ok(drawing) => drawing,
+    match read_drawing(alloc, bytes) {
+        Ok(drawing) => route_drawn(alloc, names, format, &drawing),
         Err(
             DrawFault {
                 kind: DrawKind::Memory,
                 number: _,
             },
-        ) => return Err(Stop::Memory),
-        Err(fault) => return Err(Stop::Refused(Refusal::BadDrawing(fault))),
-    };
-    if !only_loops(&drawing) {
-        return Err(Stop::Refused(Refusal::NotOnlyLoops));
+        ) => Err(Halt::Memory),
+        Err(fault) => Err(Halt::Refused(Refusal::Undrawn {
+            name: names.drawing,
+            fault,
+        })),
     }
-    Ok(drawing)
+}
+
+fn route_drawn<'a>(
+    alloc: Global,
+    names: RouteNames<'a>,
+    format: &'a Box<dyn Format>,
+    drawing: &Drawing,
+) -> Result<Product<'a>, Halt<'a>>
+    requires names { AreNames names }
+    requires apart { names.cert.now ≢ names.out.now }
+    ensures { Settles (route_drawing (route_order names.entry (meaning format.now)) drawing.now) result }
+{
+    let step = drawing.step();
+    let limit = limit_of(format);
+    if limit < step {
+        return Err(Halt::Refused(Refusal::StepTooLong {
+            name: names.drawing,
+            step,
+            limit,
+            ending: ext_of(format),
+        }));
+    }
+    let product = routed(alloc, names, format, drawing)?;
+    Ok(product)
+}
+
+/// What is made for a drawing whose step is within the limit of the format.
+fn routed<'a>(
+    alloc: Global,
+    names: RouteNames<'a>,
+    format: &Box<dyn Format>,
+    drawing: &Drawing,
+) -> Result<Product<'a>, Memory>
+    requires { drawing.now.step ≤ (meaning format.now).limit }
+    ensures { IfOk result (λ product. RouteMakes (route_order names.entry (meaning format.now)) drawing.now
+        (product_of product)) }
+{
+    // The clauses of these calls bring the limits of the drawing and of the format.
+    let _step = drawing.step();
+    let _limit = limit_of(format);
+    let pieces = pieces(alloc, drawing)?;
+    let routed = route_pieces(alloc, drawing, pieces.as_slice())?;
+    let design = encoded(alloc, format, drawing, &routed)?;
+    let cert = print_cert(alloc, &routed.cert)?;
+    let report = print_route(alloc, pieces.as_slice(), routed.cert.pieces.as_slice())?;
+    let first = Output {
+        name: names.cert,
+        content: cert,
+    };
+    let second = Output {
+        name: names.out,
+        content: design,
+    };
+    let product = two_outputs(alloc, first, second, report)?;
+    Ok(product)
+}
+
+/// The file of a route's design.
+fn encoded(
+    alloc: Global,
+    format: &Box<dyn Format>,
+    drawing: &Drawing,
+    routed: &Routed,
+) -> Result<Bytes, Memory>
+    requires plain { IsPlain (meaning format.now).limit routed.now.design }
+    requires sewn { routed.now.design ≡ sewn_design drawing.now (walks_of routed.now.cert.pieces) }
+    requires writable { AreWritable drawing.now.step (runs_of drawing.now (walks_of routed.now.cert.pieces)) }
+    ensures { IfOk result (SewsIn (meaning format.now) drawing.now (walks_of routed.now.cert.pieces)) }
+{
+    runs_are_sewn();
+    match encode_by(alloc, format, &routed.design) {
+        Ok(bytes) => Ok(bytes),
+        Err(WriteFault::Memory) => Err(Memory),
+        Err(WriteFault::StitchTooLong { number: _ }) => unreachable!(),
+        Err(WriteFault::FloatTooLong { number: _ }) => unreachable!(),
+        Err(WriteFault::TooManyStops { number: _ }) => unreachable!(),
+        Err(WriteFault::TooLong { number: _ }) => unreachable!(),
+    }
 }

@@ -1,9 +1,8 @@
-use super::answer;
-use outside_io::{MemSink, MemStore};
+use super::rows::{Row, Step, play};
 use std::test::Fail;
 use stitch_cli::Status;
 
-const USAGE: &[u8] = b"usage: stitch route DRAWING OUT CERT
+const USAGE: &str = "usage: stitch route DRAWING OUT CERT
        stitch check DRAWING FILE CERT
        stitch convert IN OUT [--split] [--cut]
        stitch show FILE
@@ -12,38 +11,57 @@ const USAGE: &[u8] = b"usage: stitch route DRAWING OUT CERT
        stitch sample N DRAWING
 ";
 
+/// A step whose words ask for nothing.
+macro_rules! unasked {
+    ($words:expr) => {
+        Step {
+            words: $words,
+            status: Status::Usage,
+            out: "",
+            err: USAGE,
+            after: &[],
+        }
+    };
+}
+
+const UNASKED: &[Row] = &[Row {
+    before: &[],
+    steps: &[
+        unasked!(&[]),
+        unasked!(&["--help"]),
+        unasked!(&["route", "a.rw", "b.dst"]),
+        unasked!(&["route", "a.rw", "b.dst", "b.dst"]),
+        unasked!(&["route", "a.rw", "b.jef", "c"]),
+        unasked!(&["route", "a.rw", "", "c"]),
+        unasked!(&["show", "a.jef"]),
+        unasked!(&["show", "a.dst", "b.dst"]),
+        unasked!(&["convert", "a.dst", "a.dst"]),
+        unasked!(&["convert", "a.dst", "b.exp", "--split", "--split"]),
+        unasked!(&["edit", "a.dst", "b.exp"]),
+        unasked!(&["edit", "a.dst", "b.exp", "turn=4"]),
+        unasked!(&["edit", "a.dst", "b.exp", "thread=0,1"]),
+        unasked!(&["hoop", "a.dst", "0", "40"]),
+        unasked!(&["hoop", "a.dst", "40", "60001"]),
+        unasked!(&["check", "a.rw", "b.jef", "c"]),
+        unasked!(&["sample", "0", "a.rw"]),
+    ],
+}];
+
 #[test]
 fn words_that_ask_for_nothing_get_the_usage_text(rt: HostRuntime) -> Result<(), Fail> {
-    let cases: [&[&str]; 21] = [
-        &[],
-        &["route", "a.rw", "b.dst"],
-        &["route", "a.rw", "b.dst", "b.dst"],
-        &["route", "b.dst", "b.dst", "c"],
-        &["route", "a.rw", "b.jef", "c"],
-        &["route", "a.rw", "", "c"],
-        &["route", "a.rw", "dst", "c", "d"],
-        &["show", "a.jef"],
-        &["show", "a.dst", "b.dst"],
-        &["convert", "a.dst", "a.dst"],
-        &["convert", "a.dst", "b.exp", "--split", "--split"],
-        &["convert", "a.dst", "b.exp", "--Split"],
-        &["edit", "a.dst", "b.exp"],
-        &["edit", "a.dst", "b.exp", "turn=4"],
-        &["edit", "a.dst", "b.exp", "shift=1"],
-        &["edit", "a.dst", "b.exp", "shift=0,60001"],
-        &["edit", "a.dst", "b.exp", "thread=0,1"],
-        &["edit", "a.dst", "b.exp", "turn=1", "mirror=z"],
-        &["hoop", "a.dst", "0", "40"],
-        &["hoop", "a.dst", "40", "60001"],
-        &["hoop", "a.dst", "+4", "40"],
+    play(&rt, rt.alloc(), UNASKED)
+}
+
+#[test]
+fn each_status_has_its_number(rt: HostRuntime) {
+    let statuses = [
+        Status::Done,
+        Status::Refused,
+        Status::Usage,
+        Status::Fault,
+        Status::Memory,
     ];
-    for words in cases {
-        let mut store = MemStore::new(rt.alloc());
-        let mut out = MemSink::new(rt.alloc(), 0)?;
-        let mut err = MemSink::new(rt.alloc(), 1_000)?;
-        let status = answer(&rt, words, &mut store, &mut out, &mut err)?;
-        assert_eq!(rt; status, Status::Usage, "{words:?}");
-        assert_eq!(rt; err.taken(), USAGE, "{words:?}");
+    for (number, status) in statuses.into_iter().enumerate() {
+        assert_eq!(rt; status as usize, number, "{status:?}");
     }
-    Ok(())
 }

@@ -6,11 +6,12 @@ use Rattle.outside_io.proofs.whole_files.read_in_order.Given as goal
 -- what was read so far are the first bytes of the file, where it is told
 abbrev pub invariant-loop-count : goal.invariant-loop-count
 invariant-loop-count g l = record {
-  same : g.S.Store.files l.store ≡ g.S.Store.files l.fn.store;
-  stays : Stays (g.S.Store.faults l.fn.store) (g.S.Store.faults l.store) (g.S.Store.blame l.fn.store) (g.S.Store.blame l.store);
+  same : (g.S.Store.sight l.store).files ≡ (g.S.Store.sight l.fn.store).files;
+  stays : Stays (g.S.Store.sight l.fn.store) (g.S.Store.sight l.store);
   short : length l.bytes ≤ l.limit;
   room : length l.buffer ≡ 16384;
-  begins : WhereTold (g.S.Store.files l.fn.store) (λ told. (content : List ℕ) → told l.name ≡ Some content → l.bytes ≡ take (length l.bytes) content);
+  begins : WhereTold (g.S.Store.sight l.fn.store).files
+      (λ told. (content : List ℕ) → told l.name ≡ Some content → l.bytes ≡ take (length l.bytes) content);
 }
 
 abbrev pub decreases-loop-count : goal.decreases-loop-count

@@ -1,9 +1,5 @@
-use Rattle.stitch_cli.proofs.RunLemmas.{ends_made, ends_stopped}
+use Rattle.stitch_cli.proofs.PlanLemmas.{settles_next}
 use Rattle.stitch_cli.proofs.rewriting.rewrite.Goals as goal
 
-pub returns-in-Ok : goal.returns-in-Ok
-returns-in-Ok g c = ends_made _ _ _ _ _ _ _ _ c.in-Ok.ensures.done c.in-Ok.ensures.same
-    (rw (c.as_slice.ensures, c.as_slice-in-Ok.ensures) at c.deliver.ensures)
-
-pub returns-in-Err : goal.returns-in-Err
-returns-in-Err g c = ends_stopped _ _ _ _ _ _ _ _ c.in-Err.ensures.stops c.tell_stop.ensures
+pub returns : goal.returns
+returns g c = settles_next _ _ _ _ _ _ c.in_ok-bytes.ensures (rw c.as_slice.ensures at c.rewritten.ensures)

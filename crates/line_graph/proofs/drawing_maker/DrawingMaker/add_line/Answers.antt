@@ -1,18 +1,20 @@
-use Rattle.std.proofs.Common.{◌≤◌, ℕ, ◌++◌, ◌∷◌, [], length, ap, sym, subst, ◌∙◌}
-use Rattle.line_graph.proofs.MakerLemmas.{line_put, may_come}
+use Rattle.std.proofs.Common.{◌≡◌, ◌≤◌, true, ◌++◌, ◌∷◌, [], length, ap, sym, ◌∙◌, arith}
+use Rattle.std.proofs.lemmas.Bool.Decides.{nat_tests}
+use Rattle.line_graph.proofs.MakerLemmas.{all_in_range, line_put, may_come}
 use Rattle.line_graph.specs.Drawings.{DrawingValue, LineValue}
-use Rattle.line_graph.specs.Growing.{steps_with}
+use Rattle.line_graph.specs.Growing.{are_in_range, steps_with}
 use Rattle.line_graph.proofs.drawing_maker.DrawingMaker.add_line.Goals as goal
 
 pub invariant_of-self-2 : goal.invariant_of-self-2
 invariant_of-self-2 c =
     let points = c.args.points in
     let before = c.self.inside.lines.items in
-    let comes = may_come _ points c.in_ok-steps.steps c.requires.in_range
+    let found : are_in_range points ≡ true = grind (arith, nat_tests) in
+    let some : 1 ≤ length c.self.inside.threads.items = grind (arith, nat_tests) in
+    let in_range = all_in_range points found in
+    let comes = may_come _ points c.in_ok-steps.steps in_range
     (ap (λ (d : DrawingValue). steps_with d points) c.self.view_is
-    ∙ (ap (steps_with c.args.self.now) (sym c.as_slice.ensures) ∙ sym c.in_ok-steps.ensures)) in
-    let Some : ℕ → Type 0 = λ count. 1 ≤ count in
-    let some = subst Some (ap (λ (d : DrawingValue). length d.threads) (sym c.self.view_is)) c.requires.block in
+    ∙ (ap (steps_with c.args.self.now) (sym c.as_slice-2.ensures) ∙ sym c.in_ok-steps.ensures)) in
     let line = rw c.len.ensures.value at c.new.ensures in
     let lines = c.in_ok-push.ensures.items ∙ ap (λ (l : LineValue). before ++ l ∷ []) line in
     rw (lines, c.len-count.ensures) (line_put _ points _ _ _ _ c.self.invariant some comes)

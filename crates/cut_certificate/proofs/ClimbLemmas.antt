@@ -1,0 +1,151 @@
+-- An edge crosses no more of the cuts than two halves for each of its steps.
+use Rattle.std.proofs.Common.{◌≡◌, ℕ, ◌+◌, ◌-◌, ◌*◌, ◌<◌, ◌≤◌, ◌⊎◌, List, [], ◌∷◌, true, arith, inl, inr, refl, ap}
+use Rattle.std.proofs.lemmas.Bool.{cases_lt}
+use Rattle.blossom_match.specs.declared.matching.Moat.{Moat}
+use Rattle.cut_certificate.specs.Cuts.{holds}
+use Rattle.cut_certificate.specs.Levels.{Site, depth, level, widths}
+use Rattle.cut_certificate.proofs.LevelLemmas.{IsBest, best, inner_full, level_by, level_most}
+use Rattle.cut_certificate.proofs.MoatLemmas.{Apart, Disjoint, Fits, IsOf, not_in, parts, reach, related}
+use Rattle.cut_certificate.proofs.OverlapLemmas.{overlap, overlaps, overlaps_fit, part_at}
+
+-- how many halves of the cuts of these moats hold i and not j
+abbrev pub climb : Site → (i j : ℕ) → List Moat → ℕ
+climb g i j [] = 0
+climb g i j (m ∷ rest) = (level g m j - level g m i) + climb g i j rest
+
+-- the costs of two junctions from each place differ by no more than that
+pub record IsLine (g : Site) (i j c : ℕ) : Type 0 where
+  pub forth : (t : ℕ) → t < g.places → g.least t j ≤ g.least t i + c
+  pub back : (t : ℕ) → t < g.places → g.least t i ≤ g.least t j + c
+
+in_overlap : (b w x y from to : ℕ) → to ≤ w → b + to ≤ y → x - b ≤ from → from < to → to - from ≤ overlap b (b + w) x y
+in_overlap b w x y from to h k l m = omega arith
+
+-- one moat's share of the cuts that hold i and not j
+climb_at : (g : Site) (i j t y : ℕ) → IsBest g i t → (m : Moat) → IsOf g.moats m
+    → (level g m i < level g m j → depth g m t + level g m j ≤ y) → level g m j - level g m i ≤ part_at g t (2 * g.least t i) y m
+climb_at g i j t y best m is top = elim (cases_lt (level g m i) (level g m j)) [
+  | inl less ↦
+      let most : level g m j ≤ m.width = level_most g m j in
+      let low : level g m i < m.width = omega arith in
+      rw (best.inside m is low)
+      (in_overlap (depth g m t) m.width (2 * g.least t i) y (level g m i) (level g m j) most (top less) (best.first m is low) less)
+  | inr more ↦ omega arith
+]
+
+climb_fits : (g : Site) (i j t y : ℕ) → IsBest g i t → (ms : List Moat) → ((m : Moat) → IsOf ms m → IsOf g.moats m)
+    → ((m : Moat) → IsOf ms m → level g m i < level g m j → depth g m t + level g m j ≤ y)
+    → climb g i j ms ≤ overlaps g t (2 * g.least t i) y ms
+climb_fits g i j t y b [] f top = omega arith
+climb_fits g i j t y b (m ∷ ms) f top =
+    sums _ _ _ _ (climb_at g i j t y b m (f m (inl refl)) (top m (inl refl)))
+    (climb_fits g i j t y b ms (λ z h. f z (inr h)) (λ z h. top z (inr h)))
+  where
+    sums : (a b c d : ℕ) → a ≤ b → c ≤ d → a + c ≤ b + d
+    sums a b c d h k = omega arith
+
+climb_below : (g : Site) → Fits g → (i j t y : ℕ) → IsBest g i t
+    → ((m : Moat) → IsOf g.moats m → level g m i < level g m j → depth g m t + level g m j ≤ y)
+    → climb g i j g.moats ≤ y - 2 * g.least t i
+climb_below g f i j t y b top =
+    le_by _ _ _ (climb_fits g i j t y b g.moats (λ z h. h) top) (overlaps_fit g t (2 * g.least t i) y g.moats (λ z h. h) f.laminar)
+  where
+    le_by : (a b c : ℕ) → a ≤ b → b ≤ c → a ≤ c
+    le_by a b c h k = omega arith
+
+-- no cut holds i
+no_climb : (g : Site) (i j : ℕ) (ms : List Moat) → ((m : Moat) → IsOf ms m → m.width ≤ level g m i) → climb g i j ms ≡ 0
+no_climb g i j [] f = refl
+no_climb g i j (m ∷ ms) f =
+    let here = f m (inl refl) in
+    let most : level g m j ≤ m.width = level_most g m j in
+    let more = no_climb g i j ms (λ z h. f z (inr h)) in
+    omega arith
+
+under : (b e x : ℕ) → 0 < e → e ≤ x - b → b + e ≤ x
+under b e x h k = omega arith
+
+-- the cuts that hold i and not j have two halves at most for each step
+half : (g : Site) → Fits g → (i j c : ℕ) → i < g.size → ((t : ℕ) → t < g.places → g.least t j ≤ g.least t i + c)
+    → climb g i j g.moats ≤ 2 * c
+half g f i j c in_i forth = elim (best g f i in_i) [
+  | inl none ↦ omega (arith, no_climb g i j g.moats none)
+  | inr p ↦
+      let near = forth p.0 p.1 in
+      let fits = climb_below g f i j p.0 (2 * g.least p.0 j) p.2 (λ m is less. top p.0 p.2 m is less) in
+      omega (arith, fits)
+]
+  where
+    top : (t : ℕ) → IsBest g i t → (m : Moat) → IsOf g.moats m → level g m i < level g m j → depth g m t + level g m j ≤ 2 * g.least t j
+    top t b m is less =
+        let most : level g m j ≤ m.width = level_most g m j in
+        let low : level g m i < m.width = omega arith in
+        under (depth g m t) (level g m j) (2 * g.least t j) (omega arith) (level_by g m j t (b.inside m is low))
+
+some_climb : (g : Site) (i j : ℕ) (ms : List Moat) → 0 < climb g i j ms → (m : Moat) × IsOf ms m × (level g m i < level g m j)
+some_climb g i j [] h = absurd (omega arith)
+some_climb g i j (m ∷ ms) h = elim (cases_lt (level g m i) (level g m j)) [
+  | inl less ↦ (m, inl refl, less)
+  | inr more ↦ let p = some_climb g i j ms (omega arith) in (p.0, inr p.1, p.2)
+]
+
+-- a moat with a cut that holds i and not j, and one the other way, are disjoint
+crossed : (g : Site) (i j : ℕ) (a b : Moat) → IsOf g.moats a → IsOf g.moats b → level g a i < level g a j
+    → level g b j < level g b i → (a ≡ b) ⊎ Apart a b → Disjoint a b
+crossed g i j a b is_a is_b up down (inl same) =
+    absurd (omega (arith, ap (λ (m : Moat). level g m i) same, ap (λ (m : Moat). level g m j) same))
+crossed g i j a b is_a is_b up down (inr (inl d)) = d
+crossed g i j a b is_a is_b up down (inr (inr (inl v))) =
+    let most : level g a j ≤ a.width = level_most g a j in
+    let full : level g b i ≡ 0 = inner_full g a b i is_a v (omega arith) in
+    absurd (omega arith)
+crossed g i j a b is_a is_b up down (inr (inr (inr v))) =
+    let most : level g b i ≤ b.width = level_most g b i in
+    let full : level g a j ≡ 0 = inner_full g b a j is_b v (omega arith) in
+    absurd (omega arith)
+
+-- the cuts that hold i and not j stay below what parts t from u, where some cut holds j and not i
+one_side : (g : Site) → Fits g → (i j t u : ℕ) → IsBest g i t → IsBest g j u → 0 < climb g j i g.moats
+    → climb g i j g.moats ≤ widths (parts t u) g.moats - 2 * g.least t i
+one_side g f i j t u bi bj other = climb_below g f i j t (widths (parts t u) g.moats) bi top
+  where
+    top : (m : Moat) → IsOf g.moats m → level g m i < level g m j → depth g m t + level g m j ≤ widths (parts t u) g.moats
+    top m is less =
+        let p = some_climb g j i g.moats other in
+        let down : level g p.0 j < level g p.0 i = p.2 in
+        let most : level g m j ≤ m.width = level_most g m j in
+        let most_p : level g p.0 i ≤ p.0.width = level_most g p.0 i in
+        let d = crossed g i j m p.0 is p.1 less down (related g.moats m p.0 f.laminar is p.1) in
+        let has_u : holds p.0.members u ≡ true = bj.inside p.0 p.1 (omega arith) in
+        let has_t : holds m.members t ≡ true = bi.inside m is (omega arith) in
+        let r : depth g m t + m.width ≤ widths (parts t u) g.moats
+        = reach g f.laminar m t u is has_t (not_in p.0 m u (λ x y z. d x z y) has_u) in
+        omega arith
+
+both_sides : (g : Site) → Fits g → (i j c : ℕ) → j < g.size → IsLine g i j c → 0 < climb g i j g.moats → 0 < climb g j i g.moats
+    → ((m : Moat) → IsOf g.moats m → m.width ≤ level g m i) ⊎ ((t : ℕ) × (t < g.places) × IsBest g i t)
+    → ((m : Moat) → IsOf g.moats m → m.width ≤ level g m j) ⊎ ((t : ℕ) × (t < g.places) × IsBest g j t)
+    → climb g i j g.moats + climb g j i g.moats ≤ 2 * c
+both_sides g f i j c in_j l up down (inl none) q = absurd (omega (arith, no_climb g i j g.moats none))
+both_sides g f i j c in_j l up down (inr p) (inl none) = absurd (omega (arith, no_climb g j i g.moats none))
+both_sides g f i j c in_j l up down (inr p) (inr q) =
+    let one = one_side g f i j p.0 q.0 p.2 q.2 down in
+    let two = one_side g f j i q.0 p.0 q.2 p.2 up in
+    let bounded = f.bounded p.0 q.0 p.1 q.1 in
+    let joined = f.joined p.0 q.0 j p.1 q.1 in_j in
+    let near = l.forth p.0 p.1 in
+    add _ _ _ _ _ _ _ _ c one two bounded joined near up down
+  where
+    add : (a b v w d x y z c : ℕ) → a ≤ v - 2 * x → b ≤ w - 2 * y → v + w ≤ 2 * d → d ≤ z + y → z ≤ x + c → 0 < a → 0 < b → a + b ≤ 2 * c
+    add a b v w d x y z c h k m n o p q = omega arith
+
+-- the cuts that hold exactly one of i and j have two halves at most for each step
+pub carries : (g : Site) → Fits g → (i j c : ℕ) → i < g.size → j < g.size → IsLine g i j c
+    → climb g i j g.moats + climb g j i g.moats ≤ 2 * c
+carries g f i j c in_i in_j l = elim (cases_lt 0 (climb g i j g.moats)) [
+  | inl up ↦ elim (cases_lt 0 (climb g j i g.moats)) [
+    | inl down ↦ both_sides g f i j c in_j l up down (best g f i in_i) (best g f j in_j)
+    | inr flat ↦ omega (arith, half g f i j c in_i l.forth)
+  ]
+  | inr flat ↦ omega (arith, half g f j i c in_j l.back)
+]

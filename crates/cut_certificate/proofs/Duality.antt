@@ -1,0 +1,207 @@
+-- The bound: each cut is crossed once more than the lines cross it, and the loads bound what is crossed more.
+use Rattle.std.proofs.Common.{◌≡◌, ◌≤◌, ◌<◌, ℕ, zero, suc, ◌+◌, ◌-◌, ◌*◌, ◌%◌, ◌==◌, Bool, true, false, cond, not, ◌&&◌, nat_lt, nat_le, List, [], ◌∷◌, ◌++◌, length, Option, Some, None, All, sum_by, arith, refl, sym, ◌∙◌, ap, subst}
+use Rattle.std.proofs.lemmas.Bool.Decides.{nat_tests}
+use Rattle.std.proofs.lemmas.Bool.{and_parts}
+use Rattle.std.proofs.lemmas.List.Elements.{All-head, All-tail}
+use Rattle.std.proofs.lemmas.List.Sums.{sum_by-cons}
+use native.Mathlib.Nat.{mul-le-mul_left, le-mul_of_pos_right}
+use Rattle.line_graph.specs.declared.edge.Edge.{Edge}
+use Rattle.line_graph.specs.declared.pass.Pass.{Pass}
+use Rattle.line_graph.specs.KeptPieces.{KeepsPiece, ends_below, is_below}
+use Rattle.line_graph.specs.PieceGraphs.{PieceValue, bit, closed_edges, closing, degrees_from, odd_junctions, or_else}
+use Rattle.line_graph.specs.PieceWalks.{are_one, cost_of, covers, edge_sum, first_start, fits, leads, pass_sum, piece_cost, rises, walk_cost, walk_on}
+use Rattle.cut_certificate.specs.declared.cut.Cut.{Cut}
+use Rattle.cut_certificate.specs.Bounds.{BoundsWalks, ProvesLeast}
+use Rattle.cut_certificate.specs.Cuts.{crosses, holds, load_on, total_of}
+use Rattle.cut_certificate.specs.Packings.{IsOddCut, IsPacking, odd_held}
+use Rattle.cut_certificate.proofs.Crossing.{crossing, inside, walk_even}
+use Rattle.cut_certificate.proofs.Degrees.{odd_counted, odd_crossing, odd_in}
+use Rattle.cut_certificate.proofs.Sums.{exchange, more, often, once_and_more, weigh}
+
+-- what the first of the cuts adds
+load_cons : (c : Cut) (cs : List Cut) (e : Edge) → load_on (c ∷ cs) e ≡ cond (crosses c.members e) c.weight 0 + load_on cs e
+load_cons c cs e = sum_by-cons (λ (cut : Cut). cond (crosses cut.members e) cut.weight 0) c cs
+
+total_cons : (c : Cut) (cs : List Cut) → total_of (c ∷ cs) ≡ c.weight + total_of cs
+total_cons c cs = sum_by-cons (λ (cut : Cut). cut.weight) c cs
+
+no_load : (ns : List ℕ) (es : List Edge) (y : ℕ → ℕ) → weigh ns es y (load_on []) ≡ 0
+no_load [] es y = refl
+no_load (n ∷ ns) [] y = refl
+no_load (n ∷ ns) (e ∷ es) y = rw (no_load ns es y) (nothing (y n))
+  where
+    nothing : (k : ℕ) → k * 0 + 0 ≡ 0
+    nothing k = omega arith
+
+load_step : (ns : List ℕ) (es : List Edge) (y : ℕ → ℕ) (c : Cut) (cs : List Cut)
+    → weigh ns es y (load_on (c ∷ cs)) ≡ c.weight * weigh ns es y (crossing (holds c.members)) + weigh ns es y (load_on cs)
+load_step [] es y c cs = none c.weight
+  where
+    none : (w : ℕ) → 0 ≡ w * 0 + 0
+    none w = omega arith
+load_step (n ∷ ns) [] y c cs = none c.weight
+  where
+    none : (w : ℕ) → 0 ≡ w * 0 + 0
+    none w = omega arith
+load_step (n ∷ ns) (e ∷ es) y c cs =
+    rw (load_step ns es y c cs, load_cons c cs e) (regroup (crosses c.members e) (y n) c.weight (load_on cs e) (weigh ns es y (crossing (holds c.members))) (weigh ns es y (load_on cs)))
+  where
+    regroup : (t : Bool) (k w l u v : ℕ) → k * (cond t w 0 + l) + (w * u + v) ≡ w * (k * bit t + u) + (k * l + v)
+    regroup true k w l u v = omega arith
+    regroup false k w l u v = omega arith
+
+-- where each cut is crossed, the total is at most the load that is crossed
+pub total_loads : (ns : List ℕ) (es : List Edge) (y : ℕ → ℕ) (p : PieceValue) (cuts : List Cut) → All (IsOddCut p) cuts
+    → ((c : Cut) → IsOddCut p c → 1 ≤ weigh ns es y (crossing (holds c.members)))
+    → total_of cuts ≤ weigh ns es y (load_on cuts)
+total_loads ns es y p [] odd each = omega arith
+total_loads ns es y p (c ∷ cs) odd each =
+    rw (load_step ns es y c cs, total_cons c cs) (added c.weight (weigh ns es y (crossing (holds c.members))) (total_of cs) (weigh ns es y (load_on cs))
+    (each c (All-head (IsOddCut p) c cs odd)) (total_loads ns es y p cs (All-tail (IsOddCut p) c cs odd) each))
+  where
+    added : (w u t v : ℕ) → 1 ≤ u → t ≤ v → w + t ≤ w * u + v
+    added w u t v least rest =
+        let more : w ≤ w * u = le-mul_of_pos_right w least in
+        omega arith
+
+-- no line carries more than two halves for each of its steps
+abbrev Fits : List Cut → Edge → Type 0
+Fits cuts e = load_on cuts e ≤ 2 * e.cost
+
+-- where each line carries at most twice its cost
+pub loads_cost : (ns : List ℕ) (es : List Edge) (y : ℕ → ℕ) (cuts : List Cut) → All (λ (e : Edge). load_on cuts e ≤ 2 * e.cost) es
+    → weigh ns es y (load_on cuts) ≤ 2 * weigh ns es y cost_of
+loads_cost [] es y cuts fits = omega arith
+loads_cost (n ∷ ns) [] y cuts fits = omega arith
+loads_cost (n ∷ ns) (e ∷ es) y cuts fits =
+    added (y n) (load_on cuts e) e.cost (weigh ns es y (load_on cuts)) (weigh ns es y cost_of)
+    (All-head (Fits cuts) e es fits) (loads_cost ns es y cuts (All-tail (Fits cuts) e es fits))
+  where
+    added : (k l c u v : ℕ) → l ≤ 2 * c → u ≤ 2 * v → k * l + u ≤ 2 * (k * c + v)
+    added k l c u v first rest =
+        let times : k * l ≤ k * (2 * c) = mul-le-mul_left k first in
+        let turned : k * (2 * c) ≡ 2 * (k * c) = omega arith in
+        omega arith
+
+-- where a fitting walk leads, and that the line back crosses a set as its two ends do
+record Led (ns : List ℕ) (es : List Edge) (walk : List Pass) (back : List Edge) : Type 0 where
+  at : ℕ
+  to : ℕ
+  goes : walk_on ns es (Some at) walk ≡ Some to
+  even : (s : ℕ → Bool) → ((edge_sum (crossing s) back + inside s at) + inside s to) % 2 ≡ 0
+
+same_place : (x : Option ℕ) (b : ℕ) → are_one x (Some b) ≡ true → x ≡ Some b
+same_place None b is = absurd (cc)
+same_place (Some a) b is = ap (λ (n : ℕ). Some n) (same a b is)
+  where
+    same : (m n : ℕ) → (m == n) ≡ true → m ≡ n
+    same m n is = grind (arith, nat_tests)
+
+nowhere : (x : Option ℕ) → are_one x None ≡ true → ⊥
+nowhere None is = cc
+nowhere (Some a) is = cc
+
+line_back : (s : ℕ → Bool) (a b : ℕ) → ((edge_sum (crossing s) (closing (Some a) (Some b)) + inside s a) + inside s b) % 2 ≡ 0
+line_back s a b = by_tests (s a) (s b)
+  where
+    by_tests : (x y : Bool) → (((bit (cond y (not x) x) + 0) + bit x) + bit y) % 2 ≡ 0
+    by_tests true true = refl
+    by_tests true false = refl
+    by_tests false true = refl
+    by_tests false false = refl
+
+no_line : (k : ℕ) → ((0 + k) + k) % 2 ≡ 0
+no_line k = omega arith
+
+led_between : (ns : List ℕ) (es : List Edge) (walk : List Pass) (a b : ℕ) → are_one (walk_on ns es (Some a) walk) (Some b) ≡ true
+    → Led ns es walk (closing (Some a) (Some b))
+led_between ns es walk a b is = record {
+  at = a;
+  to = b;
+  goes = same_place (walk_on ns es (Some a) walk) b is;
+  even = λ s. line_back s a b;
+}
+
+led : (ns : List ℕ) (es : List Edge) (walk : List Pass) (start end first : Option ℕ)
+    → are_one (walk_on ns es (or_else (or_else start end) first) walk) (or_else (or_else end start) first) ≡ true
+    → Led ns es walk (closing (or_else start end) (or_else end start))
+led ns es walk (Some a) (Some b) first is = led_between ns es walk a b is
+led ns es walk (Some a) None first is = led_between ns es walk a a is
+led ns es walk None (Some b) first is = led_between ns es walk b b is
+led ns es walk None None None is = absurd (nowhere (walk_on ns es None walk) is)
+led ns es walk None None (Some a) is = record {
+  at = a;
+  to = a;
+  goes = same_place (walk_on ns es (Some a) walk) a is;
+  even = λ s. no_line (inside s a);
+}
+
+sum_append : (f : Edge → ℕ) (xs ys : List Edge) → edge_sum f (xs ++ ys) ≡ edge_sum f xs + edge_sum f ys
+sum_append f [] ys = none (edge_sum f ys)
+  where
+    none : (k : ℕ) → k ≡ 0 + k
+    none k = omega arith
+sum_append f (x ∷ xs) ys = rw (sum_append f xs ys) (regroup (f x) (edge_sum f xs) (edge_sum f ys))
+  where
+    regroup : (x u v : ℕ) → x + (u + v) ≡ (x + u) + v
+    regroup x u v = omega arith
+
+ends_of_back : (n : ℕ) (from to : Option ℕ) (es : List Edge) → is_below n from ≡ true → is_below n to ≡ true
+    → ends_below n es ≡ true → ends_below n (closing from to ++ es) ≡ true
+ends_of_back n None to es f t within = within
+ends_of_back n (Some a) None es f t within = within
+ends_of_back n (Some a) (Some b) es f t within = rw (f, t, within) refl
+
+or_below : (n : ℕ) (x y : Option ℕ) → is_below n x ≡ true → is_below n y ≡ true → is_below n (or_else x y) ≡ true
+or_below n (Some a) y f t = f
+or_below n None y f t = t
+
+-- both ends of each edge of a piece, and of the line back, are junctions
+pub closed_ends : (p : PieceValue) → KeepsPiece p → ends_below (length p.junctions) (closed_edges p) ≡ true
+closed_ends p kept =
+    ends_of_back (length p.junctions) (or_else p.start p.end) (or_else p.end p.start) p.edges
+    (or_below _ p.start p.end kept.start_below kept.end_below) (or_below _ p.end p.start kept.end_below kept.start_below) kept.ends
+
+-- the odd junctions that a set holds, and the lines that cross it, the line back among them
+pub held_crossing : (p : PieceValue) → KeepsPiece p → (members : List ℕ)
+    → odd_held p members % 2 ≡ edge_sum (crossing (holds members)) (closed_edges p) % 2
+held_crossing p kept members =
+    ap (λ (k : ℕ). k % 2) (odd_counted (holds members) (closed_edges p) 0 (length p.junctions))
+    ∙ odd_crossing (holds members) (closed_edges p) (length p.junctions) (closed_ends p kept)
+
+-- a fitting walk crosses an odd cut once more than the lines do
+crossed_more : (p : PieceValue) (walk : List Pass) → KeepsPiece p → covers p.lines walk ≡ true
+    → Led p.lines p.edges walk (closing (or_else p.start p.end) (or_else p.end p.start))
+    → (c : Cut) → IsOddCut p c → 1 ≤ weigh p.lines p.edges (more walk) (crossing (holds c.members))
+crossed_more p walk kept all led c odd =
+    let s = holds c.members in
+    left (pass_sum p.lines p.edges (crossing s) walk) (edge_sum (crossing s) p.edges) (weigh p.lines p.edges (more walk) (crossing s))
+    (edge_sum (crossing s) (closing (or_else p.start p.end) (or_else p.end p.start))) (inside s led.at) (inside s led.to)
+    (exchange p.lines p.edges (crossing s) walk kept.rising ∙ once_and_more p.lines p.edges (crossing s) walk kept.beside all)
+    (walk_even p.lines p.edges s walk led.at led.to led.goes)
+    (led.even s)
+    (ap (λ (k : ℕ). k % 2) (sym (sum_append (crossing s) (closing (or_else p.start p.end) (or_else p.end p.start)) p.edges))
+    ∙ sym (held_crossing p kept c.members) ∙ odd.odd)
+  where
+    left : (w b m k i t : ℕ) → w ≡ b + m → ((w + i) + t) % 2 ≡ 0 → ((k + i) + t) % 2 ≡ 0 → (k + b) % 2 ≡ 1 → 1 ≤ m
+    left w b m k i t is walked back odd = omega arith
+
+pub bounds_walks : BoundsWalks
+bounds_walks p cuts walk kept packing fit =
+    let parts = and_parts (leads p walk) (covers p.lines walk) fit in
+    let there = led p.lines p.edges walk p.start p.end (first_start p.lines p.edges walk) parts.0 in
+    let cost : walk_cost p walk ≡ piece_cost p + weigh p.lines p.edges (more walk) cost_of
+    = exchange p.lines p.edges cost_of walk kept.rising ∙ once_and_more p.lines p.edges cost_of walk kept.beside parts.1 in
+    let most = total_loads p.lines p.edges (more walk) p cuts packing.odd (crossed_more p walk kept parts.1 there) in
+    let most_cost = loads_cost p.lines p.edges (more walk) cuts packing.loads in
+    added (total_of cuts) (walk_cost p walk) (piece_cost p) (weigh p.lines p.edges (more walk) cost_of) (weigh p.lines p.edges (more walk) (load_on cuts)) cost most most_cost
+  where
+    added : (t w c m l : ℕ) → w ≡ c + m → t ≤ l → l ≤ 2 * m → t + 2 * c ≤ 2 * w
+    added t w c m l is most fits = omega arith
+
+pub proves_least : ProvesLeast
+proves_least p cuts walk kept packing full other fit =
+    half (total_of cuts) (walk_cost p walk) (walk_cost p other) (piece_cost p) full (bounds_walks p cuts other kept packing fit)
+  where
+    half : (t w v c : ℕ) → t + 2 * c ≡ 2 * w → t + 2 * c ≤ 2 * v → w ≤ v
+    half t w v c full most = omega arith

@@ -1,0 +1,179 @@
+-- Rows of a piece and moats over its odd junctions make a site on which the cuts of the moats are a packing.
+use Rattle.std.proofs.Common.{◌≡◌, ℕ, zero, suc, ◌+◌, ◌*◌, ◌%◌, ◌<◌, ◌≤◌, List, [], ◌∷◌, length, Vec, Global, All, Bool, drop, true, false, not, ◌&&◌, get_or, nat_lt, Some, slice_get, arith, refl, sym, ◌∙◌, ap, subst}
+use Rattle.std.proofs.lemmas.Bool.{and_parts, ltb-true}
+use Rattle.std.proofs.lemmas.List.Elements.{All-weaker}
+use Rattle.std.proofs.lemmas.List.Recursion.{is_sum_by}
+use Rattle.std.proofs.lemmas.Option.{slice_get-get_or, slice_get_read}
+use Rattle.std.specs.Prelude.{if◌then◌else◌}
+use Rattle.std.specs.List.{count_by}
+use Rattle.blossom_match.specs.declared.matching.Moat.{Moat}
+use Rattle.blossom_match.specs.Matchings.{IsOddMoat, crosses as parts_places, load_on as moats_between}
+use Rattle.line_graph.specs.declared.edge.Edge.{Edge}
+use Rattle.line_graph.specs.declared.limits.TheConstants.{MAX_LINES}
+use Rattle.line_graph.specs.KeptPieces.{KeepsPiece, ends_below}
+use Rattle.line_graph.specs.PieceGraphs.{PieceValue}
+use Rattle.odd_paths.specs.CostLaws.{AreDistances}
+use Rattle.odd_paths.specs.LeastRows.{RowsValue, cost_at, length_in, terminal_of}
+use Rattle.cut_certificate.specs.declared.cut.Cut.{Cut}
+use Rattle.cut_certificate.specs.Cuts.{holds, load_on}
+use Rattle.cut_certificate.specs.Levels.{Site, site_of, widths}
+use Rattle.cut_certificate.specs.Lifts.{AreMoats, IsLifted}
+use Rattle.cut_certificate.specs.MoatCuts.{AddsCuts, AreCutsTo}
+use Rattle.cut_certificate.specs.Packings.{IsOddCut, IsPlainCut}
+use Rattle.cut_certificate.specs.Reaches.{AreAllReaches, CanReach, IsReach}
+use Rattle.cut_certificate.proofs.ClimbLemmas.{IsLine, carries}
+use Rattle.cut_certificate.proofs.HeldLemmas.{as_many}
+use Rattle.cut_certificate.proofs.LaminarLemmas.{below, differ, held_below, laminar, of_all}
+use Rattle.cut_certificate.proofs.LiftLemmas.{AreCutsOf, AreLifted, IsMade, all_lifted, as_moat}
+use Rattle.cut_certificate.proofs.MoatLemmas.{Fits, parts}
+
+-- the site of a piece
+abbrev pub piece_site : PieceValue → RowsValue → List Moat → Site
+piece_site p rows moats = site_of rows (length p.junctions) moats
+
+two_parts : (a b : Bool) (w x y z : ℕ) → x + y ≡ z
+    → ((if a && not b then w else 0) + x) + ((if b && not a then w else 0) + y) ≡ (if (if a then not b else b) then w else 0) + z
+two_parts true true w x y z h = omega arith
+two_parts true false w x y z h = omega arith
+two_parts false true w x y z h = omega arith
+two_parts false false w x y z h = omega arith
+
+both_parts : (t u : ℕ) (ms : List Moat) → widths (parts t u) ms + widths (parts u t) ms ≡ widths (parts_places t u) ms
+both_parts t u [] = refl
+both_parts t u (m ∷ ms) = two_parts (holds m.members t) (holds m.members u) m.width _ _ _ (both_parts t u ms)
+
+-- the widths between two places, from both sides
+between_is : (t u : ℕ) (ms : List Moat) → widths (parts t u) ms + widths (parts u t) ms ≡ moats_between ms t u
+between_is t u ms =
+    both_parts t u ms
+    ∙ is_sum_by (widths (parts_places t u)) (λ (m : Moat). if parts_places t u m then m.width else 0) refl (λ x xs. refl) ms
+
+terminal_below : (p : PieceValue) (rows : RowsValue) (moats : List Moat) → AreMoats p rows moats → (u : ℕ) → u < length rows.terminals
+    → terminal_of rows u < length p.junctions
+terminal_below p rows moats are u lt = are.rows_are.terminals.there u 0 lt
+
+-- such moats fit
+pub fits : (p : PieceValue) (rows : RowsValue) (moats : List Moat) → AreDistances p → AreMoats p rows moats → Fits (piece_site p rows moats)
+fits p rows moats law are = record {
+  laminar = laminar (length rows.terminals) moats are.odd are.laminar;
+  placed = λ m is t h. held_below (length rows.terminals) t m.members
+      (below (length rows.terminals) m.members (of_all (IsOddMoat (length rows.terminals)) moats m are.odd is).below) h;
+  bounded = λ t u in_t in_u. omega (arith, between_is t u moats, are.loads t u in_t in_u);
+  home = λ t lt. law.home (terminal_of rows t) (cost_at rows t (terminal_of rows t))
+      (are.rows_are.least t (terminal_of rows t) lt (terminal_below p rows moats are t lt));
+  joined = λ t u j in_t in_u in_j. law.meeting (terminal_of rows t) j (terminal_of rows u) _ _ _
+      (are.rows_are.least t (terminal_of rows u) in_t (terminal_below p rows moats are u in_u))
+      (are.rows_are.least t j in_t in_j) (are.rows_are.least u j in_u in_j);
+}
+
+ends_at : (n : ℕ) (es : List Edge) (k : ℕ) (d : Edge) → ends_below n es ≡ true → k < length es
+    → ((get_or es k d).a < n) × ((get_or es k d).b < n)
+ends_at n [] k d ends lt = absurd (omega arith)
+ends_at n (e ∷ es) zero d ends lt =
+    let both = and_parts (nat_lt e.a n) (nat_lt e.b n) (and_parts (nat_lt e.a n && nat_lt e.b n) (ends_below n es) ends).0 in
+    (ltb-true e.a n both.0, ltb-true e.b n both.1)
+ends_at n (e ∷ es) (suc k) d ends lt =
+    ends_at n es k d (and_parts (nat_lt e.a n && nat_lt e.b n) (ends_below n es) ends).1 (omega arith)
+
+line : (p : PieceValue) (rows : RowsValue) (moats : List Moat) → AreDistances p → AreMoats p rows moats → (k : ℕ) (e : Edge)
+    → slice_get p.edges k ≡ Some e → e.a < length p.junctions → e.b < length p.junctions → IsLine (piece_site p rows moats) e.a e.b e.cost
+line p rows moats law are k e at in_a in_b = record {
+  forth = λ t lt. (law.along (terminal_of rows t) k (cost_at rows t e.a) (cost_at rows t e.b) e at
+      (are.rows_are.least t e.a lt in_a) (are.rows_are.least t e.b lt in_b)).0;
+  back = λ t lt. (law.along (terminal_of rows t) k (cost_at rows t e.a) (cost_at rows t e.b) e at
+      (are.rows_are.least t e.a lt in_a) (are.rows_are.least t e.b lt in_b)).1;
+}
+
+-- the edge carries no more than two halves for each of its steps
+abbrev Carries : List Cut → Edge → Type 0
+Carries cuts e = load_on cuts e ≤ 2 * e.cost
+
+loads : (p : PieceValue) (rows : RowsValue) (moats : List Moat) (cuts : List Cut) → KeepsPiece p → AreDistances p → AreMoats p rows moats
+    → AreLifted (piece_site p rows moats) [] cuts → All (Carries cuts) p.edges
+loads p rows moats cuts kept law are l k d lt = carried (get_or p.edges k d) (slice_get-get_or p.edges k d lt)
+    (ends_at (length p.junctions) p.edges k d kept.ends lt)
+  where
+    carried : (e : Edge) → slice_get p.edges k ≡ Some e → (e.a < length p.junctions) × (e.b < length p.junctions) → Carries cuts e
+    carried e at ends =
+        let most = carries (piece_site p rows moats) (fits p rows moats law are) e.a e.b e.cost ends.0 ends.1
+        (line p rows moats law are k e at ends.0 ends.1) in
+        omega (arith, l.loads e ends.0 ends.1, most)
+
+odd_cut : (p : PieceValue) (rows : RowsValue) (moats : List Moat) → AreDistances p → AreMoats p rows moats → (c : Cut)
+    → IsMade (piece_site p rows moats) c → IsOddCut p c
+odd_cut p rows moats law are c made =
+    let moat = of_all (IsOddMoat (length rows.terminals)) moats made.moat are.odd made.is in
+    let many : count_by (holds c.members) rows.terminals ≡ length made.moat.members
+    = as_many c.members made.moat.members rows.terminals
+    (λ u lt. as_moat (piece_site p rows moats) (fits p rows moats law are) c made u lt (terminal_below p rows moats are u lt))
+    (differ made.moat.members moat.different) (below (length rows.terminals) made.moat.members moat.below) in
+    record {
+      there = made.there;
+      odd = ap (λ (ts : List ℕ). count_by (holds c.members) ts % 2) (sym are.terminals) ∙ ap (λ (k : ℕ). k % 2) many ∙ moat.odd;
+    }
+
+-- the cuts of all moats are what lifting is to bring out
+lifted : (p : PieceValue) (rows : RowsValue) (moats : List Moat) (cuts : List Cut) → KeepsPiece p → AreDistances p → AreMoats p rows moats
+    → AreLifted (piece_site p rows moats) [] cuts → IsLifted p moats cuts
+lifted p rows moats cuts kept law are l = record {
+  packing = record {
+    odd = All-weaker (IsMade (piece_site p rows moats)) (IsOddCut p) (λ c made. odd_cut p rows moats law are c made) cuts l.each;
+    loads = loads p rows moats cuts kept law are l;
+  };
+  total = omega (arith, l.total);
+  plain = All-weaker (IsMade (piece_site p rows moats)) IsPlainCut (λ c made. record { heavy = made.heavy; rising = made.rising }) cuts
+      l.each;
+}
+
+reaching : (p : PieceValue) (rows : RowsValue) (moats : List Moat) → KeepsPiece p → AreMoats p rows moats
+    → CanReach rows (length p.junctions) moats
+reaching p rows moats kept are = record {
+  rows_sized = are.rows_are.sized;
+  wide = λ t lt. ap length_in (slice_get-get_or rows.table t [] (omega (arith, are.rows_are.sized)))
+      ∙ are.rows_are.wide t [] (omega (arith, are.rows_are.sized));
+  low = λ t j in_t in_j. omega (arith, are.rows_are.most t j in_t in_j, kept.cost_few);
+  odd = are.odd;
+  laminar = are.laminar;
+}
+
+-- reaches can be made
+pub can_reach : (p : PieceValue) (rows : RowsValue) (moats seen : List Moat) (size : ℕ) → KeepsPiece p → AreMoats p rows moats
+    → seen ≡ moats
+    → size ≡ length p.junctions → CanReach rows size seen
+can_reach p rows moats seen size kept are same sized =
+    subst (λ (n : ℕ). CanReach rows n seen) (sym sized)
+    (subst (λ (ms : List Moat). CanReach rows (length p.junctions) ms) (sym same) (reaching p rows moats kept are))
+
+-- the reach at an index, as the code reads it
+pub reach_at : (p : PieceValue) (rows : RowsValue) (moats : List Moat) (size index : ℕ) (s : Moat) (reaches : List (Vec ℕ Global))
+    (v : Vec ℕ Global)
+    (read : List ℕ) → size ≡ length p.junctions → AreAllReaches (site_of rows size moats) reaches → index < length moats → s ≡ get_or
+    moats index s
+    → v ≡ get_or reaches index v → read ≡ v.items → IsReach (piece_site p rows moats) s read
+reach_at p rows moats size index s reaches v read sized all lt at is same =
+    subst (λ (n : ℕ). IsReach (site_of rows n moats) s read) sized
+    (subst (IsReach (site_of rows size moats) s) (sym same)
+    (all.1 index s v (slice_get_read moats (length moats) index s refl lt at)
+    (slice_get_read reaches (length reaches) index v refl (omega (arith, all.0)) is)))
+
+-- it has no more numbers than a piece has junctions
+pub reach_few : (p : PieceValue) (rows : RowsValue) (moats : List Moat) (s : Moat) (read : List ℕ) → KeepsPiece p
+    → IsReach (piece_site p rows moats) s read → length read ≤ MAX_LINES + 1
+reach_few p rows moats s read kept is = omega (arith, is.sized, kept.junctions_few, kept.few)
+
+-- and makes the cuts of its moat
+pub cuts_of : (g : Site) (s : Moat) (read : List ℕ) (width : ℕ) (old new : List Cut) → IsReach g s read → width ≡ s.width
+    → AddsCuts (AreCutsTo read width) old new → AddsCuts (AreCutsOf g s) old new
+cuts_of g s read width old new is wide adds = record {
+  more = adds.more;
+  kind = record { reach = read; is = is; cuts_are = subst (λ (w : ℕ). AreCutsTo read w adds.more) wide adds.kind };
+  is = adds.is;
+}
+
+-- behind the last moat
+pub lifted_by : (p : PieceValue) (rows : RowsValue) (moats seen : List Moat) (i : ℕ) (cuts : List Cut) → seen ≡ moats → KeepsPiece p
+    → AreDistances p → AreMoats p rows moats → length seen ≤ i → AreLifted (piece_site p rows seen) (drop i seen) cuts
+    → IsLifted p moats cuts
+lifted_by p rows moats seen i cuts same kept law are le l =
+    lifted p rows moats cuts kept law are
+    (subst (λ (ms : List Moat). AreLifted (piece_site p rows ms) [] cuts) same (all_lifted (piece_site p rows seen) i cuts le l))

@@ -1,0 +1,74 @@
+-- Moats as they are told, and as inductions want them: no number named twice, all below a limit, any two apart.
+use Rattle.std.proofs.Common.{◌≡◌, ◌≢◌, ℕ, suc, ◌<◌, ◌⊎◌, List, [], ◌∷◌, All, AllPairs, Bool, true, false, arith, inl, inr, refl, sym, subst}
+use Rattle.std.proofs.lemmas.Bool.{both_ways, eqb-true, ne_eqb, or_cases}
+use Rattle.std.proofs.lemmas.List.Elements.{All-head, All-tail, All-weaker}
+use Rattle.std.proofs.lemmas.List.Folds.{list_any_none}
+use Rattle.std.specs.Prelude.{◌==◌}
+use Rattle.blossom_match.specs.declared.matching.Moat.{Moat}
+use Rattle.blossom_match.specs.Matchings.{AreLaminar, IsOddMoat, LiesBeside, LiesIn}
+use Rattle.cut_certificate.specs.Cuts.{holds}
+use Rattle.cut_certificate.proofs.HeldLemmas.{Below, Differ, apart}
+use Rattle.cut_certificate.proofs.MoatLemmas.{Apart, ApartFromAll, IsOf, Laminar}
+
+not_held : (x : ℕ) (xs : List ℕ) → All (λ y. x ≢ y) xs → holds xs x ≡ false
+not_held x xs all =
+    list_any_none (λ y. x == y) xs (All-weaker (λ y. x ≢ y) (λ y. (x == y) ≡ false) (λ y other. ne_eqb x y other) xs all)
+
+pub differ : (xs : List ℕ) → AllPairs (λ x y. x ≢ y) xs → Differ xs
+differ [] pairs = tt
+differ (x ∷ xs) pairs = (
+  not_held x xs (λ k d lt. pairs 0 (suc k) d (omega arith) (omega arith)),
+  differ xs (λ i j d lt in_xs. pairs (suc i) (suc j) d (omega arith) (omega arith)),
+)
+
+pub below : (n : ℕ) (xs : List ℕ) → All (λ x. x < n) xs → Below n xs
+below n [] all = tt
+below n (x ∷ xs) all = (All-head (λ x. x < n) x xs all, below n xs (All-tail (λ x. x < n) x xs all))
+
+pub held_below : (n t : ℕ) (xs : List ℕ) → Below n xs → holds xs t ≡ true → t < n
+held_below n t [] all h = absurd (both_ways false refl h)
+held_below n t (x ∷ xs) all h = elim (or_cases (t == x) (holds xs t) h) [
+  | inl same ↦ omega (arith, all.0, eqb-true t x same)
+  | inr there ↦ held_below n t xs all.1 there
+]
+
+-- what is so of each moat is so of one of them
+pub of_all : (P : Moat → Type 0) (ms : List Moat) (m : Moat) → All P ms → IsOf ms m → P m
+of_all P [] m all is = absurd is
+of_all P (x ∷ xs) m all (inl same) = subst P (sym same) (All-head P x xs all)
+of_all P (x ∷ xs) m all (inr is) = of_all P xs m (All-tail P x xs all) is
+
+same_test : (a b : Bool) → (a ≡ true → b ≡ true) → (b ≡ true → a ≡ true) → a ≡ b
+same_test true true f h = refl
+same_test true false f h = sym (f refl)
+same_test false true f h = h refl
+same_test false false f h = refl
+
+pub apart_two : (n : ℕ) (a b : Moat) → IsOddMoat n a → IsOddMoat n b → AreLaminar a b → Apart a b
+apart_two n a b odd_a odd_b l =
+    apart a b (differ a.members odd_a.different) (differ b.members odd_b.different)
+    (λ one other. l.differ.1 (same_test (holds a.members l.differ.0) (holds b.members l.differ.0) (one l.differ.0) (other l.differ.0)))
+    (lie l.lie)
+  where
+    lie : LiesIn a b ⊎ (LiesIn b a ⊎ LiesBeside a b)
+        → ((t : ℕ) → holds a.members t ≡ true → holds b.members t ≡ true → ⊥)
+        ⊎ (((t : ℕ) → holds a.members t ≡ true → holds b.members t ≡ true)
+        ⊎ ((t : ℕ) → holds b.members t ≡ true → holds a.members t ≡ true))
+    lie (inl inner) = inr (inl inner)
+    lie (inr (inl outer)) = inr (inr outer)
+    lie (inr (inr beside)) = inl (λ t in_a in_b. both_ways (holds b.members t) (beside t in_a) in_b)
+
+apart_all : (n : ℕ) (m : Moat) (ms : List Moat) → IsOddMoat n m → All (IsOddMoat n) ms → All (AreLaminar m) ms → ApartFromAll m ms
+apart_all n m [] odd all l = tt
+apart_all n m (x ∷ xs) odd all l = (
+  apart_two n m x odd (All-head (IsOddMoat n) x xs all) (All-head (AreLaminar m) x xs l),
+  apart_all n m xs odd (All-tail (IsOddMoat n) x xs all) (All-tail (AreLaminar m) x xs l),
+)
+
+pub laminar : (n : ℕ) (ms : List Moat) → All (IsOddMoat n) ms → AllPairs AreLaminar ms → Laminar ms
+laminar n [] all pairs = tt
+laminar n (m ∷ ms) all pairs = (
+  apart_all n m ms (All-head (IsOddMoat n) m ms all) (All-tail (IsOddMoat n) m ms all)
+      (λ k d lt. pairs 0 (suc k) d (omega arith) (omega arith)),
+  laminar n ms (All-tail (IsOddMoat n) m ms all) (λ i j d lt in_ms. pairs (suc i) (suc j) d (omega arith) (omega arith)),
+)

@@ -1,0 +1,156 @@
+-- The cuts of one moat, level by level at which a junction enters.
+use Rattle.std.proofs.Common.{◌≡◌, ℕ, zero, suc, ◌+◌, ◌-◌, ◌<◌, ◌≤◌, ◌⊎◌, min, List, [], ◌∷◌, ◌++◌, length, All, Bool, true, false, not, ◌==◌, nat_le, nat_lt, append_assoc, arith, inl, inr, refl, sym, ◌∙◌, ap, subst}
+use Rattle.std.proofs.lemmas.Bool.{and_from, eq-eqb, le-leb, lt-leb, lt-ltb, ne_eqb}
+use Rattle.std.proofs.lemmas.List.Elements.{All-cons, All-nil, All-push, All-weaker}
+use Rattle.std.proofs.lemmas.List.Sums.{sum_by_push}
+use Rattle.std.specs.Prelude.{if◌then◌else◌, slice_index}
+use Rattle.line_graph.specs.declared.edge.Edge.{Edge}
+use Rattle.line_graph.specs.PieceWalks.{above, rises}
+use Rattle.cut_certificate.specs.declared.cut.Cut.{Cut}
+use Rattle.cut_certificate.specs.Cuts.{crosses, holds, load_on}
+use Rattle.cut_certificate.specs.MoatCuts.{AddsCuts, AreCutsTo, IsLevelCut, between, members_from}
+
+none_before : (k h j : ℕ) (es : List ℕ) → j < k → holds (members_from k h es) j ≡ false
+none_before k h j [] lt = refl
+none_before k h j (e ∷ es) lt = go (nat_le e h) (none_before (k + 1) h j es (omega arith))
+  where
+    go : (b : Bool) → holds (members_from (k + 1) h es) j ≡ false
+        → holds (if b then k ∷ members_from (k + 1) h es else members_from (k + 1) h es) j ≡ false
+    go false rest = rest
+    go true rest = let other : (j == k) ≡ false = ne_eqb j k (λ same. omega arith) in rw (other, rest) refl
+
+holds_at : (k h i : ℕ) (es : List ℕ) → i < length es → holds (members_from k h es) (k + i) ≡ nat_le (slice_index es i) h
+holds_at k h i [] lt = absurd (omega arith)
+holds_at k h zero (e ∷ es) lt = go (nat_le e h) refl
+  where
+    here : ((k + 0) == k) ≡ true
+    here = eq-eqb (k + 0) k (omega arith)
+
+    none : holds (members_from (k + 1) h es) (k + 0) ≡ false
+    none = none_before (k + 1) h (k + 0) es (omega arith)
+
+    go : (b : Bool) → nat_le e h ≡ b
+        → holds (if b then k ∷ members_from (k + 1) h es else members_from (k + 1) h es) (k + 0) ≡ nat_le e h
+    go true is = rw here (sym is)
+    go false is = none ∙ sym is
+holds_at k h (suc i) (e ∷ es) lt =
+    go (nat_le e h)
+    (subst (λ (x : ℕ). holds (members_from (k + 1) h es) x ≡ nat_le (slice_index es i) h) (omega arith)
+    (holds_at (k + 1) h i es (omega arith)))
+  where
+    other : ((k + suc i) == k) ≡ false
+    other = ne_eqb (k + suc i) k (λ same. omega arith)
+
+    go : (b : Bool) → holds (members_from (k + 1) h es) (k + suc i) ≡ nat_le (slice_index es i) h
+        → holds (if b then k ∷ members_from (k + 1) h es else members_from (k + 1) h es) (k + suc i) ≡ nat_le (slice_index es i) h
+    go true rest = rw (other, rest) refl
+    go false rest = rest
+
+-- a junction is a member exactly where its level is no more than the limit
+pub member_at : (h i : ℕ) (es : List ℕ) → i < length es → holds (members_from 0 h es) i ≡ nat_le (slice_index es i) h
+member_at h i es lt =
+    subst (λ (x : ℕ). holds (members_from 0 h es) x ≡ nat_le (slice_index es i) h) (omega arith) (holds_at 0 h i es lt)
+
+above_all : (low k h : ℕ) (es : List ℕ) → low < k → above low (members_from k h es) ≡ true
+above_all low k h [] lt = refl
+above_all low k h (e ∷ es) lt = go (nat_le e h) (above_all low (k + 1) h es (omega arith))
+  where
+    go : (b : Bool) → above low (members_from (k + 1) h es) ≡ true
+        → above low (if b then k ∷ members_from (k + 1) h es else members_from (k + 1) h es) ≡ true
+    go true rest = and_from (nat_lt low k) (above low (members_from (k + 1) h es)) (lt-ltb low k lt) rest
+    go false rest = rest
+
+-- the members rise
+pub members_rise : (k h : ℕ) (es : List ℕ) → rises (members_from k h es) ≡ true
+members_rise k h [] = refl
+members_rise k h (e ∷ es) = go (nat_le e h) (members_rise (k + 1) h es)
+  where
+    go : (b : Bool) → rises (members_from (k + 1) h es) ≡ true
+        → rises (if b then k ∷ members_from (k + 1) h es else members_from (k + 1) h es) ≡ true
+    go true rest = and_from (above k (members_from (k + 1) h es)) (rises (members_from (k + 1) h es))
+        (above_all k (k + 1) h es (omega arith)) rest
+    go false rest = rest
+
+-- and are junctions
+pub members_below : (n k h : ℕ) (es : List ℕ) → k + length es ≤ n → All (λ j. j < n) (members_from k h es)
+members_below n k h [] fits = All-nil (λ j. j < n)
+members_below n k h (e ∷ es) fits = go (nat_le e h) (members_below n (k + 1) h es (omega arith))
+  where
+    go : (b : Bool) → All (λ j. j < n) (members_from (k + 1) h es)
+        → All (λ j. j < n) (if b then k ∷ members_from (k + 1) h es else members_from (k + 1) h es)
+    go true rest = All-cons (λ j. j < n) k (members_from (k + 1) h es) (omega arith) rest
+    go false rest = rest
+
+-- what one cut adds to an edge's load
+step_load : (from next a b : ℕ) → from < next → (a ≤ from) ⊎ (next ≤ a) → (b ≤ from) ⊎ (next ≤ b)
+    → between (min from a) (min from b) + (if (if nat_le a from then not (nat_le b from) else nat_le b from) then next - from else 0)
+    ≡ between (min next a) (min next b)
+step_load from next a b lt (inl p) (inl q) = rw (le-leb a from p, le-leb b from q) (omega arith)
+step_load from next a b lt (inl p) (inr q) =
+    let over : nat_le b from ≡ false = lt-leb b from (omega arith) in
+    rw (le-leb a from p, over) (omega arith)
+step_load from next a b lt (inr p) (inl q) =
+    let over : nat_le a from ≡ false = lt-leb a from (omega arith) in
+    rw (over, le-leb b from q) (omega arith)
+step_load from next a b lt (inr p) (inr q) =
+    let one : nat_le a from ≡ false = lt-leb a from (omega arith) in
+    let two : nat_le b from ≡ false = lt-leb b from (omega arith) in
+    rw (one, two) (omega arith)
+
+-- the weight of a cut of the junctions up to a level, where the edge crosses it
+one_load : (e : Edge) (c : Cut) (from w : ℕ) (levels : List ℕ) → c.members ≡ members_from 0 from levels → c.weight ≡ w
+    → e.a < length levels → e.b < length levels
+    → (if crosses c.members e then c.weight else 0)
+    ≡ (if (if nat_le (slice_index levels e.a) from then not (nat_le (slice_index levels e.b) from) else nat_le (slice_index levels e.b)
+    from)
+    then w else 0)
+one_load e c from w levels is weight in_a in_b =
+    let at_a : holds c.members e.a ≡ nat_le (slice_index levels e.a) from
+    = ap (λ (l : List ℕ). holds l e.a) is ∙ member_at from e.a levels in_a in
+    let at_b : holds c.members e.b ≡ nat_le (slice_index levels e.b) from
+    = ap (λ (l : List ℕ). holds l e.b) is ∙ member_at from e.b levels in_b in
+    rw (at_a, at_b, weight) refl
+
+-- before the first cut
+pub no_cuts : (levels : List ℕ) → AreCutsTo levels 0 []
+no_cuts levels = record {
+  loads = λ e in_a in_b. omega arith;
+  total = refl;
+  each = All-nil (IsLevelCut levels 0);
+}
+
+one_load_on : (cs : List Cut) (c : Cut) (e : Edge) → load_on (cs ++ c ∷ []) e ≡ load_on cs e + (if crosses c.members e then c.weight else 0)
+one_load_on cs c e = sum_by_push (λ (cut : Cut). if crosses cut.members e then cut.weight else 0) cs c
+
+next_cut : (levels : List ℕ) (from next : ℕ) (cs : List Cut) (c : Cut) → AreCutsTo levels from cs → from < next
+    → ((j : ℕ) → j < length levels → (slice_index levels j ≤ from) ⊎ (next ≤ slice_index levels j))
+    → c.members ≡ members_from 0 from levels → c.weight ≡ next - from → AreCutsTo levels next (cs ++ c ∷ [])
+next_cut levels from next cs c made lt gap is weight = record {
+  loads = loads;
+  total = omega (arith, sum_by_push (λ (cut : Cut). cut.weight) cs c, made.total);
+  each = All-push (IsLevelCut levels next) cs c (All-weaker (IsLevelCut levels from) (IsLevelCut levels next) kept cs made.each)
+      (record { limit = from; low = lt; heavy = omega arith; members = is });
+}
+  where
+    loads : (e : Edge) → e.a < length levels → e.b < length levels
+        → load_on (cs ++ c ∷ []) e ≡ between (min next (slice_index levels e.a)) (min next (slice_index levels e.b))
+    loads e in_a in_b =
+        one_load_on cs c e
+        ∙ ap (λ (x : ℕ). x + (if crosses c.members e then c.weight else 0)) (made.loads e in_a in_b)
+        ∙ ap (λ (x : ℕ). between (min from (slice_index levels e.a)) (min from (slice_index levels e.b)) + x)
+        (one_load e c from (next - from) levels is weight in_a in_b)
+        ∙ step_load from next (slice_index levels e.a) (slice_index levels e.b) lt (gap e.a in_a) (gap e.b in_b)
+
+    kept : (d : Cut) → IsLevelCut levels from d → IsLevelCut levels next d
+    kept d cut = record { limit = cut.limit; low = omega (arith, cut.low); heavy = cut.heavy; members = cut.members }
+
+-- one more cut, up to the next level
+pub next_cuts : (levels : List ℕ) (from next : ℕ) (old now new : List Cut) (c : Cut) → AddsCuts (AreCutsTo levels from) old now
+    → from < next → ((j : ℕ) → j < length levels → (slice_index levels j ≤ from) ⊎ (next ≤ slice_index levels j))
+    → c.members ≡ members_from 0 from levels → c.weight ≡ next - from → new ≡ now ++ c ∷ []
+    → AddsCuts (AreCutsTo levels next) old new
+next_cuts levels from next old now new c made lt gap is weight pushed = record {
+  more = made.more ++ c ∷ [];
+  kind = next_cut levels from next made.more c made.kind lt gap is weight;
+  is = pushed ∙ ap (λ (l : List Cut). l ++ c ∷ []) made.is ∙ append_assoc old made.more (c ∷ []);
+}

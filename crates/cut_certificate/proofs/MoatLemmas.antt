@@ -1,0 +1,149 @@
+-- Sums of widths, and how the moats of a laminar list lie to one another.
+use Rattle.std.proofs.Common.{◌≡◌, ℕ, ◌+◌, ◌*◌, ◌<◌, ◌≤◌, ◌⊎◌, List, [], ◌∷◌, length, Bool, true, false, not, ◌&&◌, nat_lt, arith, inl, inr, refl, sym, ◌∙◌, ap, subst}
+use Rattle.std.proofs.lemmas.Bool.{and_from, and_parts, and_right, both_ways, cases_Bool, le-ltb, lt-ltb, ltb-true}
+use Rattle.std.specs.Prelude.{if◌then◌else◌}
+use Rattle.blossom_match.specs.declared.matching.Moat.{Moat}
+use Rattle.cut_certificate.specs.Cuts.{holds}
+use Rattle.cut_certificate.specs.Levels.{Site, depth, is_inner, widths}
+
+-- a moat of the list
+abbrev pub IsOf : List Moat → Moat → Type 0
+IsOf [] m = ⊥
+IsOf (x ∷ xs) m = (m ≡ x) ⊎ IsOf xs m
+
+-- the moat holds the first place and not the second
+abbrev pub parts : ℕ → ℕ → Moat → Bool
+parts t u m = holds m.members t && not (holds m.members u)
+
+-- no place is a member of both
+abbrev pub Disjoint : Moat → Moat → Type 0
+Disjoint a b = (t : ℕ) → holds a.members t ≡ true → holds b.members t ≡ true → ⊥
+
+-- the one has fewer members, and all of them are the other's
+abbrev pub Inside : Moat → Moat → Type 0
+Inside a b = (length a.members < length b.members) × ((t : ℕ) → holds a.members t ≡ true → holds b.members t ≡ true)
+
+-- two moats are disjoint, or one lies inside the other
+abbrev pub Apart : Moat → Moat → Type 0
+Apart a b = Disjoint a b ⊎ (Inside a b ⊎ Inside b a)
+
+-- so it is with each of the list
+abbrev pub ApartFromAll : Moat → List Moat → Type 0
+ApartFromAll m [] = Unit {0}
+ApartFromAll m (x ∷ xs) = Apart m x × ApartFromAll m xs
+
+-- and with any two of the list
+abbrev pub Laminar : List Moat → Type 0
+Laminar [] = Unit {0}
+Laminar (m ∷ ms) = ApartFromAll m ms × Laminar ms
+
+-- laminar moats over the places of a site, and costs that are distances; no two places have more between
+-- them than two halves for each step from one to the other
+pub record Fits (g : Site) : Type 0 where
+  pub laminar : Laminar g.moats
+  pub placed : (m : Moat) → IsOf g.moats m → (t : ℕ) → holds m.members t ≡ true → t < g.places
+  pub bounded : (t u : ℕ) → t < g.places → u < g.places
+      → widths (parts t u) g.moats + widths (parts u t) g.moats ≤ 2 * g.least t (g.spot u)
+  pub home : (t : ℕ) → t < g.places → g.least t (g.spot t) ≡ 0
+  pub joined : (t u j : ℕ) → t < g.places → u < g.places → j < g.size → g.least t (g.spot u) ≤ g.least t j + g.least u j
+
+step : (p q : Bool) (w a b : ℕ) → (p ≡ true → q ≡ true) → a ≤ b → (if p then w else 0) + a ≤ (if q then w else 0) + b
+step false false w a b f h = omega arith
+step false true w a b f h = omega arith
+step true true w a b f h = omega arith
+step true false w a b f h = absurd (both_ways false refl (f refl))
+
+step_with : (p q : Bool) (v w a b : ℕ) → (p ≡ true → q ≡ true) → a + v ≤ b
+    → ((if p then w else 0) + a) + v ≤ (if q then w else 0) + b
+step_with p q v w a b f h =
+    let s : (if p then w else 0) + (a + v) ≤ (if q then w else 0) + b = step p q w (a + v) b f h in
+    omega arith
+
+here_with : (p q : Bool) (w a b : ℕ) → p ≡ false → q ≡ true → a ≤ b → ((if p then w else 0) + a) + w ≤ (if q then w else 0) + b
+here_with p q w a b misses is h = rw (misses, is) (omega arith)
+
+-- where the one test passes less than the other, so do the sums
+pub widths_mono : (p q : Moat → Bool) (ms : List Moat) → ((m : Moat) → IsOf ms m → p m ≡ true → q m ≡ true)
+    → widths p ms ≤ widths q ms
+widths_mono p q [] f = omega arith
+widths_mono p q (m ∷ ms) f =
+    step (p m) (q m) m.width (widths p ms) (widths q ms) (f m (inl refl)) (widths_mono p q ms (λ x h. f x (inr h)))
+
+-- and where it misses a moat that the other passes, the width of this moat lies between the sums
+pub widths_with : (p q : Moat → Bool) (s : Moat) (ms : List Moat) → IsOf ms s → p s ≡ false → q s ≡ true
+    → ((m : Moat) → IsOf ms m → p m ≡ true → q m ≡ true) → widths p ms + s.width ≤ widths q ms
+widths_with p q s [] is misses passes f = absurd is
+widths_with p q s (m ∷ ms) (inl same) misses passes f =
+    subst (λ (x : Moat). widths p (m ∷ ms) + x.width ≤ widths q (m ∷ ms)) (sym same)
+    (here_with (p m) (q m) m.width (widths p ms) (widths q ms) (subst (λ (x : Moat). p x ≡ false) same misses)
+    (subst (λ (x : Moat). q x ≡ true) same passes) (widths_mono p q ms (λ x h. f x (inr h))))
+widths_with p q s (m ∷ ms) (inr is) misses passes f =
+    step_with (p m) (q m) s.width m.width (widths p ms) (widths q ms) (f m (inl refl))
+    (widths_with p q s ms is misses passes (λ x h. f x (inr h)))
+
+turned : (a b : Moat) → Apart a b → Apart b a
+turned a b (inl d) = inl (λ t x y. d t y x)
+turned a b (inr (inl i)) = inr (inr i)
+turned a b (inr (inr i)) = inr (inl i)
+
+-- one of the list is apart from a moat that is apart from all
+pub one_apart : (m : Moat) (ms : List Moat) (x : Moat) → ApartFromAll m ms → IsOf ms x → Apart m x
+one_apart m [] x all is = absurd is
+one_apart m (y ∷ ys) x all (inl same) = subst (λ (z : Moat). Apart m z) (sym same) all.0
+one_apart m (y ∷ ys) x all (inr is) = one_apart m ys x all.1 is
+
+-- two of a laminar list are equal or apart
+pub related : (ms : List Moat) (a b : Moat) → Laminar ms → IsOf ms a → IsOf ms b → (a ≡ b) ⊎ Apart a b
+related [] a b l x y = absurd x
+related (m ∷ ms) a b l (inl x) (inl y) = inl (x ∙ sym y)
+related (m ∷ ms) a b l (inl x) (inr y) = inr (subst (λ (z : Moat). Apart z b) (sym x) (one_apart m ms b l.0 y))
+related (m ∷ ms) a b l (inr x) (inl y) = inr (subst (λ (z : Moat). Apart a z) (sym y) (turned m a (one_apart m ms a l.0 x)))
+related (m ∷ ms) a b l (inr x) (inr y) = related ms a b l.1 x y
+
+-- a place of the one of two disjoint moats is none of the other
+pub not_in : (a b : Moat) (t : ℕ) → Disjoint a b → holds a.members t ≡ true → holds b.members t ≡ false
+not_in a b t d h = elim (cases_Bool (holds b.members t)) [
+  | inl has ↦ absurd (d t h has)
+  | inr misses ↦ misses
+]
+
+inside_parts : (g : Site) → Laminar g.moats → (s m : Moat) (t u : ℕ) → IsOf g.moats s → IsOf g.moats m → holds s.members t ≡ true
+    → holds s.members u ≡ false → is_inner s t m ≡ true → parts t u m ≡ true
+inside_parts g l s m t u is here in_s out small =
+    let both = and_parts (holds m.members t) (nat_lt (length m.members) (length s.members)) small in
+    let size : length m.members < length s.members = ltb-true _ _ both.1 in
+    and_from (holds m.members t) (not (holds m.members u)) both.0 (outside (related g.moats m s l here is) both.0 size)
+  where
+    outside : (m ≡ s) ⊎ Apart m s → holds m.members t ≡ true → length m.members < length s.members → not (holds m.members u) ≡ true
+    outside (inl same) in_m size = absurd (omega (arith, ap (λ (x : Moat). length x.members) same))
+    outside (inr (inl d)) in_m size = absurd (d t in_m in_s)
+    outside (inr (inr (inl i))) in_m size = elim (cases_Bool (holds m.members u)) [
+      | inl has ↦ absurd (both_ways (holds s.members u) out (i.1 u has))
+      | inr misses ↦ rw misses refl
+    ]
+    outside (inr (inr (inr i))) in_m size = absurd (omega (arith, i.0))
+
+not_inner : (s : Moat) (t : ℕ) → is_inner s t s ≡ false
+not_inner s t = and_right (holds s.members t) (nat_lt (length s.members) (length s.members)) (le-ltb _ _ (omega arith))
+
+-- a moat around t reaches no higher above t than the moats that hold t and not u
+pub reach : (g : Site) → Laminar g.moats → (s : Moat) (t u : ℕ) → IsOf g.moats s → holds s.members t ≡ true
+    → holds s.members u ≡ false → depth g s t + s.width ≤ widths (parts t u) g.moats
+reach g l s t u is in_s out =
+    widths_with (is_inner s t) (parts t u) s g.moats is (not_inner s t)
+    (and_from (holds s.members t) (not (holds s.members u)) in_s (rw out refl))
+    (λ m here small. inside_parts g l s m t u is here in_s out small)
+
+larger_too : (t : ℕ) (a b m : Moat) → length a.members < length b.members → is_inner a t m ≡ true → is_inner b t m ≡ true
+larger_too t a b m size h =
+    let both = and_parts (holds m.members t) (nat_lt (length m.members) (length a.members)) h in
+    let small : length m.members < length a.members = ltb-true _ _ both.1 in
+    and_from (holds m.members t) (nat_lt (length m.members) (length b.members)) both.0 (lt-ltb _ _ (omega arith))
+
+-- a larger moat around t begins above the smaller one
+pub above : (g : Site) (a b : Moat) (t : ℕ) → IsOf g.moats a → holds a.members t ≡ true
+    → length a.members < length b.members → depth g a t + a.width ≤ depth g b t
+above g a b t is in_a size =
+    widths_with (is_inner a t) (is_inner b t) a g.moats is (not_inner a t)
+    (and_from (holds a.members t) (nat_lt (length a.members) (length b.members)) in_a (lt-ltb _ _ size))
+    (λ m here small. larger_too t a b m size small)

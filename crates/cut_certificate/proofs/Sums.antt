@@ -1,0 +1,107 @@
+-- Sums over the lines, each with a number of times, and sums over the passes of a walk.
+use Rattle.std.proofs.Common.{◌≡◌, ◌≤◌, ◌<◌, ℕ, zero, suc, ◌+◌, ◌-◌, ◌*◌, ◌%◌, ◌==◌, Bool, true, false, cond, ◌&&◌, ◌||◌, nat_lt, nat_le, List, [], ◌∷◌, length, Option, Some, None, arith, refl, sym, ◌∙◌, ap}
+use Rattle.std.proofs.lemmas.Bool.Decides.{nat_tests}
+use Rattle.std.proofs.lemmas.Bool.{and_parts}
+use Rattle.line_graph.specs.declared.edge.Edge.{Edge}
+use Rattle.line_graph.specs.declared.pass.Pass.{Pass}
+use Rattle.line_graph.specs.PieceGraphs.{bit}
+use Rattle.line_graph.specs.PieceWalks.{above, covers, edge_of, edge_sum, of_edge, pass_sum, passed, passes, rises}
+
+-- each line's number, as often as y says
+abbrev pub weigh : List ℕ → List Edge → (ℕ → ℕ) → (Edge → ℕ) → ℕ
+weigh [] es y f = 0
+weigh (n ∷ ns) [] y f = 0
+weigh (n ∷ ns) (e ∷ es) y f = y n * f e + weigh ns es y f
+
+abbrev never : ℕ → ℕ
+never n = 0
+
+abbrev this : ℕ → ℕ → ℕ
+this line n = bit (line == n)
+
+abbrev pub often : List Pass → ℕ → ℕ
+often ps n = passes n ps
+
+abbrev pub more : List Pass → ℕ → ℕ
+more ps n = passes n ps - 1
+
+nothing : (k : ℕ) → 0 * k + 0 ≡ 0
+nothing k = omega arith
+
+weigh_never : (ns : List ℕ) (es : List Edge) (f : Edge → ℕ) → weigh ns es never f ≡ 0
+weigh_never [] es f = refl
+weigh_never (n ∷ ns) [] f = refl
+weigh_never (n ∷ ns) (e ∷ es) f = rw (weigh_never ns es f) (nothing (f e))
+
+spread : (x y k u v : ℕ) → (x + y) * k + (u + v) ≡ (x * k + u) + (y * k + v)
+spread x y k u v = omega arith
+
+weigh_step : (ns : List ℕ) (es : List Edge) (p : Pass) (ps : List Pass) (f : Edge → ℕ)
+    → weigh ns es (often (p ∷ ps)) f ≡ weigh ns es (this p.line) f + weigh ns es (often ps) f
+weigh_step [] es p ps f = refl
+weigh_step (n ∷ ns) [] p ps f = refl
+weigh_step (n ∷ ns) (e ∷ es) p ps f =
+    rw (weigh_step ns es p ps f) (spread (bit (p.line == n)) (passes n ps) (f e) (weigh ns es (this p.line) f) (weigh ns es (often ps) f))
+
+absent : (line low : ℕ) (ns : List ℕ) (es : List Edge) (f : Edge → ℕ) → line ≡ low → above low ns ≡ true → weigh ns es (this line) f ≡ 0
+absent line low [] es f is up = refl
+absent line low (n ∷ ns) [] f is up = refl
+absent line low (n ∷ ns) (e ∷ es) f is up =
+    let parts = and_parts (nat_lt low n) (above low ns) up in
+    let other : (line == n) ≡ false = differs line low n is parts.0 in
+    rw (other, absent line low ns es f is parts.1) (nothing (f e))
+  where
+    differs : (line low n : ℕ) → line ≡ low → nat_lt low n ≡ true → (line == n) ≡ false
+    differs line low n is up = grind (arith, nat_tests)
+
+-- the line itself is weighed once
+single : (line : ℕ) (ns : List ℕ) (es : List Edge) (f : Edge → ℕ) → rises ns ≡ true → weigh ns es (this line) f ≡ of_edge f (edge_of ns es line)
+single line [] es f up = refl
+single line (n ∷ ns) [] f up = refl
+single line (n ∷ ns) (e ∷ es) f up = by_test (line == n) refl (and_parts (above n ns) (rises ns) up).0 (single line ns es f (and_parts (above n ns) (rises ns) up).1)
+  where
+    same : (line n : ℕ) → (line == n) ≡ true → line ≡ n
+    same line n is = grind (arith, nat_tests)
+
+    once : (k : ℕ) → 1 * k + 0 ≡ k
+    once k = omega arith
+
+    none : (k v : ℕ) → 0 * k + v ≡ v
+    none k v = omega arith
+
+    by_test : (t : Bool) → (line == n) ≡ t → above n ns ≡ true → weigh ns es (this line) f ≡ of_edge f (edge_of ns es line)
+        → bit (line == n) * f e + weigh ns es (this line) f ≡ of_edge f (cond (line == n) (Some e) (edge_of ns es line))
+    by_test true is up rest = rw (is, absent line n ns es f (same line n is) up) (once (f e))
+    by_test false is up rest = rw (is, rest) (none (f e) _)
+
+-- a sum over the passes is a sum over the lines
+pub exchange : (ns : List ℕ) (es : List Edge) (f : Edge → ℕ) (ps : List Pass) → rises ns ≡ true → pass_sum ns es f ps ≡ weigh ns es (often ps) f
+exchange ns es f [] up = sym (weigh_never ns es f)
+exchange ns es f (p ∷ ps) up = rw (weigh_step ns es p ps f, single p.line ns es f up, exchange ns es f ps up) refl
+
+least : (n : ℕ) (ps : List Pass) → passed n ps ≡ true → 1 ≤ passes n ps
+least n [] is = absurd (cc)
+least n (p ∷ ps) is = by_test (p.line == n) is (λ h. least n ps h)
+  where
+    by_test : (t : Bool) → (t || passed n ps) ≡ true → (passed n ps ≡ true → 1 ≤ passes n ps) → 1 ≤ bit t + passes n ps
+    by_test true is rest = omega arith
+    by_test false is rest = let more : 1 ≤ passes n ps = rest is in omega arith
+
+-- each line once, and what is more
+pub once_and_more : (ns : List ℕ) (es : List Edge) (f : Edge → ℕ) (ps : List Pass) → length ns ≡ length es → covers ns ps ≡ true
+    → weigh ns es (often ps) f ≡ edge_sum f es + weigh ns es (more ps) f
+once_and_more [] [] f ps same all = refl
+once_and_more [] (e ∷ es) f ps same all = absurd (omega arith)
+once_and_more (n ∷ ns) [] f ps same all = absurd (omega arith)
+once_and_more (n ∷ ns) (e ∷ es) f ps same all =
+    let parts = and_parts (passed n ps) (covers ns ps) all in
+    rw (once_and_more ns es f ps (omega arith) parts.1) (split (passes n ps) (f e) (edge_sum f es) (weigh ns es (more ps) f) (least n ps parts.0))
+  where
+    one_less : (x : ℕ) → 1 ≤ x → x ≡ 1 + (x - 1)
+    one_less x h = omega arith
+
+    regroup : (y k u v : ℕ) → (1 + y) * k + (u + v) ≡ (k + u) + (y * k + v)
+    regroup y k u v = omega arith
+
+    split : (x k u v : ℕ) → 1 ≤ x → x * k + (u + v) ≡ (k + u) + ((x - 1) * k + v)
+    split x k u v h = ap (λ (z : ℕ). z * k + (u + v)) (one_less x h) ∙ regroup (x - 1) k u v

@@ -1,0 +1,72 @@
+-- Tables and lists by place.
+use Rattle.std.proofs.Common.{◌≡◌, ◌≤◌, ◌<◌, ℕ, zero, suc, ◌+◌, ◌&&◌, true, nat_lt, List, [], ◌∷◌, length, drop, get_or, replicate, set, arith, refl, ◌∙◌}
+use Rattle.std.proofs.lemmas.Bool.{and_from, and_parts}
+use Rattle.std.proofs.lemmas.Bool.Decides.{nat_tests}
+use Rattle.std.proofs.lemmas.List.{at_drop_more, length-set}
+use Rattle.line_graph.specs.declared.edge.Edge.{Edge}
+use Rattle.line_graph.specs.declared.limits.TheConstants.{MAX_LINES}
+use Rattle.line_graph.specs.KeptPieces.{KeepsPiece, all_below, ends_below}
+use Rattle.line_graph.specs.PieceGraphs.{PieceValue, degrees_from}
+
+-- each entry of a blank table is the same
+pub blank : {X : Type 0} (x : X) (count i : ℕ) → get_or (replicate count x) i x ≡ x
+blank x zero i = refl
+blank x (suc count) zero = refl
+blank x (suc count) (suc i) = blank x count i
+
+-- what is left from a place on begins with what is there
+pub at_place : {X : Type 0} (xs : List X) (i : ℕ) (d : X) → i < length xs → drop i xs ≡ get_or xs i d ∷ drop (i + 1) xs
+at_place xs i d less = at_drop_more (λ ys. ys) xs i d less
+
+-- what is below a number throughout is so at a place
+pub below_at : (most : ℕ) (xs : List ℕ) (i d : ℕ) → all_below most xs ≡ true → i < length xs → get_or xs i d < most
+below_at most [] i d below less = absurd (omega (arith, less))
+below_at most (x ∷ xs) zero d below less =
+    let parts = and_parts (nat_lt x most) (all_below most xs) below in
+    grind (arith, nat_tests)
+below_at most (x ∷ xs) (suc i) d below less =
+    below_at most xs i d (and_parts (nat_lt x most) (all_below most xs) below).1 (omega (arith, less))
+
+-- so are both ends of the edge at a place
+pub ends_at : (most : ℕ) (edges : List Edge) (i : ℕ) (d : Edge) → ends_below most edges ≡ true → i < length edges
+    → ((get_or edges i d).a < most) × ((get_or edges i d).b < most)
+ends_at most [] i d below less = absurd (omega (arith, less))
+ends_at most (e ∷ edges) zero d below less =
+    let parts = and_parts (nat_lt e.a most && nat_lt e.b most) (ends_below most edges) below in
+    let both = and_parts (nat_lt e.a most) (nat_lt e.b most) parts.0 in
+    (is_less e.a most both.0, is_less e.b most both.1)
+  where
+    is_less : (m n : ℕ) → nat_lt m n ≡ true → m < n
+    is_less m n is = grind (arith, nat_tests)
+ends_at most (e ∷ edges) (suc i) d below less =
+    ends_at most edges i d (and_parts (nat_lt e.a most && nat_lt e.b most) (ends_below most edges) below).1 (omega (arith, less))
+
+ends_within : (count most : ℕ) (edges : List Edge) → count ≤ most → ends_below count edges ≡ true → ends_below most edges ≡ true
+ends_within count most [] less below = refl
+ends_within count most (e ∷ edges) less below =
+    let parts = and_parts (nat_lt e.a count && nat_lt e.b count) (ends_below count edges) below in
+    let both = and_parts (nat_lt e.a count) (nat_lt e.b count) parts.0 in
+    and_from (nat_lt e.a most && nat_lt e.b most) (ends_below most edges)
+    (and_from (nat_lt e.a most) (nat_lt e.b most) (is_less e.a both.0) (is_less e.b both.1))
+    (ends_within count most edges less parts.1)
+  where
+    is_less : (j : ℕ) → nat_lt j count ≡ true → nat_lt j most ≡ true
+    is_less j is = grind (arith, nat_tests)
+
+-- the ends of the edges of a piece are few
+pub ends_few : (p : PieceValue) → KeepsPiece p → ends_below (MAX_LINES + 1) p.edges ≡ true
+ends_few p keeps =
+    ends_within (length p.junctions) (MAX_LINES + 1) p.edges (omega (arith, keeps.junctions_few, keeps.few)) keeps.ends
+
+length-degrees_from : (es : List Edge) (at n : ℕ) → length (degrees_from es at n) ≡ n
+length-degrees_from es at zero = refl
+length-degrees_from es at (suc n) = omega (arith, length-degrees_from es (at + 1) n)
+
+-- and so are its junctions
+pub degrees_few : (p : PieceValue) → KeepsPiece p → length p.degrees ≤ MAX_LINES + 1
+degrees_few p keeps =
+    rw keeps.counted (omega (arith, length-degrees_from p.edges 0 (length p.junctions), keeps.junctions_few, keeps.few))
+
+-- a table keeps its length
+pub length_set : {X : Type 0} (xs : List X) (i : ℕ) (x : X) (n : ℕ) → length xs ≡ n → length (set xs i x) ≡ n
+length_set xs i x n sized = length-set xs i x ∙ sized

@@ -1,0 +1,121 @@
+-- The ways from the places of the next moat, and a reach that they lowered.
+use Rattle.std.proofs.Common.{◌≡◌, ℕ, ◌+◌, ◌-◌, ◌*◌, ◌<◌, ◌≤◌, min, List, ◌++◌, Option, Some, Vec, Global, length, All, drop, get_or, max, replicate, slice_get, take, arith, refl, sym, ◌∙◌, ap, subst}
+use Rattle.std.proofs.lemmas.List.{get_or-replicate, length-replicate, take_all}
+use Rattle.std.proofs.lemmas.List.Elements.{All-more, All-weaker}
+use Rattle.std.proofs.lemmas.Option.{slice_get_read, slice_get_within}
+use Rattle.std.proofs.Math.Seq.{take-append_seam}
+use Rattle.std.specs.Prelude.{slice_index}
+use Rattle.blossom_match.specs.declared.matching.Moat.{Moat}
+use Rattle.blossom_match.specs.Matchings.{IsOddMoat}
+use Rattle.line_graph.specs.declared.limits.TheConstants.{MAX_COST}
+use Rattle.odd_paths.specs.LeastRows.{RowsValue, cost_in, length_in}
+use Rattle.cut_certificate.specs.declared.reach.TheConstants.{FAR}
+use Rattle.cut_certificate.specs.declared.stand.Stand.{Stand}
+use Rattle.cut_certificate.specs.declared.stand.Stand.TheVariants as stand
+use Rattle.cut_certificate.specs.Levels.{Site, site_of}
+use Rattle.cut_certificate.specs.Reaches.{CanReach, HasWay, IsNext, IsReach, lower_of, lowered, way}
+use Rattle.cut_certificate.proofs.ProgressLemmas.{finds}
+use Rattle.cut_certificate.proofs.LaminarLemmas.{of_all}
+use Rattle.cut_certificate.proofs.ReachLemmas.{past, reach_found}
+use Rattle.cut_certificate.proofs.StandLemmas.{is_of}
+
+-- no number of a row is above the greatest cost
+pub row_low : (rows : RowsValue) (size : ℕ) (moats : List Moat) (t : ℕ) (row : List ℕ) (j : ℕ) → CanReach rows size moats
+    → t < length rows.terminals
+    → slice_get rows.table t ≡ Some row → j < length row → slice_index row j ≤ MAX_COST
+row_low rows size moats t row j can in_t at lt =
+    let long : length row ≡ size = ap length_in (sym at) ∙ can.wide t in_t in
+    subst (λ (o : Option (List ℕ)). cost_in o j ≤ MAX_COST) at (can.low t j in_t (omega arith))
+
+-- the reach of a moat gone through is as long as a row
+pub reach_wide : (rows : RowsValue) (size : ℕ) (moats : List Moat) (stands : List Stand) (reaches : List (Vec ℕ Global)) (t c : ℕ)
+    (place : Stand)
+    (v : Vec ℕ Global) (seen : List ℕ) → HasWay rows size moats stands reaches t → slice_get stands t ≡ Some place → place ≡ stand.First c
+    → c < length reaches → v ≡ get_or reaches c v → seen ≡ v.items → length seen ≡ size
+reach_wide rows size moats stands reaches t c place v seen has at is lt read are =
+    ap (λ (l : List ℕ). length l) are
+    ∙ has.wide c v (at ∙ ap (λ (p : Stand). Some p) is) (slice_get_read reaches (length reaches) c v refl lt read)
+
+-- lowered by the reach of the outermost moat that begins with the place
+pub first_way : (g : Site) (stands : List Stand) (reaches : List (Vec ℕ Global)) (t j c : ℕ) (place : Stand) (m : Moat) (v : Vec ℕ Global)
+    (seen : List ℕ) (old new : ℕ) → slice_get stands t ≡ Some place → place ≡ stand.First c → c < length g.moats → m ≡ get_or g.moats c m
+    → c < length reaches → v ≡ get_or reaches c v → seen ≡ v.items → new ≡ min (slice_index seen j - (get_or g.moats c m).width) old
+    → new ≡ lower_of (way g reaches t j (slice_get stands t)) old
+first_way g stands reaches t j c place m v seen old new at is in_moats at_m in_reaches at_v are value =
+    value ∙ ap (λ (x : Moat). min (slice_index seen j - x.width) old) (sym at_m) ∙ ap
+    (λ (l : List ℕ). min (slice_index l j - m.width) old) are
+    ∙ ap (λ (o : Option ℕ). lower_of o old)
+    (sym (past g reaches t j c m v (slice_get stands t) (at ∙ ap (λ (p : Stand). Some p) is)
+    (slice_get_read g.moats (length g.moats) c m refl in_moats at_m) (slice_get_read reaches (length reaches) c v refl in_reaches at_v)))
+
+-- each place of the next moat has a way
+pub have_ways : (rows : RowsValue) (size : ℕ) (moats : List Moat) (s : Moat) (stands : List Stand) (reaches : List (Vec ℕ Global))
+    → CanReach rows size moats → IsNext (site_of rows size moats) s stands reaches → All (HasWay rows size moats stands reaches) s.members
+have_ways rows size moats s stands reaches can next =
+    All-weaker (λ t. t < length rows.terminals) (HasWay rows size moats stands reaches) has s.members
+    (of_all (IsOddMoat (length rows.terminals)) moats s can.odd (is_of moats next.index s next.at)).below
+  where
+    has : (t : ℕ) → t < length rows.terminals → HasWay rows size moats stands reaches t
+    has t lt = record {
+      place = lt;
+      stands_there = omega (arith, next.progress.standing.sized);
+      moat = λ c at. (let o = next.progress.standing.first t c at in slice_get_within moats c o.moat o.at);
+      beside = λ c at. (let o = next.progress.standing.first t c at in let lt = slice_get_within moats c o.moat o.at in omega
+          (arith, next.progress.beside));
+      wide = λ c v at there. (let o = next.progress.standing.first t c at in (next.progress.made c o.moat v o.at o.done there).sized);
+    }
+
+written : (len : ℕ) (new old : List ℕ) → length new ≡ len → take len (new ++ drop (length new) old) ≡ new
+written len new old same = subst (λ (n : ℕ). take n (new ++ drop (length new) old) ≡ new) same
+    (take-append_seam new (drop (length new) old))
+
+-- lowered by all ways, a reach of far numbers is that of the next moat
+pub reach_made : (rows : RowsValue) (size : ℕ) (moats : List Moat) (s : Moat) (stands : List Stand) (reaches : List (Vec ℕ Global))
+    (len : ℕ)
+    (far now new members : List ℕ) → CanReach rows size moats → IsNext (site_of rows size moats) s stands reaches → far ≡ replicate size FAR
+    → now ≡ far → len ≡ size → length new ≡ length now → members ≡ s.members
+    → ((j : ℕ) → j < length now → slice_index new j ≡ lowered (site_of rows (length now) moats) stands reaches j (slice_index now j)
+    members)
+    → IsReach (site_of rows size moats) s (take len (new ++ drop (length new) far))
+reach_made rows size moats s stands reaches len far now new members can next is are sized long same value =
+    let wide : length now ≡ size = ap (λ (l : List ℕ). length l) (are ∙ is) ∙ length-replicate size FAR in
+    subst (IsReach (site_of rows size moats) s) (sym (written len new far (long ∙ wide ∙ sym sized)))
+    (reach_found (site_of rows size moats) s next.index stands reaches new FAR
+    (finds rows size moats s next.index stands reaches can next.at next.progress) (long ∙ wide)
+    (λ t j in_t in_j. let low = can.low t j in_t in_j in twice _ low)
+    (λ j in_j. value j (omega arith)
+    ∙ ap (λ (x : ℕ). lowered (site_of rows size moats) stands reaches j x members)
+    (ap (λ (l : List ℕ). slice_index l j) (are ∙ is) ∙ get_or-replicate size j FAR 0 in_j)
+    ∙ ap (lowered (site_of rows size moats) stands reaches j FAR) same))
+  where
+    twice : (x : ℕ) → x ≤ MAX_COST → 2 * x ≤ FAR
+    twice x low = omega arith
+
+-- the most members so far
+pub most_more : (ms : List Moat) (i old new : ℕ) (m : Moat) → i < length ms → m ≡ get_or ms i m
+    → All (λ (x : Moat). length x.members ≤ old) (take i ms) → new ≡ max (length m.members) old
+    → All (λ (x : Moat). length x.members ≤ new) (take (i + 1) ms)
+most_more ms i old new m lt is all value =
+    All-more (λ (x : Moat). length x.members ≤ new) ms i m lt
+    (All-weaker (λ (x : Moat). length x.members ≤ old) (λ (x : Moat). length x.members ≤ new) (λ x le. more _ _ _ _ le value) (take i ms)
+    all)
+    (subst (λ (x : Moat). length x.members ≤ new) is (omega arith))
+  where
+    more : (a b c d : ℕ) → a ≤ b → c ≡ max d b → a ≤ c
+    more a b c d le value = omega arith
+
+-- none of all moats has more
+pub most_all : (ms : List Moat) (i most : ℕ) → length ms ≤ i → All (λ (x : Moat). length x.members ≤ most) (take i ms)
+    → All (λ (x : Moat). length x.members ≤ most) ms
+most_all ms i most le all = subst (λ (l : List Moat). All (λ (x : Moat). length x.members ≤ most) l) (take_all i ms le) all
+
+-- each place of the next moat has a way, as the code reads places and numbers
+pub all_ways : (rows : RowsValue) (size : ℕ) (moats : List Moat) (s : Moat) (stands : List Stand) (reaches : List (Vec ℕ Global))
+    (far now members : List ℕ) → CanReach rows size moats → IsNext (site_of rows size moats) s stands reaches → far ≡ replicate size FAR
+    → now ≡ far
+    → members ≡ s.members → All (HasWay rows (length now) moats stands reaches) members
+all_ways rows size moats s stands reaches far now members can next is are same =
+    subst (λ (n : ℕ). All (HasWay rows n moats stands reaches) members)
+    (sym (ap (λ (l : List ℕ). length l) (are ∙ is) ∙ length-replicate size FAR))
+    (subst (λ (ts : List ℕ). All (HasWay rows size moats stands reaches) ts) (sym same)
+    (have_ways rows size moats s stands reaches can next))

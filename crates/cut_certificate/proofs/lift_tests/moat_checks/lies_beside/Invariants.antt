@@ -1,0 +1,7 @@
+use Rattle.std.proofs.Common.{All, take, false, ◌≡◌}
+use Rattle.blossom_match.specs.Matchings.{holds}
+use Rattle.cut_certificate.proofs.lift_tests.moat_checks.lies_beside.Given as goal
+
+-- none of the members so far is a member of the other moat
+abbrev pub invariant-loop-x : goal.invariant-loop-x
+invariant-loop-x l = All (λ x. holds l.k x ≡ false) (take l.x-index l.members)

@@ -1,0 +1,14 @@
+use Rattle.std.proofs.Common.{◌≡◌, ◌<◌, All, length}
+use Rattle.cut_certificate.specs.Stands.{covered}
+use Rattle.cut_certificate.proofs.stand.cover.Given as goal
+
+-- with the places that are left covered too, the stands are those that are wanted
+abbrev pub invariant-loop-rest : goal.invariant-loop-rest
+invariant-loop-rest l = record {
+  there : All (λ t. t < length l.stands.items) l.rest;
+  size : length l.stands.items ≡ length l.fn.stands.items;
+  value : covered l.stands.items l.rest ≡ covered l.fn.stands.items l.members;
+}
+
+abbrev pub decreases-loop-rest : goal.decreases-loop-rest
+decreases-loop-rest l = length l.rest

@@ -1,0 +1,21 @@
+-- Cuts of a graph: sets of junctions, each with a weight. Weights and loads count halves of a step.
+use Rattle.std.specs.Prelude.{ℕ, ◌==◌, Bool, not, List, sum_by, if◌then◌else◌}
+use Rattle.std.specs.List.{list_any}
+use Rattle.cut_certificate.specs.declared.cut.Cut.{Cut}
+use Rattle.line_graph.specs.declared.edge.Edge.{Edge}
+
+-- the junction is one of the members
+abbrev pub holds : List ℕ → ℕ → Bool
+holds members j = list_any (λ m. j == m) members
+
+-- exactly one end of the edge is one of the members
+abbrev pub crosses : List ℕ → Edge → Bool
+crosses members e = if holds members e.a then not (holds members e.b) else holds members e.b
+
+-- the weights of the cuts that hold exactly one end of the edge
+abbrev pub load_on : List Cut → Edge → ℕ
+load_on cuts e = sum_by (λ (cut : Cut). if crosses cut.members e then cut.weight else 0) cuts
+
+-- the weights of all cuts
+abbrev pub total_of : List Cut → ℕ
+total_of cuts = sum_by (λ (cut : Cut). cut.weight) cuts

@@ -1,0 +1,44 @@
+-- The cuts of one moat, by the levels of the junctions. Weights and levels count halves of a step.
+use Rattle.std.specs.Prelude.{◌≡◌, ℕ, ◌+◌, ◌-◌, ◌<◌, ◌≤◌, ◌⊎◌, min, List, [], ◌∷◌, ◌++◌, All, length, nat_le, slice_index, if◌then◌else◌}
+use Rattle.cut_certificate.specs.declared.cut.Cut.{Cut}
+use Rattle.cut_certificate.specs.Cuts.{load_on, total_of}
+use Rattle.line_graph.specs.declared.edge.Edge.{Edge}
+
+-- the junctions whose level is no more than a limit; the first of the levels is that of junction k
+abbrev pub members_from : (k limit : ℕ) → List ℕ → List ℕ
+members_from k limit [] = []
+members_from k limit (level ∷ rest) =
+    if nat_le level limit
+    then k ∷ members_from (k + 1) limit rest
+    else members_from (k + 1) limit rest
+
+-- how far two numbers are apart
+abbrev pub between : ℕ → ℕ → ℕ
+between a b = (a - b) + (b - a)
+
+-- each of the levels is at most the one or at least the other
+abbrev pub NoneBetween : (from next : ℕ) → List ℕ → Type 0
+NoneBetween from next levels =
+    (j : ℕ) → j < length levels → (slice_index levels j ≤ from) ⊎ (next ≤ slice_index levels j)
+
+-- a cut of the junctions up to a level below the top
+pub record IsLevelCut (levels : List ℕ) (top : ℕ) (cut : Cut) : Type 0 where
+  pub limit : ℕ
+  pub low : limit < top
+  pub heavy : 1 ≤ cut.weight
+  pub members : cut.members ≡ members_from 0 limit levels
+
+-- the cuts of a moat up to the top: an edge crosses as much of them as the levels of its ends are
+-- apart
+pub record AreCutsTo (levels : List ℕ) (top : ℕ) (cuts : List Cut) : Type 0 where
+  pub loads : (e : Edge) → e.a < length levels → e.b < length levels
+      → load_on cuts e
+      ≡ between (min top (slice_index levels e.a)) (min top (slice_index levels e.b))
+  pub total : total_of cuts ≡ top
+  pub each : All (IsLevelCut levels top) cuts
+
+-- cuts of that kind stand behind those before
+pub record AddsCuts (Kind : List Cut → Type 0) (old new : List Cut) : Type 0 where
+  pub more : List Cut
+  pub kind : Kind more
+  pub is : new ≡ old ++ more

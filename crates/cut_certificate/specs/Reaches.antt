@@ -1,0 +1,119 @@
+-- The reaches of moats, made from small moats to large ones: how far junctions are from a moat
+-- comes from the rows of those of its places that no smaller moat holds, and from the reaches of
+-- the outermost moats inside. Reaches and widths count halves of a step, costs count steps.
+use Rattle.std.specs.Prelude.{◌≡◌, ℕ, ◌-◌, ◌*◌, ◌<◌, ◌≤◌, List, [], ◌∷◌, Option, Some, None, Vec, length, min, true, All, AllPairs, slice_get, slice_index}
+use Rattle.std.proofs.Common.{Global}
+use Rattle.blossom_match.specs.declared.matching.Moat.{Moat}
+use Rattle.blossom_match.specs.Matchings.{AreLaminar, IsOddMoat}
+use Rattle.cut_certificate.specs.declared.stand.Stand.{Stand}
+use Rattle.cut_certificate.specs.declared.stand.Stand.TheVariants as stand
+use Rattle.cut_certificate.specs.declared.moat_reaches.Progress.{Progress}
+use Rattle.cut_certificate.specs.Cuts.{holds}
+use Rattle.cut_certificate.specs.Levels.{Site, beyond, site_of}
+use Rattle.cut_certificate.specs.Stands.{AreStands, IsDone}
+use Rattle.line_graph.specs.declared.limits.TheConstants.{MAX_COST}
+use Rattle.odd_paths.specs.LeastRows.{RowsValue, cost_at, row_length}
+
+-- how far the junctions are beyond the smaller moats around the member from which this is least
+pub record IsReach (g : Site) (s : Moat) (reach : List ℕ) : Type 0 where
+  pub sized : length reach ≡ g.size
+  pub most : (j t : ℕ) → j < g.size → holds s.members t ≡ true
+      → slice_index reach j ≤ beyond g s j t
+  pub some : (j : ℕ) → j < g.size
+      → (t : ℕ) × (holds s.members t ≡ true) × (beyond g s j t ≤ slice_index reach j)
+
+-- rows with a number for each of so many junctions, and odd moats over their terminals
+pub record CanReach (rows : RowsValue) (size : ℕ) (moats : List Moat) : Type 0 where
+  pub rows_sized : length rows.table ≡ length rows.terminals
+  pub wide : (t : ℕ) → t < length rows.terminals → row_length rows t ≡ size
+  pub low : (t j : ℕ) → t < length rows.terminals → j < size → cost_at rows t j ≤ MAX_COST
+  pub odd : All (IsOddMoat (length rows.terminals)) moats
+  pub laminar : AllPairs AreLaminar moats
+
+-- the reaches of the moats that were gone through
+abbrev pub AreReaches : Site → (members before : ℕ) → List (Vec ℕ Global) → Type 0
+AreReaches g members before reaches = (i : ℕ) (m : Moat) (v : Vec ℕ Global)
+    → slice_get g.moats i ≡ Some m
+    → IsDone members before i m → slice_get reaches i ≡ Some v → IsReach g m v.items
+
+-- the reaches of all moats
+abbrev pub AreAllReaches : Site → List (Vec ℕ Global) → Type 0
+AreAllReaches g reaches = (length reaches ≡ length g.moats)
+    × ((i : ℕ) (m : Moat) (v : Vec ℕ Global) → slice_get g.moats i ≡ Some m
+    → slice_get reaches i ≡ Some v
+    → IsReach g m v.items)
+
+-- where places stand, and the reaches
+pub record IsProgress (g : Site) (members before : ℕ) (stands : List Stand)
+    (reaches : List (Vec ℕ Global))
+    : Type 0 where
+  pub standing : AreStands g.moats g.places members before stands
+  pub beside : length reaches ≡ length g.moats
+  pub made : AreReaches g members before reaches
+
+-- so far the code has come
+abbrev pub HasReached : RowsValue → (size : ℕ) → List Moat → (members before : ℕ) → Progress
+    → Type 0
+HasReached rows size moats members before p =
+    IsProgress (site_of rows size moats) members before p.stands.items p.reaches.items
+
+-- the moat is the next one: those that were gone through have fewer members, or as many and a lower
+-- index
+pub record IsNext (g : Site) (s : Moat) (stands : List Stand) (reaches : List (Vec ℕ Global))
+    : Type 0 where
+  pub index : ℕ
+  pub at : slice_get g.moats index ≡ Some s
+  pub progress : IsProgress g (length s.members) index stands reaches
+
+-- a way from the place can be told: it has a row and a stand, and where it is the first of a moat,
+-- that moat has a reach with a number for each of so many junctions
+pub record HasWay (rows : RowsValue) (size : ℕ) (moats : List Moat) (stands : List Stand)
+    (reaches : List (Vec ℕ Global)) (t : ℕ) : Type 0 where
+  pub place : t < length rows.terminals
+  pub stands_there : t < length stands
+  pub moat : (c : ℕ) → slice_get stands t ≡ Some (stand.First c) → c < length moats
+  pub beside : (c : ℕ) → slice_get stands t ≡ Some (stand.First c) → c < length reaches
+  pub wide : (c : ℕ) (v : Vec ℕ Global) → slice_get stands t ≡ Some (stand.First c)
+      → slice_get reaches c ≡ Some v → length v.items ≡ size
+
+-- so it is with each of the places, for a reach as long as this one
+abbrev pub HaveWays : RowsValue → List Moat → List Stand → List (Vec ℕ Global)
+    → (places reach : List ℕ) → Type 0
+HaveWays rows moats stands reaches places reach =
+    All (HasWay rows (length reach) moats stands reaches) places
+
+-- how far a junction is beyond a moat, where its reach is known
+abbrev pub way_past : Option Moat → Option (Vec ℕ Global) → ℕ → Option ℕ
+way_past (Some m) (Some v) j = Some (slice_index v.items j - m.width)
+way_past (Some m) None j = None
+way_past None reach j = None
+
+-- how far a junction is from a place that stands there, beyond the outermost moat that begins with
+-- the place
+abbrev pub way : Site → List (Vec ℕ Global) → (t j : ℕ) → Option Stand → Option ℕ
+way g reaches t j (Some stand.Free) = Some (2 * g.least t j)
+way g reaches t j (Some (stand.First c)) = way_past (slice_get g.moats c) (slice_get reaches c) j
+way g reaches t j (Some stand.Inside) = None
+way g reaches t j None = None
+
+-- the number or the other one, whichever is less
+abbrev pub lower_of : Option ℕ → ℕ → ℕ
+lower_of None far = far
+lower_of (Some near) far = min near far
+
+-- the number lowered by the ways from each of the places
+abbrev pub lowered : Site → List Stand → List (Vec ℕ Global) → (j far : ℕ) → List ℕ → ℕ
+lowered g stands reaches j far [] = far
+lowered g stands reaches j far (t ∷ rest) =
+    lowered g stands reaches j (lower_of (way g reaches t j (slice_get stands t)) far) rest
+
+-- each number of the reach is lowered by the ways from the places
+abbrev pub AreLowered : RowsValue → List Moat → List Stand → List (Vec ℕ Global)
+    → (places old new : List ℕ) → Type 0
+AreLowered rows moats stands reaches places old new = (j : ℕ) → j < length old
+    → slice_index new j
+    ≡ lowered (site_of rows (length old) moats) stands reaches j (slice_index old j) places
+
+-- each number is the old one or that at its index, whichever is less
+abbrev pub AreLeast : (ℕ → ℕ) → (old new : List ℕ) → Type 0
+AreLeast at old new = (j : ℕ) → j < length old → slice_index new j ≡ min (at j) (slice_index old j)

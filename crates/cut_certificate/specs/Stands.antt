@@ -1,0 +1,54 @@
+-- Where places stand while one goes through moats over them, from small moats to large ones: the
+-- outermost moat around a place is told by its first member.
+use Rattle.std.specs.Prelude.{◌≡◌, ℕ, ◌<◌, ◌≤◌, ◌⊎◌, List, [], ◌∷◌, Some, length, true, false, slice_get, slice_index, slice_set}
+use Rattle.blossom_match.specs.declared.matching.Moat.{Moat}
+use Rattle.cut_certificate.specs.declared.stand.Stand.{Stand}
+use Rattle.cut_certificate.specs.declared.stand.Stand.TheVariants as stand
+use Rattle.cut_certificate.specs.Cuts.{holds}
+
+-- the moat with that index was gone through: it has fewer members than so many, or as many and its
+-- index is before a limit
+abbrev pub IsDone : (members before i : ℕ) → Moat → Type 0
+IsDone members before i m =
+    (length m.members < members) ⊎ ((length m.members ≡ members) × (i < before))
+
+-- no moat that was gone through holds the place
+abbrev pub IsFree : List Moat → (members before t : ℕ) → Type 0
+IsFree moats members before t = (i : ℕ) (m : Moat) → slice_get moats i ≡ Some m
+    → IsDone members before i m → holds m.members t ≡ false
+
+-- the moat with index c is the largest that was gone through of those around the place t, and h is
+-- another place of it
+pub record IsOutermost (moats : List Moat) (members before t h c : ℕ) : Type 0 where
+  pub moat : Moat
+  pub at : slice_get moats c ≡ Some moat
+  pub done : IsDone members before c moat
+  pub around : holds moat.members t ≡ true
+  pub first : holds moat.members h ≡ true
+  pub largest : (i : ℕ) (m : Moat) → slice_get moats i ≡ Some m → IsDone members before i m
+      → holds m.members t ≡ true → length m.members ≤ length moat.members
+
+-- the place is the first one of its outermost moat
+abbrev pub IsFirst : List Moat → (members before t : ℕ) → List Stand → Type 0
+IsFirst moats members before t stands = (h : ℕ) × (c : ℕ)
+    × (slice_get stands h ≡ Some (stand.First c)) × IsOutermost moats members before t h c
+
+-- where places stand when so many moats were gone through
+pub record AreStands (moats : List Moat) (places members before : ℕ) (stands : List Stand)
+    : Type 0 where
+  pub sized : length stands ≡ places
+  pub free : (t : ℕ) → slice_get stands t ≡ Some stand.Free → IsFree moats members before t
+  pub first : (t c : ℕ) → slice_get stands t ≡ Some (stand.First c)
+      → IsOutermost moats members before t t c
+  pub held : (t : ℕ) → t < places
+      → (slice_get stands t ≡ Some stand.Free) ⊎ IsFirst moats members before t stands
+
+-- the stands where these places are inside a moat
+abbrev pub covered : List Stand → List ℕ → List Stand
+covered stands [] = stands
+covered stands (t ∷ rest) = covered (slice_set stands t stand.Inside) rest
+
+-- the stands where a moat with that index is the outermost one around its members
+abbrev pub surrounded : List Stand → List ℕ → ℕ → List Stand
+surrounded stands members index =
+    slice_set (covered stands members) (slice_index members 0) (stand.First index)

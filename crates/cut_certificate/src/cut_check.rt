@@ -1,0 +1,132 @@
+ghost use Rattle.std.specs.Prelude.{◌≡◌, ◌+◌, ◌*◌, ◌-◌, ◌<◌, ◌≤◌, ◌^◌, ◌↔◌, All, IsOk, length};
+ghost use Rattle.cut_certificate.specs.CheckTables.{AreParities, ChecksCut, ChecksEach};
+ghost use Rattle.cut_certificate.specs.CutFaults.{AreNumbered, cuts_fault, stranger_fault, total_fault};
+ghost use Rattle.cut_certificate.specs.Cuts.{total_of as sum_of};
+ghost use Rattle.cut_certificate.specs.Faults.{Tells};
+ghost use Rattle.cut_certificate.specs.Packings.{IsPacking};
+ghost use Rattle.line_graph.specs.CutPieces.{graph_of};
+
+use crate::cut::Cut;
+use crate::faults::CutFault;
+use crate::held_junctions::{MAX_JUNCTIONS, count_odd, held_by, parities_of};
+use crate::line_loads::{add_shares, check_loads};
+use crate::slices::first_lent;
+use crate::stated_ends::is_odd;
+use line_graph::{MAX_LINES, Piece};
+
+/// Whether cuts are a packing of a piece with a total of twice the retraced cost, which is in
+/// steps. Else what is wrong with them, first: over the cuts in order a member that is no junction,
+/// then an even number of odd junctions; then over the lines in order one that carries too much;
+/// then the total.
+pub fn check_cuts(p: &Piece, retraced: u32, cuts: &[Cut]) -> Result<(), CutFault>
+    requires few { length cuts.now < 2 ^ 32 - 1 }
+    requires members { AreNumbered cuts.now }
+    ensures exact { IsOk result
+        ↔ (IsPacking (graph_of p.now) cuts.now × (sum_of cuts.now ≡ 2 * retraced)) }
+    ensures cause { Tells (cuts_fault (graph_of p.now) retraced cuts.now) result }
+{
+    first_fault(p, retraced, cuts)
+}
+
+fn first_fault(p: &Piece, retraced: u32, cuts: &[Cut]) -> Result<(), CutFault>
+    requires few { length cuts.now < 2 ^ 32 - 1 }
+    requires members { AreNumbered cuts.now }
+    ensures { Tells (cuts_fault (graph_of p.now) retraced cuts.now) result }
+{
+    let loads = loads_of(p, cuts)?;
+    match check_loads(p, &loads) {
+        Ok(()) => check_total(total_of(cuts), 2 * u64::from(retraced)),
+        Err(fault) => Err(fault),
+    }
+}
+
+/// What cuts load on the edges of a piece, by place.
+fn loads_of(p: &Piece, cuts: &[Cut]) -> Result<[u64; MAX_LINES], CutFault>
+    requires few { length cuts.now < 2 ^ 32 - 1 }
+    requires members { AreNumbered cuts.now }
+    ensures { ChecksEach (graph_of p.now) cuts.now result }
+{
+    let parities = parities_of(p);
+    let mut loads = [0; MAX_LINES];
+    let mut number = 1;
+    let mut rest = cuts;
+    while let Some((cut, after)) = first_lent(rest) {
+        let held = match check_cut(p, parities.as_slice(), number, cut) {
+            Ok(held) => held,
+            Err(fault) => return Err(fault),
+        };
+        add_shares(&mut loads, p.edges.as_slice(), &held, cut);
+        number += 1;
+        rest = after;
+    }
+    Ok(loads)
+}
+
+/// Looks for what is wrong with a cut, and else gives its members.
+fn check_cut(
+    p: &Piece,
+    parities: &[bool],
+    number: u32,
+    cut: &Cut,
+) -> Result<[bool; MAX_JUNCTIONS], CutFault>
+    requires parities { AreParities (graph_of p.now) parities.now }
+    requires members { All (λ j. j + 1 < 2 ^ 32) cut.now.members }
+    ensures { ChecksCut (graph_of p.now) number cut.now result }
+{
+    check_members(p.junctions.len(), number, cut.members.as_slice())?;
+    let held = held_by(cut.members.as_slice());
+    let odd = count_odd(&held, parities);
+    if is_odd(odd) {
+        Ok(held)
+    } else {
+        Err(CutFault::EvenCut { cut: number, odd })
+    }
+}
+
+fn check_members(count: usize, number: u32, members: &[u32]) -> Result<(), CutFault>
+    requires { All (λ j. j + 1 < 2 ^ 32) members.now }
+    ensures { Tells (stranger_fault count number members.now) result }
+{
+    let mut rest = members;
+    while let [j, after @ ..] = rest {
+        if *j as usize >= count {
+            return Err(CutFault::Stranger {
+                cut: number,
+                junction: *j + 1,
+            });
+        }
+        rest = after;
+    }
+    Ok(())
+}
+
+/// The weights of all cuts.
+fn total_of(cuts: &[Cut]) -> u64
+    requires { length cuts.now < 2 ^ 32 - 1 }
+    ensures { result ≡ sum_of cuts.now }
+{
+    let mut sum: u64 = 0;
+    let mut rest = cuts;
+    while let [cut, after @ ..] = rest {
+        sum += weight_of(cut);
+        rest = after;
+    }
+    sum
+}
+
+fn weight_of(cut: &Cut) -> u64
+    ensures value { result ≡ cut.now.weight }
+    ensures most { result ≤ 2 ^ 32 - 1 }
+{
+    u64::from(cut.weight)
+}
+
+fn check_total(sum: u64, needed: u64) -> Result<(), CutFault>
+    ensures { Tells (total_fault sum needed) result }
+{
+    if sum == needed {
+        Ok(())
+    } else {
+        Err(CutFault::Total { sum, needed })
+    }
+}

@@ -1,0 +1,11 @@
+ghost use Rattle.cut_certificate.specs.FaultLaws.{CutFaultsAreExact, WalkFaultsAreExact};
+
+/// A walk over a piece has no fault exactly where it fits.
+pub fn walk_faults_are_exact()
+    ensures { WalkFaultsAreExact }
+{}
+
+/// Cuts of a piece have none exactly where they are a packing with the total that is needed.
+pub fn cut_faults_are_exact()
+    ensures { CutFaultsAreExact }
+{}

@@ -1,0 +1,48 @@
+//! Packings of odd cuts, which prove walks least, and the certificates that have them.
+#![tactic(auto)]
+
+mod certificate;
+mod certificate_draft;
+mod certificate_laws;
+mod certificate_lines;
+mod certificate_reading;
+#[cfg(test)]
+mod certificate_tests;
+mod certificate_text;
+mod certificate_words;
+#[cfg(test)]
+mod check_tests;
+mod cut;
+mod cut_check;
+mod fault_laws;
+mod faults;
+mod held_junctions;
+mod laws;
+#[cfg(test)]
+mod lift_tests;
+mod lifting;
+mod line_loads;
+mod line_places;
+mod moat_cuts;
+mod moat_reaches;
+mod passed_lines;
+mod reach;
+mod slices;
+mod stand;
+mod stated_ends;
+mod walk_check;
+
+pub use certificate::{Cert, PieceCert, PieceCerts};
+pub use certificate_laws::{
+    pieces_have_one_text, said_pieces_can_be_spelled, the_limit_of_certificates,
+    the_line_told_is_the_first, the_text_of_pieces_says_them,
+};
+pub use certificate_reading::{CertFault, MAX_CERT, read_cert};
+pub use certificate_text::print_cert;
+pub use cut::{Cut, Cuts};
+pub use cut_check::check_cuts;
+pub use fault_laws::{cut_faults_are_exact, walk_faults_are_exact};
+pub use faults::{CutFault, WalkFault};
+pub use laws::{packings_bound_walks, packings_keep_their_total, packings_prove_least};
+pub use lifting::lift;
+pub use walk_check::check_walk;

@@ -1,0 +1,178 @@
+//! What lifting asks of moats, by plain programs.
+ghost use Rattle.std.specs.Prelude.{◌≡◌, ◌≢◌, ◌<◌, All, AllPairs, IsTrue, false, length};
+ghost use Rattle.blossom_match.specs.Matchings.{AreLaminar, IsOddMoat, LiesBeside, LiesIn, holds, load_on};
+ghost use Rattle.cut_certificate.specs.Cuts.{holds as is_held};
+ghost use Rattle.cut_certificate.specs.MoatFits.{KeepsLoads, KeepsLoadsFrom, LiesOut};
+
+use crate::slices::first_lent;
+use blossom_match::Moat;
+use odd_paths::Rows;
+
+/// Each of the moats has an odd number of different members below `places`, and a width.
+pub fn are_odd(places: usize, moats: &[Moat]) -> bool
+    ensures { IsTrue result → All (IsOddMoat places) moats.now }
+{
+    for m in moats {
+        if !is_odd(places, m) {
+            return false;
+        }
+    }
+    true
+}
+
+fn is_odd(places: usize, m: &Moat) -> bool
+    ensures { IsTrue result → IsOddMoat places m.now }
+{
+    if m.members.len() % 2 != 1 || m.width == 0 {
+        return false;
+    }
+    if !are_below(places, m.members.as_slice()) {
+        return false;
+    }
+    are_different(m.members.as_slice())
+}
+
+fn are_below(limit: usize, numbers: &[u32]) -> bool
+    ensures { IsTrue result → All (λ x. x < limit) numbers.now }
+{
+    for x in numbers {
+        if *x as usize >= limit {
+            return false;
+        }
+    }
+    true
+}
+
+fn are_different(numbers: &[u32]) -> bool
+    ensures { IsTrue result → AllPairs (λ x y. x ≢ y) numbers.now }
+{
+    let mut rest = numbers;
+    while let Some((x, after)) = first_lent(rest) {
+        if is_among(after, *x) {
+            return false;
+        }
+        rest = after;
+    }
+    true
+}
+
+fn is_among(numbers: &[u32], x: u32) -> bool
+    ensures { result ≡ is_held numbers.now x }
+{
+    numbers.contains(&x)
+}
+
+/// Two of the moats differ, and are nested or disjoint.
+pub fn are_laminar(moats: &[Moat]) -> bool
+    ensures { IsTrue result → AllPairs AreLaminar moats.now }
+{
+    let mut rest = moats;
+    while let Some((m, after)) = first_lent(rest) {
+        if !is_laminar_with(m, after) {
+            return false;
+        }
+        rest = after;
+    }
+    true
+}
+
+fn is_laminar_with(m: &Moat, others: &[Moat]) -> bool
+    ensures { IsTrue result → All (AreLaminar m.now) others.now }
+{
+    for k in others {
+        if !is_laminar(m, k) {
+            return false;
+        }
+    }
+    true
+}
+
+fn is_laminar(m: &Moat, k: &Moat) -> bool
+    ensures { IsTrue result → AreLaminar m.now k.now }
+{
+    if lies_in(m, k) {
+        return !lies_in(k, m);
+    }
+    lies_in(k, m) || lies_beside(m, k)
+}
+
+fn lies_in(m: &Moat, k: &Moat) -> bool
+    ensures told { IsTrue result → LiesIn m.now k.now }
+    ensures other { result ≡ false → LiesOut m.now k.now }
+{
+    let members = m.members.as_slice();
+    for x in members {
+        if !is_among(k.members.as_slice(), *x) {
+            return false;
+        }
+    }
+    true
+}
+
+fn lies_beside(m: &Moat, k: &Moat) -> bool
+    ensures { IsTrue result → LiesBeside m.now k.now }
+{
+    let members = m.members.as_slice();
+    for x in members {
+        if is_among(k.members.as_slice(), *x) {
+            return false;
+        }
+    }
+    true
+}
+
+/// No two places carry more than two halves for each step between them.
+pub fn keep_loads(rows: &Rows, terminals: &[u32], moats: &[Moat]) -> bool
+    requires sized { length rows.now.table ≡ length terminals.now }
+    requires few { length moats.now < 1000 }
+    ensures { IsTrue result → KeepsLoads rows.now terminals.now moats.now }
+{
+    for t in 0..terminals.len() {
+        if !keep_loads_from(rows, terminals, moats, t) {
+            return false;
+        }
+    }
+    true
+}
+
+fn keep_loads_from(rows: &Rows, terminals: &[u32], moats: &[Moat], t: usize) -> bool
+    requires there { t < length rows.now.table }
+    requires few { length moats.now < 1000 }
+    ensures { IsTrue result → KeepsLoadsFrom rows.now terminals.now moats.now t }
+{
+    for u in 0..terminals.len() {
+        let Some(cost) = rows.row(t).get(terminals[u] as usize) else {
+            return false;
+        };
+        if load(moats, t, u) > 2 * *cost as u64 {
+            return false;
+        }
+    }
+    true
+}
+
+/// The widths of the moats that hold exactly one of the places.
+fn load(moats: &[Moat], t: usize, u: usize) -> u64
+    requires { length moats.now < 1000 }
+    ensures { result ≡ load_on moats.now t u }
+{
+    let mut sum = 0;
+    for m in moats {
+        if holds_at(m, t) != holds_at(m, u) {
+            sum += m.width as u64;
+        }
+    }
+    sum
+}
+
+fn holds_at(m: &Moat, place: usize) -> bool
+    ensures { result ≡ holds m.now place }
+{
+    let members = m.members.as_slice();
+    for x in members {
+        if *x as usize == place {
+            return true;
+        }
+    }
+    false
+}

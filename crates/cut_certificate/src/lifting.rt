@@ -1,0 +1,34 @@
+ghost use Rattle.std.specs.Prelude.{◌<◌, ◌^◌, IfOk, length};
+ghost use Rattle.cut_certificate.specs.Lifts.{AreMoats, IsLifted};
+ghost use Rattle.line_graph.specs.CutPieces.{graph_of};
+
+use crate::cut::Cuts;
+use crate::moat_cuts::add_cuts;
+use crate::moat_reaches::reaches;
+use blossom_match::Moats;
+use design_model::Memory;
+use line_graph::Piece;
+use odd_paths::{Rows, least_costs_are_distances};
+use std::alloc::Global;
+
+/// A packing of odd cuts of the piece whose total is the sum of the widths: the moats of its odd
+/// junctions, each as cuts of the junctions that it reaches.
+pub fn lift(alloc: Global, p: &Piece, rows: &Rows, moats: &Moats) -> Result<Cuts, Memory>
+    requires moats { AreMoats (graph_of p.now) rows.now moats.now }
+    requires few { length moats.now < 2 ^ 31 }
+    ensures { IfOk result (IsLifted (graph_of p.now) moats.now) }
+{
+    least_costs_are_distances();
+    let mut cuts = Cuts::new(alloc);
+    let moats = moats.as_slice();
+    let reaches = reaches(alloc, rows, moats, p.junctions.len())?;
+    for index in 0..moats.len() {
+        add_cuts(
+            alloc,
+            reaches[index].as_slice(),
+            moats[index].width,
+            &mut cuts,
+        )?;
+    }
+    Ok(cuts)
+}

@@ -1,0 +1,74 @@
+ghost use Rattle.std.specs.Prelude.{◌≡◌, ℕ, ◌*◌, ◌+◌, ◌-◌, ◌<◌, ◌≤◌, ◌^◌, length, true};
+ghost use Rattle.cut_certificate.specs.CheckTables.{AddsShares, AreAtMost, AreHeld, share_of, sum_faults};
+ghost use Rattle.cut_certificate.specs.Faults.{Tells};
+ghost use Rattle.cut_certificate.specs.CutFaults.{load_fault};
+ghost use Rattle.line_graph.specs.KeptPieces.{ends_below};
+ghost use Rattle.line_graph.specs.declared.limits.TheConstants.{MAX_LINES as most_lines};
+
+use crate::cut::Cut;
+use crate::faults::CutFault;
+use crate::held_junctions::MAX_JUNCTIONS;
+use line_graph::{Edge, MAX_LINES, Piece};
+
+/// Adds to the load of each edge what it carries of a cut.
+pub(crate) fn add_shares(
+    loads: &mut [u64; MAX_LINES],
+    edges: &[Edge],
+    held: &[bool; MAX_JUNCTIONS],
+    cut: &Cut,
+)
+    requires held { AreHeld cut.now.members held.now }
+    requires few { length edges.now ≤ most_lines }
+    requires ends { ends_below (most_lines + 1) edges.now ≡ true }
+    requires room { AreAtMost (2 ^ 64 - 2 ^ 32) loads.old }
+    ensures shares { AddsShares cut.now edges.now loads.old loads.new }
+    ensures most { (most : ℕ) → AreAtMost most loads.old
+        → AreAtMost (most + (2 ^ 32 - 1)) loads.new }
+{
+    for at in 0..edges.len() {
+        loads[at] += share(held, cut, edges[at]);
+    }
+}
+
+/// What an edge carries of a cut.
+fn share(held: &[bool; MAX_JUNCTIONS], cut: &Cut, e: Edge) -> u64
+    requires held { AreHeld cut.now.members held.now }
+    requires first { e.a < most_lines + 1 }
+    requires last { e.b < most_lines + 1 }
+    ensures value { result ≡ share_of cut.now e }
+    ensures most { result ≤ 2 ^ 32 - 1 }
+{
+    if held[e.a as usize] != held[e.b as usize] {
+        u64::from(cut.weight)
+    } else {
+        0
+    }
+}
+
+/// Looks for a line that carries more than it may.
+pub(crate) fn check_loads(p: &Piece, loads: &[u64; MAX_LINES]) -> Result<(), CutFault>
+    ensures { Tells (sum_faults p.now.lines p.now.edges loads.now) result }
+{
+    let lines = p.lines.as_slice();
+    let edges = p.edges.as_slice();
+    for at in 0..lines.len() {
+        check_load(lines[at], loads[at], edges[at].cost)?;
+    }
+    Ok(())
+}
+
+fn check_load(line: u32, load: u64, cost: u32) -> Result<(), CutFault>
+    requires { line < most_lines }
+    ensures { Tells (load_fault line load cost) result }
+{
+    let allowed = 2 * u64::from(cost);
+    if load <= allowed {
+        Ok(())
+    } else {
+        Err(CutFault::Overload {
+            line: line + 1,
+            load,
+            allowed,
+        })
+    }
+}

@@ -1,0 +1,46 @@
+ghost use Rattle.std.specs.Prelude.{◌≡◌, get_or, slice_get};
+ghost use Rattle.cut_certificate.specs.CheckTables.{ArePlaces};
+ghost use Rattle.line_graph.specs.PieceWalks.{edge_of};
+
+use line_graph::{Edge, MAX_LINES, Piece};
+
+/// By index of a line, the place of its edge in the piece, or one where there is none.
+pub(crate) fn places_of(p: &Piece) -> [usize; MAX_LINES]
+    ensures { ArePlaces p.now.lines p.now.edges result }
+{
+    let lines = p.lines.as_slice();
+    let mut places = [MAX_LINES; MAX_LINES];
+    for at in 0..lines.len() {
+        places[lines[at] as usize] = at;
+    }
+    places
+}
+
+/// The edge of a line, if it is one of the piece's.
+pub(crate) fn find_edge(p: &Piece, places: &[usize; MAX_LINES], line: u32) -> Option<Edge>
+    requires { ArePlaces p.now.lines p.now.edges places.now }
+    ensures { result ≡ edge_of p.now.lines p.now.edges line }
+{
+    edge_at(p.edges.as_slice(), place_of(places, line))
+}
+
+fn place_of(places: &[usize; MAX_LINES], line: u32) -> usize
+    ensures { result ≡ get_or places.now line MAX_LINES }
+{
+    let line = line as usize;
+    if line < MAX_LINES {
+        places[line]
+    } else {
+        MAX_LINES
+    }
+}
+
+fn edge_at(edges: &[Edge], place: usize) -> Option<Edge>
+    ensures { result ≡ slice_get edges.now place }
+{
+    if place < edges.len() {
+        Some(edges[place])
+    } else {
+        None
+    }
+}

@@ -1,0 +1,55 @@
+ghost use Rattle.std.specs.Prelude.{◌≡◌, ◌+◌, ◌<◌, ◌≤◌, IfOk, OnOk, length};
+ghost use Rattle.cut_certificate.specs.MoatCuts.{AddsCuts, AreCutsTo, NoneBetween, members_from};
+ghost use Rattle.line_graph.specs.declared.limits.TheConstants.{MAX_LINES};
+
+use crate::cut::{Cut, Cuts};
+use design_model::{Memory, Numbers};
+use std::alloc::Global;
+
+/// Adds the cuts of a moat, whose junctions enter them at these levels.
+pub fn add_cuts(alloc: Global, levels: &[u32], width: u32, cuts: &mut Cuts) -> Result<(), Memory>
+    requires { length levels.now ≤ MAX_LINES + 1 }
+    ensures { OnOk result (AddsCuts (AreCutsTo levels.now width) cuts.old cuts.new) }
+{
+    let mut from = 0;
+    while from < width {
+        let next = next_level(levels, from, width);
+        let members = members_to(alloc, levels, from)?;
+        let weight = next - from;
+        cuts.push(Cut { weight, members })?;
+        from = next;
+    }
+    Ok(())
+}
+
+/// The least level above `from`, at most the width.
+fn next_level(levels: &[u32], from: u32, width: u32) -> u32
+    requires { from < width }
+    ensures more { from < result }
+    ensures most { result ≤ width }
+    ensures gap { NoneBetween from result levels.now }
+{
+    let mut next = width;
+    for level in levels {
+        next = next.min(if *level > from { *level } else { width });
+    }
+    next
+}
+
+/// The junctions whose level is no more than the limit.
+fn members_to(alloc: Global, levels: &[u32], limit: u32) -> Result<Numbers, Memory>
+    requires { length levels.now ≤ MAX_LINES + 1 }
+    ensures { IfOk result (λ members. members ≡ members_from 0 limit levels.now) }
+{
+    let mut members = Numbers::new(alloc);
+    let mut junction = 0;
+    let mut rest = levels;
+    while let [level, after @ ..] = rest {
+        if *level <= limit {
+            members.push(junction)?;
+        }
+        junction += 1;
+        rest = after;
+    }
+    Ok(members)
+}

@@ -1,0 +1,114 @@
+ghost use Rattle.std.specs.Prelude.{◌≡◌, ◌+◌, ◌%◌, ◌<◌, ◌≤◌, All, IfOk, OnOk, length};
+ghost use Rattle.blossom_match.specs.declared.matching.Moat.{Moat as MoatValue};
+ghost use Rattle.cut_certificate.specs.Levels.{site_of};
+ghost use Rattle.cut_certificate.specs.Reaches.{AreAllReaches, CanReach, HasReached};
+
+use crate::reach::reach_of;
+use crate::stand::{Stand, surround};
+use blossom_match::Moat;
+use design_model::Memory;
+use odd_paths::Rows;
+use std::alloc::Global;
+
+/// How places stand, and the reaches of moats, as far as these were gone through.
+#[derive(Drop)]
+struct Progress {
+    stands: Vec<Stand>,
+    reaches: Vec<Vec<u32>>,
+}
+
+/// The reaches of all moats, in their order.
+pub fn reaches(
+    alloc: Global,
+    rows: &Rows,
+    moats: &[Moat],
+    size: usize,
+) -> Result<Vec<Vec<u32>>, Memory>
+    requires { CanReach rows.now size moats.now }
+    ensures { IfOk result (λ all. AreAllReaches (site_of rows.now size moats.now) all.items) }
+{
+    let stands = vec![in alloc; Stand::Free; rows.len()]?;
+    let reaches = blank(alloc, moats.len())?;
+    let mut progress = Progress { stands, reaches };
+    for half in 0..most_members(moats) / 2 + 1 {
+        add_sized(alloc, rows, moats, size, 2 * half + 1, &mut progress)?;
+    }
+    let Progress { reaches, .. } = progress;
+    Ok(reaches)
+}
+
+/// Adds the reaches of the moats with so many members.
+fn add_sized(
+    alloc: Global,
+    rows: &Rows,
+    moats: &[Moat],
+    size: usize,
+    members: usize,
+    progress: &mut Progress,
+) -> Result<(), Memory>
+    requires can { CanReach rows.now size moats.now }
+    requires odd { members % 2 ≡ 1 }
+    requires progress { HasReached rows.now size moats.now members 0 progress.old }
+    ensures { OnOk result (HasReached rows.now size moats.now (members + 2) 0 progress.new) }
+{
+    for index in 0..moats.len() {
+        add(alloc, rows, moats, size, members, index, progress)?;
+    }
+    Ok(())
+}
+
+/// Adds the reach of a moat, if it has so many members.
+fn add(
+    alloc: Global,
+    rows: &Rows,
+    moats: &[Moat],
+    size: usize,
+    members: usize,
+    index: usize,
+    progress: &mut Progress,
+) -> Result<(), Memory>
+    requires can { CanReach rows.now size moats.now }
+    requires there { index < length moats.now }
+    requires progress { HasReached rows.now size moats.now members index progress.old }
+    ensures { OnOk result (HasReached rows.now size moats.now members (index + 1) progress.new) }
+{
+    let s = &moats[index];
+    if s.members.len() != members {
+        return Ok(());
+    }
+    let stands = progress.stands.as_slice();
+    let reach = reach_of(
+        alloc,
+        rows,
+        moats,
+        s,
+        size,
+        stands,
+        progress.reaches.as_slice(),
+    )?;
+    progress.reaches[index] = reach;
+    surround(&mut progress.stands, s.members.as_slice(), index);
+    Ok(())
+}
+
+/// So many empty reaches.
+fn blank(alloc: Global, count: usize) -> Result<Vec<Vec<u32>>, Memory>
+    ensures { IfOk result (λ reaches. length reaches.items ≡ count) }
+{
+    let mut reaches = Vec::with_capacity(alloc, count)?;
+    for _index in 0..count {
+        reaches.push(Vec::new(alloc))?;
+    }
+    Ok(reaches)
+}
+
+/// How many members the moat with the most members has.
+fn most_members(moats: &[Moat]) -> usize
+    ensures { All (λ (m : MoatValue). length m.members ≤ result) moats.now }
+{
+    let mut most = 0;
+    for m in moats {
+        most = m.members.len().max(most);
+    }
+    most
+}

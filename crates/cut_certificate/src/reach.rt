@@ -1,0 +1,105 @@
+ghost use Rattle.std.specs.Prelude.{ℕ, ◌≡◌, ◌-◌, ◌*◌, ◌<◌, ◌≤◌, ◌∷◌, [], IfOk, length, slice_index};
+ghost use Rattle.cut_certificate.specs.Levels.{site_of};
+ghost use Rattle.cut_certificate.specs.Reaches.{AreLeast, AreLowered, CanReach, HasWay, HaveWays, IsNext, IsReach};
+ghost use Rattle.line_graph.specs.declared.limits.TheConstants.{MAX_COST};
+
+use crate::stand::{Stand, stand_at};
+use blossom_match::Moat;
+use design_model::Memory;
+use line_graph::MAX_COST;
+use odd_paths::Rows;
+use std::alloc::Global;
+
+/// No junction is farther from a moat, in halves of a step.
+const FAR: u32 = 2 * MAX_COST;
+
+/// The reach of the next moat.
+pub fn reach_of(
+    alloc: Global,
+    rows: &Rows,
+    moats: &[Moat],
+    s: &Moat,
+    size: usize,
+    stands: &[Stand],
+    reaches: &[Vec<u32>],
+) -> Result<Vec<u32>, Memory>
+    requires can { CanReach rows.now size moats.now }
+    requires next { IsNext (site_of rows.now size moats.now) s.now stands.now reaches.now }
+    ensures { IfOk result (λ reach. IsReach (site_of rows.now size moats.now) s.now reach.items) }
+{
+    let mut reach = vec![in alloc; FAR; size]?;
+    lower_all(
+        &mut reach,
+        rows,
+        moats,
+        stands,
+        reaches,
+        s.members.as_slice(),
+    );
+    Ok(reach)
+}
+
+/// Lowers a reach by the ways from all of the places.
+fn lower_all(
+    reach: &mut [u32],
+    rows: &Rows,
+    moats: &[Moat],
+    stands: &[Stand],
+    reaches: &[Vec<u32>],
+    places: &[u32],
+)
+    requires can { CanReach rows.now (length reach.old) moats.now }
+    requires ways { HaveWays rows.now moats.now stands.now reaches.now places.now reach.old }
+    ensures size { length reach.new ≡ length reach.old }
+    ensures value { AreLowered rows.now moats.now stands.now reaches.now places.now reach.old reach.new }
+{
+    let mut rest = places;
+    while let [t, after @ ..] = rest {
+        lower(reach, rows, moats, stands, reaches, *t);
+        rest = after;
+    }
+}
+
+/// Lowers a reach by the way from a place.
+fn lower(
+    reach: &mut [u32],
+    rows: &Rows,
+    moats: &[Moat],
+    stands: &[Stand],
+    reaches: &[Vec<u32>],
+    t: u32,
+)
+    requires can { CanReach rows.now (length reach.old) moats.now }
+    requires way { HasWay rows.now (length reach.old) moats.now stands.now reaches.now t }
+    ensures size { length reach.new ≡ length reach.old }
+    ensures value { AreLowered rows.now moats.now stands.now reaches.now (t ∷ []) reach.old reach.new }
+{
+    match stand_at(stands, t) {
+        Stand::Free => lower_twice(reach, rows.row(t as usize)),
+        Stand::First(c) => lower_past(reach, reaches[c].as_slice(), moats[c].width),
+        Stand::Inside => {}
+    }
+}
+
+/// Lowers each number to twice the cost, where this is less.
+fn lower_twice(reach: &mut [u32], costs: &[u32])
+    requires size { length costs.now ≡ length reach.old }
+    requires low { (j : ℕ) → j < length costs.now → slice_index costs.now j ≤ MAX_COST }
+    ensures size { length reach.new ≡ length reach.old }
+    ensures value { AreLeast (λ j. 2 * slice_index costs.now j) reach.old reach.new }
+{
+    for j in 0..reach.len() {
+        reach[j] = (2 * costs[j]).min(reach[j]);
+    }
+}
+
+/// Lowers each number to that of an inner moat's reach less its width, where this is less.
+fn lower_past(reach: &mut [u32], inner: &[u32], width: u32)
+    requires size { length inner.now ≡ length reach.old }
+    ensures size { length reach.new ≡ length reach.old }
+    ensures value { AreLeast (λ j. slice_index inner.now j - width) reach.old reach.new }
+{
+    for j in 0..reach.len() {
+        reach[j] = inner[j].saturating_sub(width).min(reach[j]);
+    }
+}

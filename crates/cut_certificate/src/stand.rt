@@ -1,0 +1,43 @@
+ghost use Rattle.std.specs.Prelude.{◌≡◌, ◌<◌, ◌≤◌, All, Some, length, slice_get};
+ghost use Rattle.cut_certificate.specs.Stands.{covered, surrounded};
+
+/// Where a place stands among the moats that were gone through.
+#[derive(Clone, Copy, Debug, PartialEq, Eq)]
+pub enum Stand {
+    /// None of them holds it.
+    Free,
+    /// The outermost one that holds it has this index, and the place is its first member.
+    First(usize),
+    /// It is another member of the outermost one that holds it.
+    Inside,
+}
+
+/// Where a place stands.
+pub fn stand_at(stands: &[Stand], t: u32) -> Stand
+    requires { t < length stands.now }
+    ensures { slice_get stands.now t ≡ Some result }
+{
+    stands[t as usize]
+}
+
+/// Notes that the moat with that index is the outermost one around its members.
+pub fn surround(stands: &mut Vec<Stand>, members: &[u32], index: usize)
+    requires there { All (λ t. t < length stands.old.items) members.now }
+    requires some { 1 ≤ length members.now }
+    ensures { stands.new.items ≡ surrounded stands.old.items members.now index }
+{
+    cover(stands, members);
+    stands[members[0] as usize] = Stand::First(index);
+}
+
+fn cover(stands: &mut Vec<Stand>, members: &[u32])
+    requires { All (λ t. t < length stands.old.items) members.now }
+    ensures value { stands.new.items ≡ covered stands.old.items members.now }
+    ensures size { length stands.new.items ≡ length stands.old.items }
+{
+    let mut rest = members;
+    while let [t, after @ ..] = rest {
+        stands[*t as usize] = Stand::Inside;
+        rest = after;
+    }
+}

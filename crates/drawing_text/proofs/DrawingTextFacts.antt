@@ -1,0 +1,117 @@
+-- Worked values of drawing texts: drawings, and the first faults of texts.
+use Rattle.std.proofs.Common.{◌≡◌, ℕ, pos, negsuc, List, [], ◌∷◌, ◌++◌, Ok, Err, codes, refl}
+use Rattle.std.specs.List.{flat_map}
+use Rattle.line_graph.specs.declared.draw_kind.DrawKind.{DrawKind}
+use Rattle.line_graph.specs.declared.draw_kind.DrawKind.TheVariants as kind
+use Rattle.line_graph.specs.Drawings.{DrawingValue}
+use Rattle.drawing_text.specs.DrawingText.{drawing_of}
+use Rattle.drawing_text.specs.Words.{text_lines, without_return, words_in}
+use Rattle.drawing_text.proofs.SpellingFacts.{place}
+
+-- lines with their ends
+abbrev text : List (List ℕ) → List ℕ
+text lines = flat_map (λ line. line ++ 10 ∷ []) lines
+
+-- bytes behind the last line feed are a line, and an empty line is one
+pub known_lines : text_lines (codes "a" ++ 10 ∷ 10 ∷ codes "b") ≡ codes "a" ∷ [] ∷ codes "b" ∷ []
+known_lines = refl
+
+pub known_ended_lines : text_lines (codes "a" ++ 10 ∷ []) ≡ codes "a" ∷ []
+known_ended_lines = refl
+
+-- of two carriage returns one stays
+pub known_return : without_return (97 ∷ 13 ∷ 13 ∷ []) ≡ 97 ∷ 13 ∷ []
+known_return = refl
+
+-- spaces and tabs stand between words, and may stand at both ends
+pub known_words : words_in (32 ∷ 9 ∷ 97 ∷ 98 ∷ 32 ∷ 32 ∷ 99 ∷ 9 ∷ []) ≡ codes "ab" ∷ codes "c" ∷ []
+known_words = refl
+
+-- a square, and a line forth and back, in two blocks, with comments and signs as they may stand
+abbrev pub two_squares : DrawingValue
+two_squares = record {
+  label = [];
+  step = 30;
+  threads = 3 ∷ 9 ∷ [];
+  lines = record {
+    block = 0;
+    points = place (pos 0) (pos 0) ∷ place (pos 30) (pos 0) ∷ place (pos 30) (pos 30) ∷ place (pos 0) (pos 30)
+        ∷ place (pos 0) (pos 0) ∷ [];
+  } ∷ record {
+    block = 1;
+    points = place (pos 300) (pos 0) ∷ place (negsuc 29) (pos 0) ∷ place (pos 300) (pos 0) ∷ [];
+  } ∷ [];
+}
+
+pub known_drawing : drawing_of (text (codes "# squares" ∷ [] ∷ codes " redwork  1 " ∷ codes "step 030"
+    ∷ (codes "color 3" ++ 13 ∷ []) ∷ codes "line 0 0 30 0 30 30 0 30 0 -0" ∷ codes "color 9" ∷ [])
+    ++ codes "line 300 0 -30 0 300 0")
+    ≡ Ok two_squares
+known_drawing = refl
+
+-- the text of these lines has that fault first
+abbrev Tells : List (List ℕ) → ℕ → DrawKind → Type 0
+Tells lines number why = drawing_of (text lines) ≡ Err (record { number = number; kind = why })
+
+-- the header, compared as words: the first line that isn't passed over, or the one behind the text
+pub known_headers : Tells [] 1 kind.BadHeader
+    × Tells (codes "# a" ∷ [] ∷ []) 3 kind.BadHeader
+    × Tells (codes "redwork 01" ∷ []) 1 kind.BadHeader
+    × Tells ([] ∷ codes "redwork 1 2" ∷ []) 2 kind.BadHeader
+    × Tells (codes "redwork" ∷ []) 1 kind.BadHeader
+known_headers = (refl, refl, refl, refl, refl)
+
+-- behind the header
+abbrev Faults : List (List ℕ) → ℕ → DrawKind → Type 0
+Faults lines number why = Tells (codes "redwork 1" ∷ lines) number why
+
+-- a name is one word of printable signs, once, and before any block
+pub known_names : Faults (codes "name" ∷ []) 2 kind.BadWord
+    × Faults (codes "name a b" ∷ []) 2 kind.BadWord
+    × Faults (codes "name abcdefghijklmnopq" ∷ []) 2 kind.BadWord
+    × Faults ((codes "name " ++ 127 ∷ []) ∷ []) 2 kind.BadWord
+    × Faults ((codes "name a" ++ 13 ∷ 13 ∷ []) ∷ []) 2 kind.BadWord
+    × Faults (codes "name a" ∷ codes "name b" ∷ []) 3 kind.BadWord
+    × Faults (codes "color 1" ∷ codes "name a" ∷ []) 3 kind.BadWord
+known_names = (refl, refl, refl, refl, refl, refl, refl)
+
+-- a step is one number from 1 to 2047, once, and before any block
+pub known_steps : Faults (codes "step" ∷ []) 2 kind.BadWord
+    × Faults (codes "step 9" ∷ codes "step x" ∷ []) 3 kind.BadWord
+    × Faults (codes "color 1" ∷ codes "step 9" ∷ []) 3 kind.BadWord
+    × Faults (codes "step +5" ∷ []) 2 kind.BadNumber
+    × Faults (codes "step 0" ∷ []) 2 kind.OutOfRange
+    × Faults (codes "step 2048" ∷ []) 2 kind.OutOfRange
+    × Faults (codes "step 99999999999999999999" ∷ []) 2 kind.OutOfRange
+    × Faults (codes "step 9999999999999999999x" ∷ []) 2 kind.BadNumber
+known_steps = (refl, refl, refl, refl, refl, refl, refl, refl)
+
+-- an empty block is met at the next block or at the end, and told of where it was opened
+pub known_blocks : Faults (codes "color 1 2" ∷ []) 2 kind.BadWord
+    × Faults (codes "color 256" ∷ []) 2 kind.OutOfRange
+    × Faults (codes "color -1" ∷ []) 2 kind.OutOfRange
+    × Faults (codes "color 1" ∷ []) 2 kind.EmptyBlock
+    × Faults (codes "color 1" ∷ [] ∷ codes "color 2" ∷ []) 2 kind.EmptyBlock
+    × Faults (codes "color 1" ∷ codes "color x" ∷ []) 3 kind.BadNumber
+    × Faults (codes "color 1" ∷ codes "foo" ∷ []) 3 kind.BadWord
+    × Faults (codes "color 1" ∷ codes "line 0 0" ∷ codes "color 2" ∷ []) 3 kind.FewPoints
+    × Faults (codes "name a" ∷ []) 3 kind.NoBlock
+known_blocks = (refl, refl, refl, refl, refl, refl, refl, refl, refl)
+
+-- a line is judged to its end, from left to right
+pub known_strokes : Faults (codes "line 0 0 x" ∷ []) 2 kind.NoBlock
+    × Faults (codes "color 1" ∷ codes "line" ∷ []) 3 kind.FewPoints
+    × Faults (codes "color 1" ∷ codes "line 0 0 1" ∷ []) 3 kind.FewPoints
+    × Faults (codes "color 1" ∷ codes "line 0 0 0 0 1" ∷ []) 3 kind.FewPoints
+    × Faults (codes "color 1" ∷ codes "line 30001 x" ∷ []) 3 kind.OutOfRange
+    × Faults (codes "color 1" ∷ codes "line x -30001" ∷ []) 3 kind.BadNumber
+    × Faults (codes "color 1" ∷ codes "line 0 0 0 0 0 x" ∷ []) 3 kind.BadNumber
+    × Faults (codes "color 1" ∷ codes "line 1 2 01 2" ∷ []) 3 kind.RepeatedPoint
+    × Faults (codes "color 1" ∷ codes "line 0 0 1 1 #" ∷ []) 3 kind.BadNumber
+known_strokes = (refl, refl, refl, refl, refl, refl, refl, refl, refl)
+
+-- seven lines of 30000 steps each; the last is one too many
+pub known_cost : Faults (codes "step 1" ∷ codes "color 1" ∷ codes "line 0 0 30000 0" ∷ codes "line 0 0 30000 0"
+    ∷ codes "line 0 0 30000 0" ∷ codes "line 0 0 30000 0" ∷ codes "line 0 0 30000 0" ∷ codes "line 0 0 30000 0"
+    ∷ codes "line 0 0 30000 0" ∷ []) 10 kind.TooMuchCost
+known_cost = refl

@@ -1,0 +1,10 @@
+mod Shapes
+mod SpellingFacts
+mod WordLemmas
+mod PointWordLemmas
+mod SpelledWords
+mod SpelledNumbers
+mod SpelledBlocks
+mod SpelledLines
+mod SpelledDrawings
+mod DrawingTextFacts

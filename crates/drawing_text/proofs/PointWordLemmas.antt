@@ -1,0 +1,42 @@
+-- The points that words spell, taken one after another.
+use Rattle.std.proofs.Common.{◌≡◌, ◌≤◌, ℕ, ℤ, unsigned_abs, arith, List, [], ◌∷◌, ◌++◌, Result, Ok, Err, All, ap, sym, ◌∙◌, refl, append_assoc}
+use Rattle.design_model.specs.declared.point.Point.{Point}
+use Rattle.std.proofs.lemmas.Bool.Decides.{nat_tests}
+use Rattle.std.proofs.lemmas.List.Elements.{All-push}
+use Rattle.design_model.specs.declared.point.TheConstants.{NEEDLE_LIMIT}
+use Rattle.step_splitter.specs.Chains.{IsNeedlePoint}
+use Rattle.design_model.specs.WholeNumbers.{whole_of}
+use Rattle.line_graph.specs.declared.draw_kind.DrawKind.{DrawKind}
+use Rattle.line_graph.specs.Growing.{and_then}
+use Rattle.drawing_text.specs.TextLines.{coordinate_in, points_in}
+use Rattle.drawing_text.specs.Words.{words_in}
+
+-- these points, and then those that come
+abbrev pub behind : List Point → Result (List Point) DrawKind → Result (List Point) DrawKind
+behind points rest = and_then rest (λ more. Ok (points ++ more))
+
+-- one point, and then those that come
+behind_one : (points : List Point) (p : Point) (rest : Result (List Point) DrawKind)
+    → behind points (and_then rest (λ more. Ok (p ∷ more))) ≡ behind (points ++ p ∷ []) rest
+behind_one points p (Ok more) = ap (λ list. Ok list) (sym (append_assoc points (p ∷ []) more))
+behind_one points p (Err why) = refl
+
+-- the words so far spell these points, and the rest goes on
+pub record GoesOn (words rest : List ℕ) (points : List Point) : Type 0 where
+  pub spelled : points_in (words_in words) ≡ behind points (points_in (words_in rest))
+
+-- two words more are one point more
+pub point_read : (words rest after more x y : List ℕ) (points : List Point) (across down : ℤ) → GoesOn words rest points
+    → words_in rest ≡ x ∷ words_in after → words_in after ≡ y ∷ words_in more
+    → coordinate_in (whole_of x) ≡ Ok across → coordinate_in (whole_of y) ≡ Ok down
+    → GoesOn words more (points ++ record { x = across; y = down } ∷ [])
+point_read words rest after more x y points across down goes first second left right = record {
+  spelled = goes.spelled ∙ (rw (first, second, left, right) (behind_one points (record { x = across; y = down }) (points_in (words_in more))));
+}
+
+-- and a needle may go down there
+pub point_in_range : (points : List Point) (across down : ℤ) → All IsNeedlePoint points
+    → unsigned_abs across ≤ NEEDLE_LIMIT → unsigned_abs down ≤ NEEDLE_LIMIT
+    → All IsNeedlePoint (points ++ record { x = across; y = down } ∷ [])
+point_in_range points across down in_range left right =
+    All-push IsNeedlePoint points (record { x = across; y = down }) in_range (grind (arith, nat_tests))

@@ -1,0 +1,26 @@
+-- A worked value of the plain spelling.
+use Rattle.std.proofs.Common.{◌≡◌, ℤ, pos, negsuc, [], ◌∷◌, ◌++◌, codes, refl}
+use Rattle.std.specs.Fmt.{digits}
+use Rattle.design_model.specs.declared.point.Point.{Point}
+use Rattle.line_graph.specs.Drawings.{DrawingValue}
+use Rattle.drawing_text.specs.Spelling.{plain_spelling}
+
+abbrev pub place : ℤ → ℤ → Point
+place x y = record { x = x; y = y }
+
+-- two strokes in two blocks
+abbrev pub strokes : DrawingValue
+strokes = record {
+  label = codes "ab";
+  step = 25;
+  threads = 5 ∷ 0 ∷ [];
+  lines = record { block = 0; points = place (pos 0) (pos 0) ∷ place (negsuc 2) (pos 4) ∷ [] }
+      ∷ record { block = 1; points = place (pos 10) (pos 2) ∷ place (pos 3) (pos 4) ∷ [] } ∷ [];
+}
+
+-- its text has a line for the label, the step, and each block and stroke
+pub known_spelling : plain_spelling strokes
+    ≡ codes "redwork 1" ++ 10 ∷ (codes "name ab" ++ 10 ∷ (codes "step 25" ++ 10 ∷ (codes "color 5"
+    ++ 10 ∷ (codes "line 0 0 -3 4" ++ 10 ∷ (codes "color 0" ++ 10 ∷ (codes "line 10 2 3 4" ++ 10 ∷ []))))))
+unfolding digits
+known_spelling = refl

@@ -1,0 +1,5 @@
+use Rattle.drawing_text.proofs.SpelledDrawings.{spelling_read}
+use Rattle.drawing_text.proofs.laws.the_plain_spelling_says.Goals as goal
+
+pub returns : goal.returns
+returns c d keeps = spelling_read d keeps

@@ -1,0 +1,15 @@
+use Rattle.std.proofs.Common.{◌≡◌, ◌+◌, ◌≤◌, length}
+use Rattle.drawing_text.specs.DrawingText.{drawn_after}
+use Rattle.drawing_text.specs.TextLines.{first_draft}
+use Rattle.drawing_text.specs.Words.{words_by_line}
+use Rattle.drawing_text.proofs.reading.read_body.Given as goal
+
+-- the lines so far say the draft, so all depends on it and on those that are left
+abbrev pub invariant-loop-line : goal.invariant-loop-line
+invariant-loop-line l = record {
+  read : drawn_after l.first first_draft (words_by_line l.text) ≡ drawn_after l.number l.draft (words_by_line l.rest);
+  early : l.number + length l.rest ≤ 67108865;
+}
+
+abbrev pub decreases-loop-line : goal.decreases-loop-line
+decreases-loop-line l = length l.rest

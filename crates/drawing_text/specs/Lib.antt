@@ -1,0 +1,9 @@
+-- words of the crate below that public clauses cite
+pub use Rattle.line_graph.specs.Drawings
+pub use Rattle.line_graph.specs.Growing
+pub mod Limits
+pub mod Words
+pub mod Spelling
+pub mod TextLines
+-- read this one first: the drawing that a text says, or its first fault
+pub mod DrawingText

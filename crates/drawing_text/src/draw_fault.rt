@@ -1,0 +1,24 @@
+ghost use Rattle.std.specs.Prelude.{◌≡◌};
+ghost use Rattle.drawing_text.specs.DrawingText.{told_at as fault_told_at};
+
+use line_graph::DrawKind;
+
+/// The first fault of a drawing text, and the number of the text line that it is told of. Text lines
+/// count from 1; with `Memory` the number is 0.
+#[derive(Clone, Copy, Debug, PartialEq, Eq)]
+pub struct DrawFault {
+    pub number: u32,
+    pub kind: DrawKind,
+}
+
+/// The fault with the number of the text line that it is told of.
+pub fn told_at(number: u32, opened: u32, kind: DrawKind) -> DrawFault
+    ensures { result ≡ fault_told_at number opened kind }
+{
+    let number = match kind {
+        DrawKind::EmptyBlock => opened,
+        DrawKind::Memory => 0,
+        _ => number,
+    };
+    DrawFault { number, kind }
+}

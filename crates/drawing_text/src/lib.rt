@@ -1,0 +1,21 @@
+//! The text of drawings: the drawing that a text says, or the first fault of the text, and the plain
+//! spelling of a drawing.
+#![tactic(auto)]
+
+mod draft;
+mod draw_fault;
+mod laws;
+mod limits;
+mod number_words;
+mod point_words;
+mod reading;
+mod spelling;
+#[cfg(test)]
+mod tests;
+mod text_words;
+
+pub use draw_fault::DrawFault;
+pub use laws::{the_limit_of_texts, the_plain_spelling_says};
+pub use limits::MAX_TEXT;
+pub use reading::read_drawing;
+pub use spelling::print_drawing;

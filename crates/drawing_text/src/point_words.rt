@@ -1,0 +1,30 @@
+ghost use Rattle.std.specs.Prelude.{All, IfOk};
+ghost use Rattle.step_splitter.specs.Chains.{IsNeedlePoint};
+ghost use Rattle.line_graph.specs.Growing.{Answers};
+ghost use Rattle.drawing_text.specs.TextLines.{points_in};
+ghost use Rattle.drawing_text.specs.Words.{words_in};
+
+use crate::number_words::coordinate;
+use crate::text_words::next_word;
+use design_model::{Point, Points};
+use line_graph::DrawKind;
+use std::alloc::Global;
+
+/// The points whose coordinates the words of a line spell.
+pub fn points_of_words(alloc: Global, words: &[u8]) -> Result<Points, DrawKind>
+    ensures value { Answers (points_in (words_in words.now)) result }
+    ensures in_range { IfOk result (λ points. All IsNeedlePoint points) }
+{
+    let mut points = Points::new(alloc);
+    let mut rest = words;
+    while let Some((x, after)) = next_word(rest) {
+        let across = coordinate(x)?;
+        let Some((y, more)) = next_word(after) else {
+            return Err(DrawKind::FewPoints);
+        };
+        let down = coordinate(y)?;
+        points.push(Point { x: across, y: down })?;
+        rest = more;
+    }
+    Ok(points)
+}

@@ -1,0 +1,120 @@
+ghost use Rattle.std.specs.Prelude.{◌≡◌, ◌<◌, ◌≤◌, ◌∷◌, [], None, bytes_eq, drop, length, IfSome, IfNone};
+ghost use Rattle.std.specs.List.{position_or_len};
+ghost use Rattle.drawing_text.specs.Words.{is_blank as is_a_blank, is_comment as begins_comment, is_line_feed, is_solid, only_word as only_of_words, text_lines, without_return as line_without_return, words_in};
+
+/// The first line of a text without its end, and the text behind it.
+pub fn next_line(text: &[u8]) -> Option<(&[u8], &[u8])>
+    ensures some { IfSome result (λ r. text_lines text.now ≡ r.0.now ∷ text_lines r.1.now) }
+    ensures shorter { IfSome result (λ r. length r.1.now < length text.now) }
+    ensures none { IfNone result (text_lines text.now ≡ []) }
+{
+    if text.is_empty() {
+        return None;
+    }
+    let (line, after) = text.split_at(line_end(text));
+    Some((line, behind_first(after)))
+}
+
+fn line_end(text: &[u8]) -> usize
+    ensures value { result ≡ position_or_len is_line_feed text.now }
+    ensures within { result ≤ length text.now }
+{
+    for (index, byte) in text.iter().enumerate() {
+        if *byte == b'\n' {
+            return index;
+        }
+    }
+    text.len()
+}
+
+fn behind_first(bytes: &[u8]) -> &[u8]
+    ensures { result.now ≡ drop 1 bytes.now }
+{
+    match bytes {
+        [_, rest @ ..] => rest,
+        [] => bytes,
+    }
+}
+
+/// A line without the carriage return that ends it, where there is one.
+pub fn without_return(line: &[u8]) -> &[u8]
+    ensures { result.now ≡ line_without_return line.now }
+{
+    let [before @ .., last] = line else {
+        return line;
+    };
+    if *last == b'\r' { before } else { line }
+}
+
+/// The first word of a line, and the line behind it.
+pub fn next_word(line: &[u8]) -> Option<(&[u8], &[u8])>
+    ensures some { IfSome result (λ r. words_in line.now ≡ r.0.now ∷ words_in r.1.now) }
+    ensures shorter { IfSome result (λ r. length r.1.now < length line.now) }
+    ensures none { IfNone result (words_in line.now ≡ []) }
+{
+    let (_, from) = line.split_at(word_start(line));
+    if from.is_empty() {
+        return None;
+    }
+    let (word, rest) = from.split_at(word_end(from));
+    Some((word, rest))
+}
+
+fn word_start(line: &[u8]) -> usize
+    ensures value { result ≡ position_or_len is_solid line.now }
+    ensures within { result ≤ length line.now }
+{
+    for (index, byte) in line.iter().enumerate() {
+        if !is_blank(*byte) {
+            return index;
+        }
+    }
+    line.len()
+}
+
+fn word_end(from: &[u8]) -> usize
+    ensures value { result ≡ position_or_len is_a_blank from.now }
+    ensures within { result ≤ length from.now }
+{
+    for (index, byte) in from.iter().enumerate() {
+        if is_blank(*byte) {
+            return index;
+        }
+    }
+    from.len()
+}
+
+fn is_blank(byte: u8) -> bool
+    ensures { result ≡ is_a_blank byte }
+{
+    byte == b' ' || byte == b'\t'
+}
+
+/// The only word of a line, if it has one word.
+pub fn only_word(line: &[u8]) -> Option<&[u8]>
+    ensures some { IfSome result (λ word. words_in line.now ≡ word.now ∷ []) }
+    ensures none { IfNone result (only_of_words (words_in line.now) ≡ None) }
+{
+    let (word, rest) = next_word(line)?;
+    match next_word(rest) {
+        None => Some(word),
+        Some(_) => None,
+    }
+}
+
+/// Says whether a word begins a comment.
+pub fn is_comment(word: &[u8]) -> bool
+    ensures { result ≡ begins_comment word.now }
+{
+    match word {
+        [first, ..] => *first == b'#',
+        [] => false,
+    }
+}
+
+/// Says whether a word is this text.
+pub fn spells(word: &[u8], text: &str) -> bool
+    ensures { result ≡ bytes_eq word.now text.now }
+{
+    word == text.as_bytes()
+}

@@ -1,0 +1,18 @@
+-- The limits of the format. Moves are in tenths of a millimetre, the header in bytes.
+use Rattle.std.proofs.Common.{◌≡◌, refl}
+use Rattle.dst_codec.specs.declared.dst.TheConstants.{LIMIT, MAX_FLOAT_HOPS, MAX_STOPS}
+use Rattle.dst_codec.specs.declared.header.TheConstants.{HEADER_LENGTH}
+
+-- how far a record moves on each axis
+pub known_move : LIMIT ≡ 121
+known_move = refl
+
+-- the jumps of a float, the stops of a file, and its header
+pub known_float : MAX_FLOAT_HOPS ≡ 3
+known_float = refl
+
+pub known_stops : MAX_STOPS ≡ 999
+known_stops = refl
+
+pub known_header : HEADER_LENGTH ≡ 512
+known_header = refl

@@ -1,0 +1,54 @@
+-- Worked values of the ends of lines, and of lines that are left.
+use Rattle.std.proofs.Common.{◌≡◌, true, false, [], ◌∷◌, None, Some, refl}
+use Rattle.euler_tour.specs.LeftLines.{ends_left, left_sum, less_at, one_of, times_of}
+use Rattle.euler_tour.specs.LineEnds.{junction_across, junction_at, pass_from, pass_to}
+use Rattle.euler_tour.proofs.TourFacts.{edge, others_again}
+use Rattle.line_graph.specs.declared.edge.Edge.{Edge}
+use Rattle.line_graph.specs.PieceWalks.{cost_of}
+use Rattle.std.proofs.Common.{List}
+
+-- a line from junction 4 to junction 7, one from there to junction 5
+abbrev pub path : List Edge
+path = edge 4 7 3 ∷ edge 7 5 10 ∷ []
+
+-- the ends of the first line have the indexes 0 and 1, those of the second 2 and 3
+pub known_first_end : junction_at path 0 ≡ Some 4
+known_first_end = refl
+
+pub known_last_end : junction_at path 3 ≡ Some 5
+known_last_end = refl
+
+pub known_no_end : junction_at path 4 ≡ None
+known_no_end = refl
+
+pub known_other_end : junction_across path 0 ≡ Some 7
+known_other_end = refl
+
+pub known_other_end_back : junction_across path 3 ≡ Some 7
+known_other_end_back = refl
+
+-- the pass that starts at the last end goes back along the second line, the one that ends there forth
+pub known_pass_from : pass_from (20 ∷ 31 ∷ []) 3 ≡ record { line = 31; back = true }
+known_pass_from = refl
+
+pub known_pass_to : pass_to (20 ∷ 31 ∷ []) 3 ≡ record { line = 31; back = false }
+known_pass_to = refl
+
+-- what is left of lines and ends
+pub known_times : times_of others_again ≡ 1 ∷ 4 ∷ 3 ∷ []
+known_times = refl
+
+pub known_less : less_at (1 ∷ 4 ∷ 3 ∷ []) 1 ≡ 1 ∷ 3 ∷ 3 ∷ []
+known_less = refl
+
+pub known_ends_left : ends_left path (2 ∷ 1 ∷ []) 7 ≡ 3
+known_ends_left = refl
+
+pub known_ends_left_at_one : ends_left path (2 ∷ 1 ∷ []) 4 ≡ 2
+known_ends_left_at_one = refl
+
+pub known_cost_left : left_sum cost_of path (2 ∷ 1 ∷ []) ≡ 16
+known_cost_left = refl
+
+pub known_count_left : left_sum one_of path (2 ∷ 1 ∷ []) ≡ 3
+known_count_left = refl

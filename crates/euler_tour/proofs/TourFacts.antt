@@ -1,0 +1,190 @@
+-- Worked values of copies and tours.
+use Rattle.std.proofs.Common.{◌≡◌, ◌<◌, ◌≤◌, ◌+◌, ◌*◌, ◌%◌, ◌==◌, ℕ, zero, suc, Bool, true, false, List, [], ◌∷◌, Option, None, Some, arith, get_or, pos, refl, sym}
+use Rattle.design_model.specs.declared.point.Point.{Point}
+use Rattle.design_model.specs.Points.{is_same_point}
+use Rattle.line_graph.specs.declared.edge.Edge.{Edge}
+use Rattle.line_graph.specs.declared.pass.Pass.{Pass}
+use Rattle.line_graph.specs.KeptPieces.{KeepsPiece, is_below}
+use Rattle.line_graph.specs.PieceGraphs.{PieceValue, bit, degree}
+use Rattle.line_graph.specs.PieceWalks.{leads, passes}
+use Rattle.euler_tour.specs.Tours.{CanPass, IsTour, copies_cost, pass_count, pass_ends}
+
+abbrev pub edge : (a b cost : ℕ) → Edge
+edge a b cost = record { a = a; b = b; cost = cost }
+
+-- three lines from one junction to another
+abbrev pub lens : List Edge
+lens = edge 0 1 1 ∷ edge 0 1 2 ∷ edge 0 1 5 ∷ []
+
+abbrev pub at : ℕ → Point
+at x = record { x = pos x; y = pos 0 }
+
+-- the piece of these lines, between a start and an end
+abbrev pub between : (start end : Option ℕ) → PieceValue
+between start end = record {
+  block = 0;
+  lines = 0 ∷ 1 ∷ 2 ∷ [];
+  junctions = at 0 ∷ at 10 ∷ [];
+  edges = lens;
+  degrees = 3 ∷ 3 ∷ [];
+  start = start;
+  end = end;
+}
+
+-- it keeps what each piece keeps
+pub keeps_between : (start end : Option ℕ) → is_below 2 start ≡ true → is_below 2 end ≡ true → KeepsPiece (between start end)
+keeps_between start end start_below end_below = record {
+  some = omega arith;
+  few = omega arith;
+  beside = refl;
+  rising = refl;
+  lines_below = refl;
+  different = different;
+  junctions_few = omega arith;
+  ends = refl;
+  met = met;
+  joined = λ set. λ none. joined set (none 0 (edge 0 1 1) refl);
+  counted = refl;
+  costs = refl;
+  cost_few = omega arith;
+  start_below = start_below;
+  end_below = end_below;
+}
+  where
+    different : (i j : ℕ) (d : Point) → i < j → j < 2
+        → is_same_point (get_or (at 0 ∷ at 10 ∷ []) i d) (get_or (at 0 ∷ at 10 ∷ []) j d) ≡ false
+    different i zero d low below = absurd (omega arith)
+    different zero (suc zero) d low below = refl
+    different (suc i) (suc zero) d low below = absurd (omega arith)
+    different i (suc (suc j)) d low below = absurd (omega arith)
+
+    met : (j : ℕ) → j < 2 → 1 ≤ degree lens j
+    met zero below = omega arith
+    met (suc zero) below = omega arith
+    met (suc (suc j)) below = absurd (omega arith)
+
+    joined : (set : ℕ → Bool) → set 0 ≡ set 1 → (i j : ℕ) → i < 2 → j < 2 → set i ≡ set j
+    joined set one zero zero a b = refl
+    joined set one zero (suc zero) a b = one
+    joined set one (suc zero) zero a b = sym one
+    joined set one (suc zero) (suc zero) a b = refl
+    joined set one (suc (suc i)) j a b = absurd (omega arith)
+    joined set one i (suc (suc j)) a b = absurd (omega arith)
+
+abbrev pub closed : PieceValue
+closed = between None None
+
+abbrev pub forth : ℕ → Pass
+forth line = record { line = line; back = false }
+
+abbrev pub back : ℕ → Pass
+back line = record { line = line; back = true }
+
+-- a copy of the first line, and copies of the others
+abbrev pub first_again : List ℕ
+first_again = 1 ∷ 0 ∷ 0 ∷ []
+
+abbrev pub others_again : List ℕ
+others_again = 0 ∷ 3 ∷ 2 ∷ []
+
+abbrev pub none_again : List ℕ
+none_again = 0 ∷ 0 ∷ 0 ∷ []
+
+-- four ends of passes are at each of the two junctions: two of the first line's passes, one of each other's
+pub known_ends : pass_ends lens first_again 0 ≡ 4
+known_ends = refl
+
+pub known_ends_beyond : pass_ends lens first_again 1 ≡ 4
+known_ends_beyond = refl
+
+pub known_ends_elsewhere : pass_ends lens first_again 2 ≡ 0
+known_ends_elsewhere = refl
+
+pub known_ends_of_others : pass_ends lens others_again 1 ≡ 8
+known_ends_of_others = refl
+
+-- a line that ends where it begins has two ends there
+pub known_ends_of_a_loop : pass_ends (edge 0 1 1 ∷ edge 1 1 3 ∷ []) (0 ∷ 1 ∷ []) 1 ≡ 5
+known_ends_of_a_loop = refl
+
+-- copies alone, and not each line's first pass
+pub known_cost : copies_cost lens first_again ≡ 1
+known_cost = refl
+
+pub known_cost_of_others : copies_cost lens others_again ≡ 16
+known_cost_of_others = refl
+
+pub known_count : pass_count first_again ≡ 4
+known_count = refl
+
+pub known_count_of_others : pass_count others_again ≡ 8
+known_count_of_others = refl
+
+-- a closed walk can pass the lines so often, and these four passes are one
+pub known_can : CanPass closed first_again
+known_can = record {
+  beside = refl;
+  even = λ j. four (bit (0 == j)) (bit (1 == j));
+  few = omega arith;
+}
+  where
+    four : (x y : ℕ) → (0 + ((1 + 1) * (x + y) + ((0 + 1) * (x + y) + ((0 + 1) * (x + y) + 0)))) % 2 ≡ 0
+    four x y = omega arith
+
+pub known_tour : IsTour closed first_again (forth 0 ∷ back 1 ∷ forth 2 ∷ back 0 ∷ [])
+known_tour = record {
+  led = refl;
+  covered = refl;
+  counts = each;
+  begins = λ none. refl;
+  costs = refl;
+  long = refl;
+}
+  where
+    each : (k : ℕ) → k < 3 → passes (get_or closed.lines k 0) (forth 0 ∷ back 1 ∷ forth 2 ∷ back 0 ∷ []) ≡ get_or first_again k 0 + 1
+    each zero below = refl
+    each (suc zero) below = refl
+    each (suc (suc zero)) below = refl
+    each (suc (suc (suc k))) below = absurd (omega arith)
+
+-- each line once is no closed walk, but it is one from one junction to the other
+pub known_cannot : CanPass closed none_again → ⊥
+known_cannot can = odd _ refl (can.even 0)
+  where
+    odd : (n : ℕ) → n ≡ 1 → n ≡ 0 → ⊥
+    odd n one none = omega (arith, one, none)
+
+pub known_open : leads closed (forth 0 ∷ back 1 ∷ forth 2 ∷ []) ≡ false
+known_open = refl
+
+pub known_way : leads (between (Some 0) (Some 1)) (forth 0 ∷ back 1 ∷ forth 2 ∷ []) ≡ true
+known_way = refl
+
+pub known_way_back : leads (between (Some 1) (Some 0)) (forth 0 ∷ back 1 ∷ forth 2 ∷ []) ≡ false
+known_way_back = refl
+
+-- where one junction is said, it is start and end
+pub known_start : leads (between (Some 1) None) (back 0 ∷ forth 1 ∷ back 2 ∷ forth 0 ∷ []) ≡ true
+known_start = refl
+
+pub known_end : leads (between None (Some 1)) (forth 0 ∷ back 1 ∷ forth 2 ∷ back 0 ∷ []) ≡ false
+known_end = refl
+
+-- a tour passes each line as often as is said, and begins with the first line, forwards
+pub known_no_tour : IsTour closed first_again (forth 0 ∷ back 2 ∷ forth 2 ∷ back 1 ∷ []) → ⊥
+known_no_tour tour = once _ refl (tour.counts 0 (omega arith))
+  where
+    once : (n : ℕ) → n ≡ 1 → n ≡ 2 → ⊥
+    once n one two = omega (arith, one, two)
+
+pub known_no_begin : IsTour closed first_again (back 0 ∷ forth 1 ∷ back 2 ∷ forth 0 ∷ []) → ⊥
+known_no_begin tour = turned (tour.begins refl)
+  where
+    turned : back 0 ≡ forth 0 → ⊥
+    turned is = cc
+
+pub known_no_first : IsTour closed first_again (forth 1 ∷ back 0 ∷ forth 2 ∷ back 0 ∷ []) → ⊥
+known_no_first tour = other (tour.begins refl)
+  where
+    other : forth 1 ≡ forth 0 → ⊥
+    other is = cc

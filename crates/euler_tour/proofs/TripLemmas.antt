@@ -1,0 +1,336 @@
+-- What a tour in the making keeps, at each step.
+use Rattle.std.proofs.Common.{◌≡◌, ◌≤◌, ◌<◌, inl, inr, ℕ, zero, suc, ◌+◌, ◌*◌, ◌/◌, ◌%◌, ◌==◌, Bool, true, false, cond, not, List, [], ◌∷◌, ◌++◌, map, length, get_or, set, slice_get, sum_by, Option, Some, None, arith, refl, sym, ◌∙◌, ap, subst, length-append}
+use Rattle.std.proofs.lemmas.List.{map-append}
+use Rattle.std.proofs.lemmas.List.Sums.{sum_by-set}
+use Rattle.std.proofs.lemmas.Option.{slice_get_within}
+use Rattle.line_graph.specs.declared.edge.Edge.{Edge}
+use Rattle.line_graph.specs.declared.pass.Pass.{Pass}
+use Rattle.line_graph.specs.PieceGraphs.{bit, is_odd}
+use Rattle.line_graph.specs.PieceWalks.{after_edge, after_pass, edge_of, edge_start, end_of, of_edge, pass_sum, passes, rises, start_of, walk_on}
+use Rattle.euler_tour.specs.LeftLines.{ends_at, ends_left, left_sum, less_at, one_of}
+use Rattle.euler_tour.specs.LineEnds.{junction_across, junction_at, pass_from, pass_to}
+use Rattle.euler_tour.specs.Trips.{IsDone, Keeps}
+use Rattle.euler_tour.proofs.EndLemmas.{started}
+use Rattle.euler_tour.proofs.LeftLemmas.{count_step, left_less}
+use Rattle.euler_tour.proofs.WalkLemmas.{bit_self, edge_at, eq_self, pass_sum_push, passes_push, same, some_same, walk_append}
+
+-- ---- a step out
+
+-- the pass along an edge from where it starts
+led : (found : Option Edge) (e : Edge) (back : Bool) (at next : ℕ) → found ≡ Some e → start_of e back ≡ at → start_of e (not back) ≡ next
+    → after_edge found back at ≡ Some next
+led found e back at next is starts ends = rw (is, ← starts, ← ends) (along e back)
+  where
+    along : (e : Edge) (back : Bool) → after_edge (Some e) back (start_of e back) ≡ Some (start_of e (not back))
+    along e true = rw (eq_self e.b) refl
+    along e false = rw (eq_self e.a) refl
+
+-- its two ends
+two_ends : (e : Edge) (back : Bool) (at next j : ℕ) → start_of e back ≡ at → start_of e (not back) ≡ next
+    → bit (at == j) + bit (next == j) ≡ ends_at j e
+two_ends e back at next j starts ends = rw (← starts, ← ends) (by_way e back)
+  where
+    turned : (x y : ℕ) → x + y ≡ y + x
+    turned x y = omega arith
+
+    by_way : (e : Edge) (back : Bool) → bit (start_of e back == j) + bit (start_of e (not back) == j) ≡ ends_at j e
+    by_way e true = turned (bit (e.b == j)) (bit (e.a == j))
+    by_way e false = refl
+
+-- what is done stays so where a line is taken
+still : (edges : List Edge) (left : List ℕ) (goal tail place j : ℕ) (e : Edge) → slice_get edges place ≡ Some e → 1 ≤ get_or left place 0
+    → IsDone edges left goal tail j → IsDone edges (less_at left place) goal tail j
+still edges left goal tail place j e is some (inl none) = inl (less_zero _ _ _ (left_less (ends_at j) edges left place e is some) none)
+  where
+    less_zero : (u k v : ℕ) → u + k ≡ v → v ≡ 0 → u ≡ 0
+    less_zero u k v h none = omega arith
+still edges left goal tail place j e is some (inr there) = inr there
+
+-- a step out along the edge at a place
+out_core : (lines : List ℕ) (edges : List Edge) (times left : List ℕ) (out home : List Pass) (head goal at tail place next : ℕ)
+    (back : Bool) (e : Edge)
+    → rises lines ≡ true → length lines ≡ length edges → slice_get edges place ≡ Some e → 1 ≤ get_or left place 0
+    → start_of e back ≡ at → start_of e (not back) ≡ next → Keeps lines edges times left out home head goal at tail
+    → Keeps lines edges times (less_at left place) (out ++ record { line = get_or lines place 0; back = back } ∷ []) home head goal next
+    tail
+out_core lines edges times left out home head goal at tail place next back e rising beside is some starts ends k = record {
+  counted = λ i. λ below. summed _ _ _ _ _ _ _ (passes_push (get_or lines i 0) out pass)
+      (count_step lines left place i rising within below some) (k.counted i below);
+  sums = λ f. summed _ _ _ _ _ _ _ (pass_sum_push lines edges f out pass ∙ ap
+      (λ (x : Option Edge). pass_sum lines edges f out + of_edge f x) found)
+      (turned _ _ _ (left_less f edges left place e is some)) (k.sums f);
+  goes_out = walk_append lines edges (Some goal) out (pass ∷ []) ∙ ap (λ (x : Option ℕ). after_pass lines edges pass x) k.goes_out
+      ∙ led (edge_of lines edges (get_or lines place 0)) e back at next found starts ends;
+  goes_home = k.goes_home;
+  even = λ j. evened _ _ _ _ _ _ (left_less (ends_at j) edges left place e is some) (two_ends e back at next j starts ends) (k.even j);
+  done = λ i. λ x. λ here. λ least. (
+    still edges left goal tail place x.a e is some (k.done i x here least).0,
+    still edges left goal tail place x.b e is some (k.done i x here least).1,
+  );
+}
+  where
+    pass : Pass
+    pass = record { line = get_or lines place 0; back = back }
+
+    within : place < length lines
+    within = subst (λ (n : ℕ). place < n) (sym beside) (slice_get_within edges place e is)
+
+    found : edge_of lines edges (get_or lines place 0) ≡ Some e
+    found = edge_at lines edges place e rising within is
+
+    turned : (u k v : ℕ) → u + k ≡ v → k + u ≡ v
+    turned u k v h = omega arith
+
+    summed : (po o b h l2 l t : ℕ) → po ≡ o + b → b + l2 ≡ l → (o + h) + l ≡ t → (po + h) + l2 ≡ t
+    summed po o b h l2 l t is less sum = omega arith
+
+    evened : (u k v w o t : ℕ) → u + k ≡ v → w + o ≡ k → ((v + w) + t) % 2 ≡ 0 → ((u + o) + t) % 2 ≡ 0
+    evened u k v w o t less ends even = omega arith
+
+-- a step out from an end
+pub out_kept : (lines : List ℕ) (edges : List Edge) (times left left2 out out2 : List ℕ) (home : List Pass) (head goal at tail end next : ℕ)
+    → left2 ≡ less_at left (end / 2) → out2 ≡ out ++ end ∷ [] → rises lines ≡ true → length lines ≡ length edges
+    → 1 ≤ get_or left (end / 2) 0 → junction_at edges end ≡ Some at → junction_across edges end ≡ Some next
+    → Keeps lines edges times left (map (pass_from lines) out) home head goal at tail
+    → Keeps lines edges times left2 (map (pass_from lines) out2) home head goal next tail
+out_kept lines edges times left left2 out out2 home head goal at tail end next is_left is_out rising beside some starts ends k =
+    let e = started (slice_get edges (end / 2)) (is_odd end) at starts in
+    rw (is_left, is_out, map-append (pass_from lines) out (end ∷ []))
+    (out_core lines edges times left (map (pass_from lines) out) home head goal at tail (end / 2) next (is_odd end) e.0 rising beside e.1
+    some e.2
+    (other e.0 (slice_get edges (end / 2)) (not (is_odd end)) next e.1 ends) k)
+  where
+    other : (e : Edge) (found : Option Edge) (back : Bool) (next : ℕ) → found ≡ Some e → edge_start found back ≡ Some next
+        → start_of e back ≡ next
+    other e found back next is ends = some_same (start_of e back) next (sym (ap (λ (x : Option Edge). edge_start x back) is) ∙ ends)
+
+-- it leaves less to do
+pub out_less : (edges : List Edge) (left left2 out out2 : List ℕ) (sum end at : ℕ) → left2 ≡ less_at left (end / 2) → out2 ≡ out ++ end ∷ []
+    → 1 ≤ get_or left (end / 2) 0 → junction_at edges end ≡ Some at
+    → (2 * left_sum one_of edges left2 + length out2) + sum < (2 * left_sum one_of edges left + length out) + sum
+out_less edges left left2 out out2 sum end at is_left is_out some starts =
+    let e = started (slice_get edges (end / 2)) (is_odd end) at starts in
+    rw (is_left, is_out, length-append out (end ∷ [])) (less _ _ _ sum (left_less one_of edges left (end / 2) e.0 e.1 some))
+  where
+    less : (u v n s : ℕ) → u + 1 ≡ v → (2 * u + (n + 1)) + s < (2 * v + n) + s
+    less u v n s h = omega arith
+
+-- ---- a step back
+
+-- where a pass came from
+came : (found : Option Edge) (e : Edge) (back : Bool) (x : Option ℕ) (at : ℕ) → found ≡ Some e
+    → elim x as (λ y. Option ℕ) [ None ↦ None | Some k ↦ after_edge found back k ] ≡ Some at
+    → (x ≡ Some (start_of e back)) × (end_of e back ≡ at)
+came found e back None at is leads = absurd (cc)
+came found e back (Some k) at is leads =
+    by_test (start_of e back == k) refl (ap (λ (y : Option Edge). after_edge y back k) (sym is) ∙ leads)
+  where
+    by_test : (t : Bool) → (start_of e back == k) ≡ t → cond t (Some (end_of e back)) None ≡ Some at
+        → (Some k ≡ Some (start_of e back)) × (end_of e back ≡ at)
+    by_test true test leads = (ap (λ (n : ℕ). Some n) (sym (same (start_of e back) k test)), some_same (end_of e back) at leads)
+    by_test false test leads = absurd (cc)
+
+-- the pass that was turned round
+homed : (found : Option Edge) (e : Edge) (back : Bool) (at from : ℕ) → found ≡ Some e → start_of e back ≡ from → end_of e back ≡ at
+    → after_edge found (not back) at ≡ Some from
+homed found e back at from is begins ends = rw (is, ← begins, ← ends) (home_edge e back)
+  where
+    home_edge : (e : Edge) (back : Bool) → after_edge (Some e) (not back) (end_of e back) ≡ Some (start_of e back)
+    home_edge e true = rw (eq_self e.a) refl
+    home_edge e false = rw (eq_self e.b) refl
+
+-- where nothing is left the walk home ends
+pub met : (u at tail : ℕ) → u ≡ 0 → ((u + bit (at == at)) + bit (tail == at)) % 2 ≡ 0 → tail ≡ at
+met u at tail none even = by_test (tail == at) refl (rw (bit_self at) at even)
+  where
+    by_test : (t : Bool) → (tail == at) ≡ t → ((u + 1) + bit t) % 2 ≡ 0 → tail ≡ at
+    by_test true is even = same tail at is
+    by_test false is even = absurd (omega arith)
+
+-- what was done stays so where the walk home goes on
+now_done : (edges : List Edge) (left : List ℕ) (goal tail from at j : ℕ) → tail ≡ at → ends_left edges left at ≡ 0
+    → IsDone edges left goal tail j
+    → IsDone edges left goal from j
+now_done edges left goal tail from at j meets stuck (inl none) = inl none
+now_done edges left goal tail from at j meets stuck (inr (inl is)) = inr (inl is)
+now_done edges left goal tail from at j meets stuck (inr (inr is)) = inl
+    (subst (λ (n : ℕ). ends_left edges left n ≡ 0) (sym (is ∙ meets)) stuck)
+
+-- both ends of the line that was passed
+edge_done : (edges : List Edge) (left : List ℕ) (goal from at : ℕ) (e : Edge) (back : Bool) → ends_left edges left at ≡ 0
+    → start_of e back ≡ from
+    → end_of e back ≡ at → IsDone edges left goal from e.a × IsDone edges left goal from e.b
+edge_done edges left goal from at e true stuck begins ends = (
+  inl (subst (λ (n : ℕ). ends_left edges left n ≡ 0) (sym ends) stuck),
+  inr
+      (inr begins),
+)
+edge_done edges left goal from at e false stuck begins ends = (
+  inr (inr begins),
+  inl
+      (subst (λ (n : ℕ). ends_left edges left n ≡ 0) (sym ends) stuck),
+)
+
+-- a step back along the edge at a place
+back_core : (lines : List ℕ) (edges : List Edge) (times left : List ℕ) (xs home : List Pass) (head goal at tail from place : ℕ)
+    (back : Bool) (e : Edge)
+    → rises lines ≡ true → length lines ≡ length edges → slice_get edges place ≡ Some e → start_of e back ≡ from
+    → ends_left edges left at ≡ 0
+    → Keeps lines edges times left (xs ++ record { line = get_or lines place 0; back = back } ∷ []) home head goal at tail
+    → Keeps lines edges times left xs (home ++ record { line = get_or lines place 0; back = not back } ∷ []) head goal from from
+back_core lines edges times left xs home head goal at tail from place back e rising beside is starts stuck k = record {
+  counted = λ i. λ below. summed _ _ _ _ _ _ _ (passes_push (get_or lines i 0) xs out) (passes_push (get_or lines i 0) home turned)
+      (k.counted i below);
+  sums = λ f. summed _ _ _ _ _ _ _ (pass_sum_push lines edges f xs out) (pass_sum_push lines edges f home turned) (k.sums f);
+  goes_out = c.0 ∙ ap (λ (n : ℕ). Some n) starts;
+  goes_home = walk_append lines edges (Some head) home (turned ∷ [])
+      ∙ ap (λ (x : Option ℕ). after_pass lines edges turned x) (k.goes_home ∙ ap (λ (n : ℕ). Some n) meets)
+      ∙ homed (edge_of lines edges (get_or lines place 0)) e back at from found starts c.1;
+  even = λ j. evened _ _ _ (subst (λ (n : ℕ). ((ends_left edges left j + bit (at == j)) + bit (n == j)) % 2 ≡ 0) meets (k.even j));
+  done = λ i. λ x. λ here. λ least.
+      by_times i x here (passes (get_or lines i 0) home) refl (rw (passes_push (get_or lines i 0) home turned) at least);
+}
+  where
+    out : Pass
+    out = record { line = get_or lines place 0; back = back }
+
+    turned : Pass
+    turned = record { line = get_or lines place 0; back = not back }
+
+    meets : tail ≡ at
+    meets = met (ends_left edges left at) at tail stuck (k.even at)
+
+    inside : (k : ℕ) (x : Edge) → slice_get edges k ≡ Some x → k < length lines
+    inside k x here = subst (λ (n : ℕ). k < n) (sym beside) (slice_get_within edges k x here)
+
+    found : edge_of lines edges (get_or lines place 0) ≡ Some e
+    found = edge_at lines edges place e rising (inside place e is) is
+
+    c : (walk_on lines edges (Some goal) xs ≡ Some (start_of e back)) × (end_of e back ≡ at)
+    c = came (edge_of lines edges (get_or lines place 0)) e back (walk_on lines edges (Some goal) xs) at found
+        (sym (walk_append lines edges (Some goal) xs (out ∷ [])) ∙ k.goes_out)
+
+    summed : (po o b ph h l t : ℕ) → po ≡ o + b → ph ≡ h + b → (po + h) + l ≡ t → (o + ph) + l ≡ t
+    summed po o b ph h l t is_out is_home sum = omega arith
+
+    evened : (u v w : ℕ) → ((u + v) + v) % 2 ≡ 0 → ((u + w) + w) % 2 ≡ 0
+    evened u v w even = omega arith
+
+    by_line : (i : ℕ) (x : Edge) → slice_get edges i ≡ Some x → (t : Bool) → (get_or lines place 0 == get_or lines i 0) ≡ t
+        → 1 ≤ 0 + bit t → x ≡ e
+    by_line i x here true test least =
+        some_same x e (sym (edge_at lines edges i x rising (inside i x here) here)
+        ∙ ap (λ (n : ℕ). edge_of lines edges n) (sym (same (get_or lines place 0) (get_or lines i 0) test)) ∙ found)
+    by_line i x here false test least = absurd (omega arith)
+
+    by_times : (i : ℕ) (x : Edge) → slice_get edges i ≡ Some x → (n : ℕ) → passes (get_or lines i 0) home ≡ n
+        → 1 ≤ n + bit (get_or lines place 0 == get_or lines i 0)
+        → IsDone edges left goal from x.a × IsDone edges left goal from x.b
+    by_times i x here zero times least =
+        subst (λ (y : Edge). IsDone edges left goal from y.a × IsDone edges left goal from y.b)
+        (sym (by_line i x here (get_or lines place 0 == get_or lines i 0) refl least))
+        (edge_done edges left goal from at e back stuck starts c.1)
+    by_times i x here (suc n) times least =
+        let old = k.done i x here (omega (arith, times)) in
+        (now_done edges left goal tail from at x.a meets stuck old.0, now_done edges left goal tail from at x.b meets stuck old.1)
+
+-- a step back to an end
+pub back_kept : (lines : List ℕ) (edges : List Edge) (times left out xs : List ℕ) (home home2 : List Pass) (head goal at tail from end : ℕ)
+    → out ≡ xs ++ end ∷ [] → home2 ≡ home ++ pass_to lines end ∷ [] → rises lines ≡ true → length lines ≡ length edges
+    → junction_at edges end ≡ Some from → ends_left edges left at ≡ 0
+    → Keeps lines edges times left (map (pass_from lines) out) home head goal at tail
+    → Keeps lines edges times left (map (pass_from lines) xs) home2 head goal from from
+back_kept lines edges times left out xs home home2 head goal at tail from end is_out is_home rising beside starts stuck k =
+    let e = started (slice_get edges (end / 2)) (is_odd end) from starts in
+    rw is_home (back_core lines edges times left (map (pass_from lines) xs) home head goal at tail from (end / 2) (is_odd end) e.0 rising
+    beside e.1 e.2 stuck
+    (subst (λ (ps : List Pass). Keeps lines edges times left ps home head goal at tail)
+    (ap (λ (ends : List ℕ). map (pass_from lines) ends) is_out ∙ map-append (pass_from lines) xs (end ∷ [])) k))
+
+-- it leaves less to do
+pub back_less : (u sum : ℕ) (out xs : List ℕ) (end : ℕ) → out ≡ xs ++ end ∷ [] → (2 * u + length xs) + sum < (2 * u + length out) + sum
+back_less u sum out xs end is = rw (is, length-append xs (end ∷ [])) (less (2 * u) (length xs) sum)
+  where
+    less : (u n s : ℕ) → (u + n) + s < (u + (n + 1)) + s
+    less u n s = omega arith
+
+-- ---- an end left behind
+
+-- it leaves less to do
+pub over_less : (u : ℕ) (last last2 : List ℕ) (at end number : ℕ) → last2 ≡ set last at number → at < length last
+    → get_or last at 0 ≡ end + 1
+    → number < end + 1 → u + sum_by (λ (n : ℕ). n) last2 < u + sum_by (λ (n : ℕ). n) last
+over_less u last last2 at end number is there here low =
+    rw is (less u (sum_by (λ (n : ℕ). n) (set last at number)) (sum_by (λ (n : ℕ). n) last) (get_or last at 0) number end
+    (sum_by-set (λ (n : ℕ). n) last at number 0 there) here low)
+  where
+    less : (u s t o n e : ℕ) → s + o ≡ t + n → o ≡ e + 1 → n < e + 1 → u + s < u + t
+    less u s t o n e sums is low = omega arith
+
+-- ---- the beginning
+
+-- nothing is passed
+pub begun : (lines : List ℕ) (edges : List Edge) (times left out : List ℕ) (home : List Pass) (head goal : ℕ) → left ≡ times → out ≡ []
+    → home ≡ []
+    → ((j : ℕ) → ((ends_left edges times j + bit (goal == j)) + bit (head == j)) % 2 ≡ 0)
+    → Keeps lines edges times left (map (pass_from lines) out) home head goal goal head
+begun lines edges times left out home head goal is_left is_out is_home even = rw (is_left, is_out, is_home) record {
+  counted = λ k. λ below. nothing (get_or times k 0);
+  sums = λ f. nothing (left_sum f edges times);
+  goes_out = refl;
+  goes_home = refl;
+  even = even;
+  done = λ k. λ e. λ is. λ least. absurd (omega (arith, least));
+}
+  where
+    nothing : (n : ℕ) → (0 + 0) + n ≡ n
+    nothing n = omega arith
+
+-- the first line is passed
+pub first_kept : (lines : List ℕ) (edges : List Edge) (times left left2 out : List ℕ) (home home2 : List Pass)
+    (head goal at tail next : ℕ) (e : Edge)
+    → left2 ≡ less_at left 0 → out ≡ [] → home ≡ [] → home2 ≡ home ++ record { line = get_or lines 0 0; back = false } ∷ []
+    → rises lines ≡ true → length lines ≡ length edges → slice_get edges 0 ≡ Some e → 1 ≤ get_or left 0 0
+    → head ≡ e.a → goal ≡ e.a → next ≡ e.b
+    → Keeps lines edges times left (map (pass_from lines) out) home head goal at tail
+    → Keeps lines edges times left2 (map (pass_from lines) out) home2 head goal at next
+first_kept lines edges times left left2 out home home2 head goal at tail next e is_left is_out is_home is_home2 rising beside is some
+    is_head is_goal is_next k =
+    rw (is_left, is_home2, is_home) record {
+      counted = λ i. λ below. summed _ _ _ _ _ _ (ap (λ (ps : List Pass). passes (get_or lines i 0) ps) is_home)
+          (count_step lines left 0 i rising within below some) (k.counted i below);
+      sums = λ f. summed _ _ _ _ _ _ (ap (λ (ps : List Pass). pass_sum lines edges f ps) is_home)
+          (ap (λ (x : Option Edge). of_edge f x + left_sum f edges (less_at left 0)) found ∙ turned _ _ _
+          (left_less f edges left 0 e is some)) (k.sums f);
+      goes_out = k.goes_out;
+      goes_home = led (edge_of lines edges (get_or lines 0 0)) e false head next found (sym is_head) (sym is_next);
+      even = λ j. evened _ _ _ _ _ _ _ (left_less (ends_at j) edges left 0 e is some)
+          (ap (λ (n : ℕ). bit (n == j)) tail_is) (ap (λ (n : ℕ). bit (n == j)) is_next) (k.even j);
+      done = λ i. λ x. λ here. λ least. by_line i x here (get_or lines 0 0 == get_or lines i 0) refl least;
+    }
+  where
+    within : 0 < length lines
+    within = subst (λ (n : ℕ). 0 < n) (sym beside) (slice_get_within edges 0 e is)
+
+    found : edge_of lines edges (get_or lines 0 0) ≡ Some e
+    found = edge_at lines edges 0 e rising within is
+
+    tail_is : tail ≡ e.a
+    tail_is = sym (some_same head tail (sym (ap (λ (ps : List Pass). walk_on lines edges (Some head) ps) is_home) ∙ k.goes_home)) ∙ is_head
+
+    turned : (u k v : ℕ) → u + k ≡ v → k + u ≡ v
+    turned u k v h = omega arith
+
+    summed : (o h b l2 l t : ℕ) → h ≡ 0 → b + l2 ≡ l → (o + h) + l ≡ t → (o + (b + 0)) + l2 ≡ t
+    summed o h b l2 l t none less sum = omega arith
+
+    evened : (u x y v w t n : ℕ) → u + (x + y) ≡ v → t ≡ x → n ≡ y → ((v + w) + t) % 2 ≡ 0 → ((u + w) + n) % 2 ≡ 0
+    evened u x y v w t n less is_x is_y even = omega arith
+
+    by_line : (i : ℕ) (x : Edge) → slice_get edges i ≡ Some x → (t : Bool) → (get_or lines 0 0 == get_or lines i 0) ≡ t → 1 ≤ bit t + 0
+        → IsDone edges (less_at left 0) goal next x.a × IsDone edges (less_at left 0) goal next x.b
+    by_line i x here true test least =
+        let one : e ≡ x = some_same e x (sym found ∙ ap (λ (n : ℕ). edge_of lines edges n) (same (get_or lines 0 0) (get_or lines i 0) test)
+        ∙ edge_at lines edges i x rising (subst (λ (n : ℕ). i < n) (sym beside) (slice_get_within edges i x here)) here) in
+        (inr (inl (ap (λ (y : Edge). y.a) (sym one) ∙ sym is_goal)), inr (inr (ap (λ (y : Edge). y.b) (sym one) ∙ sym is_next)))
+    by_line i x here false test least = absurd (omega arith)

@@ -1,0 +1,20 @@
+ghost use Rattle.std.specs.Prelude.{IfOk};
+ghost use Rattle.euler_tour.specs.Tours.{CanPass, IsTour};
+ghost use Rattle.line_graph.specs.CutPieces.{graph_of};
+
+use crate::trip::{begin, step};
+use design_model::Memory;
+use line_graph::{Piece, Walk};
+use std::alloc::Global;
+
+/// A walk over a piece that passes the line at each place once, and as often again as `copies` says.
+/// It leads from the piece's start to its end; where neither is said it is closed, and its first pass
+/// is the piece's first line, forwards.
+pub fn tour(alloc: Global, p: &Piece, copies: &[u32]) -> Result<Walk, Memory>
+    requires { CanPass (graph_of p.now) copies.now }
+    ensures { IfOk result (IsTour (graph_of p.now) copies.now) }
+{
+    let mut t = begin(alloc, p, copies)?;
+    while step(&mut t, p)? {}
+    Ok(t.home)
+}

@@ -1,0 +1,182 @@
+ghost use Rattle.std.specs.Prelude.{◌≡◌, ◌+◌, ◌/◌, ◌<◌, ◌≤◌, false, None, length, get_or, IfOk, OnOk};
+ghost use Rattle.euler_tour.specs.LeftLines.{ends_left};
+ghost use Rattle.euler_tour.specs.Tours.{CanPass};
+ghost use Rattle.euler_tour.specs.Trips.{BeginsOn, IsFresh, IsReady, IsStep, KeepsOf, KeepsTrip, PassesOver, Steps, first_b, goal_of, head_of, or_first};
+ghost use Rattle.line_graph.specs.CutPieces.{graph_of};
+ghost use Rattle.line_graph.specs.PieceGraphs.{from_of, or_else as first_said};
+ghost use Rattle.line_graph.specs.Pieces.{first_line};
+
+use crate::left_lines::{all_times, take_one};
+use crate::line_ends::{
+    LineEnds, chain, junction_beyond, junction_of, pass_back, place_of, put_number,
+};
+use design_model::Memory;
+use line_graph::{Edge, Pass, Piece, Walk};
+use std::alloc::Global;
+
+/// A walk in the making. `left` says how often the line at each place is still to be passed.
+/// `out` is a way from where the walk is to end to `at`: the ends at which its passes start.
+/// `home` is the walk, from where it is to begin to `tail`; a pass that is taken off `out` goes
+/// on it, turned round. `ends.last` goes back over the ends at each junction, past those whose
+/// lines aren't left.
+#[derive(Drop)]
+pub struct Trip {
+    left: Vec<u32>,
+    ends: LineEnds,
+    out: Vec<u32>,
+    pub home: Walk,
+    at: u32,
+    tail: u32,
+}
+
+/// The trip to begin with.
+pub fn begin(alloc: Global, p: &Piece, copies: &[u32]) -> Result<Trip, Memory>
+    requires { CanPass (graph_of p.now) copies.now }
+    ensures ready { IfOk result (IsReady (graph_of p.now)) }
+    ensures keeps { IfOk result (KeepsTrip (graph_of p.now) copies.now) }
+{
+    let t = laid_out(alloc, p, copies)?;
+    match or_else(p.start, p.end) {
+        Some(_) => Ok(t),
+        None => Ok(with_first_line(t, p)?),
+    }
+}
+
+/// Goes out along a line that is left, or leaves an end behind, or goes back. Answers whether there
+/// was anything to do.
+pub fn step(t: &mut Trip, p: &Piece) -> Result<bool, Memory>
+    requires { IsReady (graph_of p.now) t.old }
+    ensures { Steps (graph_of p.now) t.old t.new result }
+{
+    let number = t.ends.last[t.at as usize];
+    if number == 0 {
+        return go_back(t, p);
+    }
+    let end = number - 1;
+    if t.left[place_of(end)] == 0 {
+        pass_over(t, end);
+        return Ok(true);
+    }
+    go_out(t, p, end)?;
+    Ok(true)
+}
+
+/// The trip before its first step: nothing is passed. The way out is to lead from where the walk
+/// is to end to where it is to begin.
+fn laid_out(alloc: Global, p: &Piece, copies: &[u32]) -> Result<Trip, Memory>
+    requires { CanPass (graph_of p.now) copies.now }
+    ensures keeps { IfOk result (KeepsOf (graph_of p.now) copies.now) }
+    ensures fresh { IfOk result (IsFresh (graph_of p.now)) }
+{
+    Ok(Trip {
+        left: all_times(alloc, copies)?,
+        ends: chain(alloc, p.edges.as_slice(), p.junctions.len())?,
+        out: Vec::new(alloc),
+        home: Walk::new(alloc),
+        at: goal(p),
+        tail: head(p),
+    })
+}
+
+/// The trip whose walk has passed the first line, forwards. Of the piece no start and no end is
+/// said.
+fn with_first_line(t: Trip, p: &Piece) -> Result<Trip, Memory>
+    requires fresh { IsFresh (graph_of p.now) t }
+    requires closed { from_of (graph_of p.now) ≡ None }
+    ensures ready { IfOk result (IsReady (graph_of p.now)) }
+    ensures keeps { IfOk result (BeginsOn (graph_of p.now) t) }
+{
+    let mut t = t;
+    t.home.push(first_pass(p.lines.as_slice()))?;
+    take_one(&mut t.left, 0);
+    t.tail = far_end(p.edges.as_slice());
+    Ok(t)
+}
+
+/// Goes out along the line with that end.
+fn go_out(t: &mut Trip, p: &Piece, end: u32) -> Result<(), Memory>
+    requires ready { IsReady (graph_of p.now) t.old }
+    requires here { get_or t.old.ends.last.items t.old.at 0 ≡ end + 1 }
+    requires some { 1 ≤ get_or t.old.left.items (end / 2) 0 }
+    ensures { OnOk result (IsStep (graph_of p.now) t.old t.new) }
+{
+    t.out.push(end)?;
+    take_one(&mut t.left, place_of(end));
+    t.at = junction_beyond(p.edges.as_slice(), end);
+    Ok(())
+}
+
+/// Leaves an end behind whose line isn't left.
+fn pass_over(t: &mut Trip, end: u32)
+    requires junction { t.old.at < length t.old.ends.last.items }
+    requires end { end < length t.old.ends.before.items }
+    ensures { PassesOver end t.old t.new }
+{
+    put_number(&mut t.ends.last, t.at, t.ends.before[end as usize]);
+}
+
+/// Goes back the last pass out, and home along it.
+fn go_back(t: &mut Trip, p: &Piece) -> Result<bool, Memory>
+    requires ready { IsReady (graph_of p.now) t.old }
+    requires stuck { ends_left (graph_of p.now).edges t.old.left.items t.old.at ≡ 0 }
+    ensures { Steps (graph_of p.now) t.old t.new result }
+{
+    let Some(end) = t.out.pop() else {
+        return Ok(false);
+    };
+    t.home.push(pass_back(p.lines.as_slice(), end))?;
+    let from = junction_of(p.edges.as_slice(), end);
+    t.at = from;
+    t.tail = from;
+    Ok(true)
+}
+
+/// Where the walk home is to begin.
+fn head(p: &Piece) -> u32
+    ensures { result ≡ head_of (graph_of p.now) }
+{
+    or_first_line(or_else(p.start, p.end), p.edges.as_slice())
+}
+
+/// Where the walk home is to end.
+fn goal(p: &Piece) -> u32
+    ensures { result ≡ goal_of (graph_of p.now) }
+{
+    or_first_line(or_else(p.end, p.start), p.edges.as_slice())
+}
+
+fn or_first_line(junction: Option<u32>, edges: &[Edge]) -> u32
+    requires { 0 < length edges.now }
+    ensures { result ≡ or_first junction edges.now }
+{
+    match junction {
+        Some(junction) => junction,
+        None => edges[0].a,
+    }
+}
+
+fn or_else(one: Option<u32>, other: Option<u32>) -> Option<u32>
+    ensures { result ≡ first_said one other }
+{
+    match one {
+        Some(junction) => Some(junction),
+        None => other,
+    }
+}
+
+fn first_pass(lines: &[u32]) -> Pass
+    requires { 0 < length lines.now }
+    ensures { result ≡ record { line = first_line lines.now; back = false } }
+{
+    Pass {
+        line: lines[0],
+        back: false,
+    }
+}
+
+fn far_end(edges: &[Edge]) -> u32
+    requires { 0 < length edges.now }
+    ensures { result ≡ first_b edges.now }
+{
+    edges[0].b
+}

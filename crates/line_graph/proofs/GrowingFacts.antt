@@ -1,0 +1,55 @@
+-- Worked values of drawings that grow: what comes before the first block, and lines that may not come.
+use Rattle.std.proofs.Common.{◌≡◌, pos, negsuc, true, false, [], ◌∷◌, Ok, Err, codes, refl}
+use Rattle.line_graph.proofs.Places.{place}
+use Rattle.line_graph.specs.declared.draw_kind.DrawKind.TheVariants as kind
+use Rattle.line_graph.specs.Drawings.{DrawingValue}
+use Rattle.line_graph.specs.Growing.{are_in_range, drawing_begun, finished, line_added, with_block, with_line}
+
+-- a drawing of one block, which has no line yet
+abbrev blank : DrawingValue
+blank = drawing_begun (codes "ab") 7
+
+abbrev begun : DrawingValue
+begun = with_block blank 3
+
+-- without a block there is no place for a line, whatever its points are
+pub known_no_block : line_added blank (place (pos 0) (pos 0) ∷ place (pos 5) (pos 1) ∷ []) ≡ Err kind.NoBlock
+known_no_block = refl
+
+pub known_no_block_first : line_added blank (place (pos 30001) (pos 0) ∷ []) ≡ Err kind.NoBlock
+known_no_block_first = refl
+
+-- on each axis and to both sides 30,000 is the last place
+pub known_ranges : (are_in_range (place (pos 30000) (negsuc 29999) ∷ place (negsuc 29999) (pos 30000) ∷ []) ≡ true)
+    × (are_in_range (place (pos 0) (pos 1) ∷ place (pos 30001) (pos 2) ∷ []) ≡ false)
+    × (are_in_range (place (negsuc 30000) (pos 2) ∷ []) ≡ false)
+    × (are_in_range (place (pos 2) (pos 30001) ∷ []) ≡ false)
+    × (are_in_range (place (pos 2) (negsuc 30000) ∷ []) ≡ false)
+known_ranges = (refl, refl, refl, refl, refl)
+
+-- a place out of range is told before the number of points, and the number before a repeated point
+pub known_out_of_range : line_added begun (place (pos 0) (negsuc 30000) ∷ []) ≡ Err kind.OutOfRange
+known_out_of_range = refl
+
+pub known_few_points : line_added begun (place (pos 0) (negsuc 29999) ∷ []) ≡ Err kind.FewPoints
+known_few_points = refl
+
+pub known_repeated_point :
+    line_added begun (place (pos 4) (pos 2) ∷ place (pos 4) (pos 2) ∷ []) ≡ Err kind.RepeatedPoint
+known_repeated_point = refl
+
+-- else the line is the last of the last block
+pub known_line : line_added begun (place (pos 4) (pos 2) ∷ place (pos 4) (negsuc 0) ∷ [])
+    ≡ Ok (record {
+      label = codes "ab";
+      step = 7;
+      threads = 3 ∷ [];
+      lines = record { block = 0; points = place (pos 4) (pos 2) ∷ place (pos 4) (negsuc 0) ∷ [] } ∷ [];
+    })
+known_line = refl
+
+-- a drawing ends with a block, and with a line in its last block
+pub known_ends : (finished blank ≡ Err kind.NoBlock)
+    × (finished begun ≡ Err kind.EmptyBlock)
+    × (finished (with_line begun (place (pos 4) (pos 2) ∷ [])) ≡ Ok (with_line begun (place (pos 4) (pos 2) ∷ [])))
+known_ends = (refl, refl, refl)

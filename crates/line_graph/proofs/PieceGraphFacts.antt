@@ -1,0 +1,134 @@
+-- Worked values of the graphs of pieces, and of walks that fit them. Costs count steps of at most 10.
+use Rattle.std.proofs.Common.{◌≡◌, ℕ, true, false, List, [], ◌∷◌, None, refl}
+use Rattle.design_model.specs.declared.point.Point.{Point}
+use Rattle.line_graph.specs.declared.edge.Edge.{Edge}
+use Rattle.line_graph.specs.declared.pass.Pass.{Pass}
+use Rattle.line_graph.specs.Drawings.{DrawingValue, LineValue}
+use Rattle.line_graph.specs.PieceGraphs.{degree, odd_junctions, piece_of}
+use Rattle.line_graph.specs.PieceParts.{labelled, parts_of}
+use Rattle.line_graph.specs.PieceWalks.{fits, walk_cost}
+use Rattle.line_graph.proofs.WalkFacts.{at}
+
+-- a line through these points in a block
+abbrev line : ℕ → List Point → LineValue
+line block points = record { block = block; points = points }
+
+-- a line between two junctions
+abbrev edge : ℕ → ℕ → ℕ → Edge
+edge a b cost = record { a = a; b = b; cost = cost }
+
+-- a line forwards
+abbrev forth : ℕ → Pass
+forth line = record { line = line; back = false }
+
+-- and back
+abbrev back : ℕ → Pass
+back line = record { line = line; back = true }
+
+-- a drawing of these lines
+abbrev of_lines : List LineValue → DrawingValue
+of_lines lines = record { label = []; step = 10; threads = 4 ∷ 7 ∷ []; lines = lines }
+
+-- two triangles that share a corner, one line for each side
+abbrev triangles : DrawingValue
+triangles = of_lines (line 0 (at 0 0 ∷ at 50 0 ∷ []) ∷ line 0 (at 50 0 ∷ at 0 30 ∷ []) ∷ line 0 (at 0 30 ∷ at 0 0 ∷ [])
+    ∷ line 0 (at 90 0 ∷ at 50 0 ∷ []) ∷ line 0 (at 50 0 ∷ at 90 20 ∷ []) ∷ line 0 (at 90 20 ∷ at 90 0 ∷ []) ∷ [])
+
+-- the corner that they share has four line ends
+pub known_triangles : piece_of triangles (0 ∷ 1 ∷ 2 ∷ 3 ∷ 4 ∷ 5 ∷ []) ≡ record {
+  block = 0;
+  lines = 0 ∷ 1 ∷ 2 ∷ 3 ∷ 4 ∷ 5 ∷ [];
+  junctions = at 0 0 ∷ at 50 0 ∷ at 0 30 ∷ at 90 0 ∷ at 90 20 ∷ [];
+  edges = edge 0 1 5 ∷ edge 1 2 5 ∷ edge 2 0 3 ∷ edge 3 1 4 ∷ edge 1 4 4 ∷ edge 4 3 2 ∷ [];
+  degrees = 2 ∷ 4 ∷ 2 ∷ 2 ∷ 2 ∷ [];
+  start = None;
+  end = None;
+}
+known_triangles = refl
+
+-- no junction is odd
+pub known_none_odd : odd_junctions (piece_of triangles (0 ∷ 1 ∷ 2 ∷ 3 ∷ 4 ∷ 5 ∷ [])) ≡ []
+known_none_odd = refl
+
+-- each triangle once is a closed walk, and passes each line
+pub known_round : fits (piece_of triangles (0 ∷ 1 ∷ 2 ∷ 3 ∷ 4 ∷ 5 ∷ []))
+    (forth 0 ∷ forth 4 ∷ forth 5 ∷ forth 3 ∷ forth 1 ∷ forth 2 ∷ []) ≡ true
+known_round = refl
+
+-- a stick in block 1, a line of block 0 with the same points, and a closed line at the stick's end
+abbrev lollipop : DrawingValue
+lollipop = of_lines (line 0 (at 0 0 ∷ at 20 0 ∷ []) ∷ line 1 (at 20 0 ∷ at 40 0 ∷ at 40 20 ∷ at 20 0 ∷ []) ∷ line 1
+    (at 0 0 ∷ at 20 0 ∷ []) ∷ [])
+
+-- the closed line and the stick are a piece of block 1
+pub known_lollipop : piece_of lollipop (1 ∷ 2 ∷ []) ≡ record {
+  block = 1;
+  lines = 1 ∷ 2 ∷ [];
+  junctions = at 20 0 ∷ at 0 0 ∷ [];
+  edges = edge 0 0 6 ∷ edge 1 0 2 ∷ [];
+  degrees = 3 ∷ 1 ∷ [];
+  start = None;
+  end = None;
+}
+known_lollipop = refl
+
+-- its junctions are both odd
+pub known_lollipop_odd : odd_junctions (piece_of lollipop (1 ∷ 2 ∷ [])) ≡ 0 ∷ 1 ∷ []
+known_lollipop_odd = refl
+
+-- a line that ends where it begins has both ends there
+pub known_loop_degree : degree (edge 3 3 4 ∷ edge 5 3 1 ∷ []) 3 ≡ 3
+known_loop_degree = refl
+
+-- the stick is passed forth and back
+pub known_lick : fits (piece_of lollipop (1 ∷ 2 ∷ [])) (forth 1 ∷ back 2 ∷ forth 2 ∷ []) ≡ true
+known_lick = refl
+
+-- and costs twice its two steps
+pub known_lick_cost : walk_cost (piece_of lollipop (1 ∷ 2 ∷ [])) (forth 1 ∷ back 2 ∷ forth 2 ∷ []) ≡ 10
+known_lick_cost = refl
+
+-- a line of another piece is no part of it
+pub known_stray : fits (piece_of lollipop (1 ∷ 2 ∷ [])) (forth 1 ∷ back 0 ∷ forth 2 ∷ []) ≡ false
+known_stray = refl
+
+-- three lines between two junctions, the second drawn back
+abbrev theta : DrawingValue
+theta = of_lines (line 0 (at 0 0 ∷ at 10 0 ∷ []) ∷ line 0 (at 10 0 ∷ at 5 10 ∷ at 0 0 ∷ [])
+    ∷ line 0 (at 0 0 ∷ at 0 25 ∷ at 10 25 ∷ at 10 0 ∷ []) ∷ [])
+
+-- each junction has three line ends
+pub known_theta : piece_of theta (0 ∷ 1 ∷ 2 ∷ []) ≡ record {
+  block = 0;
+  lines = 0 ∷ 1 ∷ 2 ∷ [];
+  junctions = at 0 0 ∷ at 10 0 ∷ [];
+  edges = edge 0 1 1 ∷ edge 1 0 2 ∷ edge 0 1 7 ∷ [];
+  degrees = 3 ∷ 3 ∷ [];
+  start = None;
+  end = None;
+}
+known_theta = refl
+
+-- one line is passed twice, so that the walk comes home
+pub known_home : fits (piece_of theta (0 ∷ 1 ∷ 2 ∷ [])) (forth 0 ∷ forth 1 ∷ forth 2 ∷ back 0 ∷ []) ≡ true
+known_home = refl
+
+-- a walk that ends elsewhere doesn't fit
+pub known_open : fits (piece_of theta (0 ∷ 1 ∷ 2 ∷ [])) (forth 0 ∷ forth 1 ∷ forth 2 ∷ []) ≡ false
+known_open = refl
+
+-- nor one whose line does not start where the one before ended
+pub known_broken : fits (piece_of theta (0 ∷ 1 ∷ 2 ∷ [])) (forth 0 ∷ back 1 ∷ forth 2 ∷ back 0 ∷ []) ≡ false
+known_broken = refl
+
+-- nor one that leaves a line out
+pub known_uncovered : fits (piece_of theta (0 ∷ 1 ∷ 2 ∷ [])) (forth 0 ∷ forth 1 ∷ []) ≡ false
+known_uncovered = refl
+
+-- the lines with a label
+pub known_labelled : labelled (0 ∷ 1 ∷ 0 ∷ 1 ∷ 4 ∷ 1 ∷ []) 1 ≡ 1 ∷ 3 ∷ 5 ∷ []
+known_labelled = refl
+
+-- the lines with each label
+pub known_parts : parts_of (0 ∷ 1 ∷ 0 ∷ 1 ∷ 4 ∷ 1 ∷ []) ≡ (0 ∷ 2 ∷ []) ∷ (1 ∷ 3 ∷ 5 ∷ []) ∷ (4 ∷ []) ∷ []
+known_parts = refl

@@ -1,0 +1,329 @@
+-- Walks over a piece of a drawing as needle points.
+use Rattle.std.proofs.Common.{◌≡◌, ◌≢◌, ℕ, suc, ◌+◌, ◌<◌, ◌≤◌, ◌==◌, Bool, true, false, cond, ◌&&◌, nat_lt, List, [], ◌∷◌, ◌++◌, length, map, drop, reverse, slice_get, Option, Some, None, All, Contains, arith, refl, sym, ◌∙◌, ap, subst}
+use Rattle.std.proofs.lemmas.Bool.Decides.{nat_tests}
+use Rattle.std.proofs.lemmas.Bool.{and_parts}
+use Rattle.std.proofs.lemmas.List.{length-append, length-reverse}
+use Rattle.std.proofs.lemmas.List.Concat.{flat_map-cons}
+use Rattle.std.proofs.lemmas.List.Elements.{All-append, All-cons, All-contains, All-head, All-nil, All-tail}
+use Rattle.std.proofs.lemmas.List.Recursion.{is_position_or_len}
+use Rattle.std.specs.List.{flat_map, position_or_len}
+use Rattle.design_model.specs.declared.point.Point.{Point}
+use Rattle.design_model.specs.Points.{is_same_point}
+use Rattle.step_splitter.specs.Chains.{IsNeedlePoint, KeepsClose}
+use Rattle.line_graph.specs.declared.edge.Edge.{Edge}
+use Rattle.line_graph.specs.declared.pass.Pass.{Pass}
+use Rattle.line_graph.specs.Drawings.{DrawingValue, KeepsDrawing, first_of, last_of, points_of}
+use Rattle.line_graph.specs.KeptPieces.{ends_below}
+use Rattle.line_graph.specs.Laws.{AreNeedlesOf}
+use Rattle.line_graph.specs.PieceGraphs.{edge_between, junctions_of, number_of, piece_of}
+use Rattle.line_graph.specs.PieceWalks.{after_edge, are_one, begin_of, cost_of, covers, edge_of, end_of, finish_of, leads, of_edge, pass_sum, start_of, walk_on}
+use Rattle.line_graph.specs.Runs.{AreNear}
+use Rattle.line_graph.specs.Laws.{NeedlesLeadAlong}
+use Rattle.line_graph.specs.SewnWalks.{FittingWalksAreSewable, IsSewable}
+use Rattle.line_graph.specs.Walks.{needles_of, needles_of_pass, needles_of_walk}
+use Rattle.line_graph.proofs.NeedleLemmas.{close_on}
+use Rattle.line_graph.proofs.PieceLemmas.{same_is}
+use Rattle.line_graph.proofs.TrailLemmas.{Trail, trail_back, trail_of}
+
+-- where a point stands in a list
+abbrev place_of : Point → List Point → ℕ
+place_of x [] = 0
+place_of x (y ∷ ys) = cond (is_same_point x y) 0 (suc (place_of x ys))
+
+place_holds : (x : Point) (ys : List Point) → place_of x ys < length ys → slice_get ys (place_of x ys) ≡ Some x
+place_holds x [] below = absurd (omega arith)
+place_holds x (y ∷ ys) below = by_test (is_same_point x y) refl below (λ h. place_holds x ys h)
+  where
+    by_test : (t : Bool) → is_same_point x y ≡ t → cond (is_same_point x y) 0 (suc (place_of x ys)) < length (y ∷ ys)
+        → (place_of x ys < length ys → slice_get ys (place_of x ys) ≡ Some x)
+        → slice_get (y ∷ ys) (cond (is_same_point x y) 0 (suc (place_of x ys))) ≡ Some x
+    by_test true is below rest = rw is (ap (λ (p : Point). Some p) (sym (same_is x y is)))
+    by_test false is below rest = rw is (rest (less (place_of x ys) (length ys) (subst (λ (t : Bool). cond t 0 (suc (place_of x ys)) < length (y ∷ ys)) is below)))
+      where
+        less : (m n : ℕ) → suc m < suc n → m < n
+        less m n h = omega arith
+
+-- a junction's number leads to its point
+junction_at : (js : List Point) (o : Option Point) → number_of js o < length js → slice_get js (number_of js o) ≡ o
+junction_at js None below = absurd (omega arith)
+junction_at js (Some x) below =
+    let is : place_of x js ≡ position_or_len (is_same_point x) js = is_position_or_len (place_of x) (is_same_point x) refl (λ y. λ ys. ap (λ (k : ℕ). cond (is_same_point x y) 0 k) (one_more (place_of x ys))) js in
+    subst (λ (n : ℕ). slice_get js n ≡ Some x) is (place_holds x js (subst (λ (n : ℕ). n < length js) (sym is) below))
+  where
+    one_more : (n : ℕ) → suc n ≡ 1 + n
+    one_more n = omega arith
+
+-- an edge that is found is that of its line
+record IsFound (d : DrawingValue) (js : List Point) (lines : List ℕ) (line : ℕ) (e : Edge) : Type 0 where
+  is : e ≡ edge_between d js line
+  held : Contains lines line
+
+found : (d : DrawingValue) (js : List Point) (lines : List ℕ) (line : ℕ) (e : Edge) → edge_of lines (map (edge_between d js) lines) line ≡ Some e
+    → IsFound d js lines line e
+found d js [] line e at = absurd (cc)
+found d js (n ∷ lines) line e at = by_test (line == n) refl at (λ h. found d js lines line e h)
+  where
+    same : (m n : ℕ) → (m == n) ≡ true → m ≡ n
+    same m n is = grind (arith, nat_tests)
+
+    some_same : (x y : Edge) → Some x ≡ Some y → y ≡ x
+    some_same x y is = cc
+
+    by_test : (t : Bool) → (line == n) ≡ t → cond t (Some (edge_between d js n)) (edge_of lines (map (edge_between d js) lines) line) ≡ Some e
+        → (edge_of lines (map (edge_between d js) lines) line ≡ Some e → IsFound d js lines line e) → IsFound d js (n ∷ lines) line e
+    by_test true is at rest = record {
+      is = some_same (edge_between d js n) e at ∙ ap (edge_between d js) (sym (same line n is));
+      held = (0, omega arith, sym (same line n is));
+    }
+    by_test false is at rest =
+        let r = rest at in
+        record { is = r.is; held = (suc r.held.0, omega (arith, r.held.1), r.held.2) }
+
+ends_at : (n : ℕ) (lines : List ℕ) (es : List Edge) (line : ℕ) (e : Edge) → ends_below n es ≡ true → edge_of lines es line ≡ Some e → (e.a < n) × (e.b < n)
+ends_at n [] es line e below is = absurd (cc)
+ends_at n (m ∷ lines) [] line e below is = absurd (cc)
+ends_at n (m ∷ lines) (x ∷ es) line e below is =
+    let parts = and_parts (nat_lt x.a n && nat_lt x.b n) (ends_below n es) below in
+    by_test (line == m) is (and_parts (nat_lt x.a n) (nat_lt x.b n) parts.0) (λ h. ends_at n lines es line e parts.1 h)
+  where
+    less : (m n : ℕ) → nat_lt m n ≡ true → m < n
+    less m n is = grind (arith, nat_tests)
+
+    by_test : (t : Bool) → cond t (Some x) (edge_of lines es line) ≡ Some e → (nat_lt x.a n ≡ true) × (nat_lt x.b n ≡ true)
+        → (edge_of lines es line ≡ Some e → (e.a < n) × (e.b < n)) → (e.a < n) × (e.b < n)
+    by_test true is ends rest =
+        let same : x ≡ e = cc in
+        subst (λ (y : Edge). (y.a < n) × (y.b < n)) same (less x.a n ends.0, less x.b n ends.1)
+    by_test false is ends rest = rest is
+
+lost : (ns : List ℕ) (es : List Edge) (ps : List Pass) (to : ℕ) → walk_on ns es None ps ≡ Some to → ⊥
+lost ns es [] to is = cc
+lost ns es (p ∷ ps) to is = lost ns es ps to is
+
+-- the needles behind the first of each pass
+abbrev later : DrawingValue → List Pass → List Point
+later d walk = flat_map (λ (next : Pass). drop 1 (needles_of_pass d next)) walk
+
+-- what a walk is as needles, from a junction at a point on
+record Sewn (d : DrawingValue) (lines : List ℕ) (js : List Point) (at : Point) (walk : List Pass) : Type 0 where
+  held : All (λ (pass : Pass). Contains lines pass.line) walk
+  close : KeepsClose d.step at (later d walk)
+  in_range : All IsNeedlePoint (later d walk)
+  count : length (later d walk) ≡ pass_sum lines (map (edge_between d js) lines) cost_of walk
+
+-- a pass as needles
+record Passed (d : DrawingValue) (js : List Point) (pass : Pass) (e : Edge) : Type 0 where
+  from : Point
+  to : Point
+  from_is : slice_get js (start_of e pass.back) ≡ Some from
+  to_is : slice_get js (end_of e pass.back) ≡ Some to
+  trail : Trail d.step from to (needles_of_pass d pass)
+  count : length (needles_of_pass d pass) ≡ e.cost + 1
+
+-- a line's needles, forwards or back
+record Way (step : ℕ) (js : List Point) (e : Edge) (needles : List Point) (back : Bool) : Type 0 where
+  from : Point
+  to : Point
+  from_is : slice_get js (start_of e back) ≡ Some from
+  to_is : slice_get js (end_of e back) ≡ Some to
+  trail : Trail step from to (cond back (reverse needles) needles)
+  count : length (cond back (reverse needles) needles) ≡ e.cost + 1
+
+way : (step : ℕ) (js : List Point) (e : Edge) (needles : List Point) (a b : Point) → slice_get js e.a ≡ Some a → slice_get js e.b ≡ Some b
+    → Trail step a b needles → length needles ≡ e.cost + 1 → (back : Bool) → Way step js e needles back
+way step js e needles a b at_a at_b trail count true = record {
+  from = b;
+  to = a;
+  from_is = at_b;
+  to_is = at_a;
+  trail = trail_back step a b needles trail;
+  count = length-reverse needles ∙ count;
+}
+way step js e needles a b at_a at_b trail count false = record {
+  from = a;
+  to = b;
+  from_is = at_a;
+  to_is = at_b;
+  trail = trail;
+  count = count;
+}
+
+passed : (d : DrawingValue) → KeepsDrawing d → NeedlesLeadAlong d → (lines : List ℕ) → All (λ line. line < length d.lines) lines
+    → (js : List Point) → ends_below (length js) (map (edge_between d js) lines) ≡ true
+    → (pass : Pass) (e : Edge) → edge_of lines (map (edge_between d js) lines) pass.line ≡ Some e → Passed d js pass e
+passed d keeps law lines there js ends pass e at =
+    let f = found d js lines pass.line e at in
+    let below = ends_at (length js) lines (map (edge_between d js) lines) pass.line e ends at in
+    let a_below = subst (λ (x : Edge). x.a < length js) f.is below.0 in
+    let b_below = subst (λ (x : Edge). x.b < length js) f.is below.1 in
+    let at_a = junction_at js (first_of (points_of d pass.line)) a_below in
+    let at_b = junction_at js (last_of (points_of d pass.line)) b_below in
+    let needles = law pass.line keeps (All-contains (λ line. line < length d.lines) lines pass.line there f.held) in
+    by_ends f.is needles (first_of (points_of d pass.line)) refl at_a a_below (last_of (points_of d pass.line)) refl at_b b_below
+  where
+    made : (w : Way d.step js e (needles_of d pass.line) pass.back) → Passed d js pass e
+    made w = record { from = w.from; to = w.to; from_is = w.from_is; to_is = w.to_is; trail = w.trail; count = w.count }
+
+    nowhere : (n : ℕ) → n < n → ⊥
+    nowhere n h = omega arith
+
+    by_ends : e ≡ edge_between d js pass.line → AreNeedlesOf d pass.line (needles_of d pass.line)
+        → (x : Option Point) → first_of (points_of d pass.line) ≡ x → slice_get js (number_of js x) ≡ x → number_of js x < length js
+        → (y : Option Point) → last_of (points_of d pass.line) ≡ y → slice_get js (number_of js y) ≡ y → number_of js y < length js → Passed d js pass e
+    by_ends is needles None first at_a a_below y last at_b b_below = absurd (nowhere (length js) a_below)
+    by_ends is needles (Some a) first at_a a_below None last at_b b_below = absurd (nowhere (length js) b_below)
+    by_ends is needles (Some a) first at_a a_below (Some b) last at_b b_below =
+        made (way d.step js e (needles_of d pass.line) a b
+        (subst (λ (x : Edge). slice_get js x.a ≡ Some a) (sym is) (ap (λ (o : Option Point). slice_get js (number_of js o)) first ∙ at_a))
+        (subst (λ (x : Edge). slice_get js x.b ≡ Some b) (sym is) (ap (λ (o : Option Point). slice_get js (number_of js o)) last ∙ at_b))
+        (trail_of d.step a b (needles_of d pass.line) (needles.along.first ∙ first) (needles.along.last ∙ last) needles.along.close needles.along.in_range)
+        (needles.count ∙ ap (λ (x : Edge). x.cost + 1) (sym is)) pass.back)
+
+-- the needles behind the first are the rest of a trail
+behind : (step : ℕ) (from to : Point) (points : List Point) (t : Trail step from to points) → drop 1 points ≡ t.rest
+behind step from to points t = ap (λ (ps : List Point). drop 1 ps) t.is
+
+-- one pass, and those after it
+sewn_more : (d : DrawingValue) (lines : List ℕ) (js : List Point) (pass : Pass) (rest : List Pass) (e : Edge)
+    → edge_of lines (map (edge_between d js) lines) pass.line ≡ Some e → Contains lines pass.line → (p : Passed d js pass e)
+    → Sewn d lines js p.to rest → Sewn d lines js p.from (pass ∷ rest)
+sewn_more d lines js pass rest e at held p more = record {
+  held = All-cons (λ (x : Pass). Contains lines x.line) pass rest held more.held;
+  close = subst (λ (ps : List Point). KeepsClose d.step p.from ps) (sym is)
+      (close_on d.step p.from p.trail.rest (later d rest) p.trail.close (subst (λ (q : Point). KeepsClose d.step q (later d rest)) (sym p.trail.last) more.close));
+  in_range = subst (λ (ps : List Point). All IsNeedlePoint ps) (sym is)
+      (All-append IsNeedlePoint p.trail.rest (later d rest) (All-tail IsNeedlePoint p.from p.trail.rest p.trail.in_range) more.in_range);
+  count = counted (length (later d (pass ∷ rest))) (length p.trail.rest) (length (later d rest)) (length (needles_of_pass d pass)) e.cost
+      (pass_sum lines (map (edge_between d js) lines) cost_of rest) (of_edge cost_of (edge_of lines (map (edge_between d js) lines) pass.line))
+      (ap (λ (ps : List Point). length ps) is ∙ length-append p.trail.rest (later d rest)) (ap (λ (ps : List Point). length ps) p.trail.is) p.count more.count
+      (ap (of_edge cost_of) at);
+}
+  where
+    is : later d (pass ∷ rest) ≡ p.trail.rest ++ later d rest
+    is = flat_map-cons (λ (next : Pass). drop 1 (needles_of_pass d next)) pass rest
+        ∙ ap (λ (ps : List Point). ps ++ later d rest) (behind d.step p.from p.to (needles_of_pass d pass) p.trail)
+
+    counted : (n r l k c s o : ℕ) → n ≡ r + l → k ≡ suc r → k ≡ c + 1 → l ≡ s → o ≡ c → n ≡ o + s
+    counted n r l k c s o a b f g h = omega arith
+
+sewn_none : (d : DrawingValue) (lines : List ℕ) (js : List Point) (at : Point) → Sewn d lines js at []
+sewn_none d lines js at = record {
+  held = All-nil (λ (x : Pass). Contains lines x.line);
+  close = tt;
+  in_range = All-nil IsNeedlePoint;
+  count = refl;
+}
+
+-- a walk from a junction at a point on
+sewn : (d : DrawingValue) → KeepsDrawing d → NeedlesLeadAlong d → (lines : List ℕ) → All (λ line. line < length d.lines) lines
+    → (js : List Point) → ends_below (length js) (map (edge_between d js) lines) ≡ true
+    → (walk : List Pass) (j to : ℕ) (at : Point) → slice_get js j ≡ Some at → walk_on lines (map (edge_between d js) lines) (Some j) walk ≡ Some to
+    → Sewn d lines js at walk
+sewn d keeps law lines there js ends [] j to at here is = sewn_none d lines js at
+sewn d keeps law lines there js ends (pass ∷ rest) j to at here is =
+    by_edge (edge_of lines (map (edge_between d js) lines) pass.line) refl is
+    (λ m. λ q. λ there_q. λ on. sewn d keeps law lines there js ends rest m to q there_q on)
+  where
+    same : (m n : ℕ) → (m == n) ≡ true → m ≡ n
+    same m n is = grind (arith, nat_tests)
+
+    one_point : (p q : Point) → Some p ≡ Some q → p ≡ q
+    one_point p q is = cc
+
+    by_start : (e : Edge) → edge_of lines (map (edge_between d js) lines) pass.line ≡ Some e → (t : Bool) → (start_of e pass.back == j) ≡ t
+        → walk_on lines (map (edge_between d js) lines) (cond t (Some (end_of e pass.back)) None) rest ≡ Some to
+        → ((m : ℕ) (q : Point) → slice_get js m ≡ Some q → walk_on lines (map (edge_between d js) lines) (Some m) rest ≡ Some to → Sewn d lines js q rest)
+        → Sewn d lines js at (pass ∷ rest)
+    by_start e found_e false test is more = absurd (lost lines (map (edge_between d js) lines) rest to is)
+    by_start e found_e true test is more =
+        let p = passed d keeps law lines there js ends pass e found_e in
+        let from : p.from ≡ at = one_point p.from at (sym p.from_is ∙ ap (slice_get js) (same (start_of e pass.back) j test) ∙ here) in
+        subst (λ (q : Point). Sewn d lines js q (pass ∷ rest)) from
+        (sewn_more d lines js pass rest e found_e (found d js lines pass.line e found_e).held p (more (end_of e pass.back) p.to p.to_is is))
+
+    by_edge : (o : Option Edge) → edge_of lines (map (edge_between d js) lines) pass.line ≡ o
+        → walk_on lines (map (edge_between d js) lines) (after_edge o pass.back j) rest ≡ Some to
+        → ((m : ℕ) (q : Point) → slice_get js m ≡ Some q → walk_on lines (map (edge_between d js) lines) (Some m) rest ≡ Some to → Sewn d lines js q rest)
+        → Sewn d lines js at (pass ∷ rest)
+    by_edge None found_e is more = absurd (lost lines (map (edge_between d js) lines) rest to is)
+    by_edge (Some e) found_e is more = by_start e found_e (start_of e pass.back == j) refl is more
+
+-- where a fitting walk goes from
+goes_from : (x y : Option ℕ) → are_one x y ≡ true → (to : ℕ) × (x ≡ Some to)
+goes_from None y is = absurd (cc)
+goes_from (Some a) y is = (a, refl)
+
+-- a walk with a pass that leads somewhere
+record Leading (d : DrawingValue) (lines : List ℕ) (js : List Point) (walk : List Pass) : Type 0 where
+  pass : Pass
+  rest : List Pass
+  is : walk ≡ pass ∷ rest
+  e : Edge
+  at : edge_of lines (map (edge_between d js) lines) pass.line ≡ Some e
+  to : ℕ
+  goes : walk_on lines (map (edge_between d js) lines) (Some (end_of e pass.back)) rest ≡ Some to
+
+leading : (d : DrawingValue) (lines : List ℕ) (js : List Point) (begin : Option ℕ) (walk : List Pass) (to : ℕ) → 1 ≤ length walk
+    → walk_on lines (map (edge_between d js) lines) begin walk ≡ Some to → Leading d lines js walk
+leading d lines js begin [] to some is = absurd (omega arith)
+leading d lines js None (p ∷ ps) to some is = absurd (lost lines (map (edge_between d js) lines) ps to is)
+leading d lines js (Some j) (p ∷ ps) to some is = by_edge (edge_of lines (map (edge_between d js) lines) p.line) refl is
+  where
+    by_start : (e : Edge) → edge_of lines (map (edge_between d js) lines) p.line ≡ Some e → (t : Bool)
+        → walk_on lines (map (edge_between d js) lines) (cond t (Some (end_of e p.back)) None) ps ≡ Some to → Leading d lines js (p ∷ ps)
+    by_start e at false is = absurd (lost lines (map (edge_between d js) lines) ps to is)
+    by_start e at true is = record { pass = p; rest = ps; is = refl; e = e; at = at; to = to; goes = is }
+
+    by_edge : (o : Option Edge) → edge_of lines (map (edge_between d js) lines) p.line ≡ o
+        → walk_on lines (map (edge_between d js) lines) (after_edge o p.back j) ps ≡ Some to → Leading d lines js (p ∷ ps)
+    by_edge None at is = absurd (lost lines (map (edge_between d js) lines) ps to is)
+    by_edge (Some e) at is = by_start e at (start_of e p.back == j) is
+
+-- a walk that covers a line has a pass
+covers_some : (lines : List ℕ) (walk : List Pass) → 1 ≤ length lines → covers lines walk ≡ true → 1 ≤ length walk
+covers_some [] walk some all = absurd (omega arith)
+covers_some (n ∷ lines) [] some all = absurd (cc)
+covers_some (n ∷ lines) (p ∷ walk) some all = omega arith
+
+-- the needles of a walk are its first one, and those behind it
+needles_are : (d : DrawingValue) (js : List Point) (pass : Pass) (rest : List Pass) (e : Edge) (p : Passed d js pass e)
+    → needles_of_walk d (pass ∷ rest) ≡ p.from ∷ later d (pass ∷ rest)
+needles_are d js pass rest e p =
+    ap (λ (ps : List Point). ps ++ later d rest) p.trail.is
+    ∙ ap (λ (ps : List Point). p.from ∷ ps)
+    (ap (λ (ps : List Point). ps ++ later d rest) (sym (behind d.step p.from p.to (needles_of_pass d pass) p.trail))
+    ∙ sym (flat_map-cons (λ (next : Pass). drop 1 (needles_of_pass d next)) pass rest))
+
+sewable : (d : DrawingValue) (lines : List ℕ) (pass : Pass) (rest : List Pass) (e : Edge) (p : Passed d (junctions_of d lines) pass e)
+    → Sewn d lines (junctions_of d lines) p.from (pass ∷ rest) → IsSewable d lines (pass ∷ rest)
+sewable d lines pass rest e p s =
+    let is = needles_are d (junctions_of d lines) pass rest e p in
+    record {
+      there = s.held;
+      penetrations = ap (λ (ps : List Point). length ps) is ∙ counted (length (later d (pass ∷ rest))) _ s.count;
+      near = subst (λ (ps : List Point). AreNear d.step ps) (sym is) (record {
+        some = some p.from (later d (pass ∷ rest));
+        in_range = All-cons IsNeedlePoint p.from (later d (pass ∷ rest)) (All-head IsNeedlePoint p.from p.trail.rest p.trail.in_range) s.in_range;
+        close = s.close;
+      });
+    }
+  where
+    counted : (n k : ℕ) → n ≡ k → suc n ≡ k + 1
+    counted n k is = omega arith
+
+    some : (q : Point) (ps : List Point) → q ∷ ps ≢ []
+    some q ps is = cc
+
+pub fitting_walks_are_sewable : ((d : DrawingValue) → NeedlesLeadAlong d) → FittingWalksAreSewable
+fitting_walks_are_sewable law d lines walk keeps there kept fit =
+    let parts = and_parts (leads (piece_of d lines) walk) (covers lines walk) fit in
+    let some = covers_some lines walk kept.some parts.1 in
+    let g = goes_from (walk_on lines (map (edge_between d (junctions_of d lines)) lines) (begin_of (piece_of d lines) walk) walk) (finish_of (piece_of d lines) walk) parts.0 in
+    led (leading d lines (junctions_of d lines) (begin_of (piece_of d lines) walk) walk g.0 some g.1)
+  where
+    led : Leading d lines (junctions_of d lines) walk → IsSewable d lines walk
+    led l =
+        let p = passed d keeps (law d) lines there (junctions_of d lines) kept.ends l.pass l.e l.at in
+        let s = sewn_more d lines (junctions_of d lines) l.pass l.rest l.e l.at (found d (junctions_of d lines) lines l.pass.line l.e l.at).held p
+        (sewn d keeps (law d) lines there (junctions_of d lines) kept.ends l.rest (end_of l.e l.pass.back) l.to p.to p.to_is l.goes) in
+        subst (λ (w : List Pass). IsSewable d lines w) (sym l.is) (sewable d lines l.pass l.rest l.e p s)

@@ -1,0 +1,121 @@
+-- Edges that join junctions are no fewer than these less one.
+use Rattle.std.proofs.Common.{◌≡◌, ◌<◌, ◌≤◌, ℕ, zero, suc, ◌+◌, ◌==◌, Bool, true, false, cond, List, [], ◌∷◌, length, slice_get, Some, arith, refl, sym, ◌∙◌, ap, subst}
+use Rattle.std.proofs.lemmas.Bool.Decides.{nat_tests}
+use Rattle.line_graph.specs.declared.edge.Edge.{Edge}
+use Rattle.line_graph.specs.KeptPieces.{AreJoined}
+use Rattle.line_graph.specs.PieceGraphs.{bit}
+use Rattle.line_graph.proofs.PieceLimits.{same}
+
+-- who leads what that number led, once another follows a first
+abbrev led : (first other n : ℕ) → ℕ
+led first other n = cond (n == other) first n
+
+-- a junction that leads all that edges join with this one
+abbrev leader : List Edge → ℕ → ℕ
+leader [] j = j
+leader (e ∷ es) j = led (leader es e.a) (leader es e.b) (leader es j)
+
+-- how many junctions lead themselves
+abbrev leaders : (ℕ → ℕ) → ℕ → ℕ
+leaders f zero = 0
+leaders f (suc n) = bit (f n == n) + leaders f n
+
+-- how often a number is below another
+abbrev marks : ℕ → ℕ → ℕ
+marks c zero = 0
+marks c (suc n) = bit (n == c) + marks c n
+
+-- a number is found to be itself
+self : (n : ℕ) → (n == n) ≡ true
+self n = grind (arith, nat_tests)
+
+-- one at most
+bit_few : (b : Bool) → bit b ≤ 1
+bit_few true = omega arith
+bit_few false = omega arith
+
+-- no number from there on is below
+marks_none : (c n : ℕ) → n ≤ c → marks c n ≡ 0
+marks_none c zero less = refl
+marks_none c (suc n) less = rw (apart n c (omega (arith, less)), marks_none c n (omega (arith, less))) refl
+  where
+    apart : (n c : ℕ) → n < c → (n == c) ≡ false
+    apart n c less = grind (arith, nat_tests)
+
+-- a number is there once at most
+marks_few : (c n : ℕ) → marks c n ≤ 1
+marks_few c zero = omega arith
+marks_few c (suc n) = by_test (n == c) refl (marks_few c n)
+  where
+    by_test : (t : Bool) → (n == c) ≡ t → marks c n ≤ 1 → bit (n == c) + marks c n ≤ 1
+    by_test true is rest = omega (arith, marks_none c n (omega (arith, same n c is)), bit_few (n == c))
+    by_test false is rest = omega (arith, ap bit is, rest)
+
+-- both ends of an edge have one leader
+leader_keeps : (es : List Edge) (i : ℕ) (e : Edge) → slice_get es i ≡ Some e → leader es e.a ≡ leader es e.b
+leader_keeps [] i e is = absurd (cc)
+leader_keeps (x ∷ es) zero e is =
+    let one : x ≡ e = cc in
+    subst (λ (y : Edge). led (leader es x.a) (leader es x.b) (leader es y.a) ≡ led (leader es x.a) (leader es x.b) (leader es y.b)) one
+    (both (leader es x.a) (leader es x.b))
+  where
+    alike : (a b : ℕ) (t : Bool) → cond t a a ≡ a
+    alike a b true = refl
+    alike a b false = refl
+
+    both : (a b : ℕ) → led a b a ≡ led a b b
+    both a b = alike a b (a == b) ∙ sym (ap (λ (t : Bool). cond t a b) (self b))
+leader_keeps (x ∷ es) (suc i) e is = ap (led (leader es x.a) (leader es x.b)) (leader_keeps es i e is)
+
+-- an edge takes no more than one leader away
+leader_falls : (f : ℕ → ℕ) (first other n : ℕ) → leaders f n ≤ leaders (λ j. led first other (f j)) n + marks other n
+leader_falls f first other zero = omega arith
+leader_falls f first other (suc n) =
+    omega (arith, leader_falls f first other n, by_test (f n == n) refl (f n == other) refl)
+  where
+    by_test : (t : Bool) → (f n == n) ≡ t → (u : Bool) → (f n == other) ≡ u
+        → bit (f n == n) ≤ bit (led first other (f n) == n) + bit (n == other)
+    by_test true here true follows =
+        let is : (n == other) ≡ true = grind (arith, nat_tests) in
+        omega (arith, ap bit is, bit_few (f n == n))
+    by_test true here false follows =
+        let is : (led first other (f n) == n) ≡ true = ap (λ (u : Bool). cond u first (f n) == n) follows ∙ here in
+        omega (arith, ap bit is, bit_few (f n == n))
+    by_test false here u follows = omega (arith, ap bit here)
+
+-- without edges each junction leads itself
+all_lead : (n : ℕ) → leaders (λ j. j) n ≡ n
+all_lead zero = refl
+all_lead (suc n) = omega (arith, ap bit (self n), all_lead n)
+
+-- so as many edges leave no fewer leaders than this
+leaders_left : (es : List Edge) (n : ℕ) → n ≤ leaders (leader es) n + length es
+leaders_left [] n = omega (arith, all_lead n)
+leaders_left (e ∷ es) n =
+    omega (arith, leaders_left es n, leader_falls (leader es) (leader es e.a) (leader es e.b) n, marks_few (leader es e.b) n)
+
+-- one leader of all is one at most
+one_leader : (f : ℕ → ℕ) (c n : ℕ) → ((j : ℕ) → j < n → f j ≡ c) → leaders f n ≤ marks c n
+one_leader f c zero all = omega arith
+one_leader f c (suc n) all =
+    omega (arith, one_leader f c n (λ j. λ below. all j (omega (arith, below))), by_test (f n == n) refl)
+  where
+    by_test : (t : Bool) → (f n == n) ≡ t → bit (f n == n) ≤ bit (n == c)
+    by_test true here =
+        let at : f n ≡ c = all n (omega arith) in
+        let is : (n == c) ≡ true = grind (arith, nat_tests) in
+        omega (arith, ap bit is, bit_few (f n == n))
+    by_test false here = omega (arith, ap bit here)
+
+-- edges that join all junctions are no fewer than these less one
+pub junctions_few : (es : List Edge) (n : ℕ) → AreJoined es n → n ≤ length es + 1
+junctions_few es zero joined = omega arith
+junctions_few es (suc n) joined =
+    let all = one_leader (leader es) (leader es 0) (suc n) (λ j. λ below. follows j below) in
+    omega (arith, leaders_left es (suc n), all, marks_few (leader es 0) (suc n))
+  where
+    follows : (j : ℕ) → j < suc n → leader es j ≡ leader es 0
+    follows j below =
+        let alike = joined (λ k. leader es k == leader es 0) (λ i. λ e. λ is. ap (λ (k : ℕ). k == leader es 0) (leader_keeps es i e is))
+        j 0 below (omega arith) in
+        same (leader es j) (leader es 0) (alike ∙ self (leader es 0))

@@ -1,0 +1,7 @@
+use Rattle.std.specs.HashMap.{get}
+use Rattle.line_graph.specs.FirstLines.{IsLinking, is_same_spot}
+use Rattle.line_graph.proofs.first_lines.links.Given as goal
+
+-- the lines so far are linked
+abbrev pub invariant-loop-line : goal.invariant-loop-line
+invariant-loop-line l = IsLinking l.d l.line (get is_same_spot l.firsts) l.links.items

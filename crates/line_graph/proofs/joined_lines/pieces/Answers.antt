@@ -1,0 +1,9 @@
+use Rattle.std.proofs.Common.{◌∙◌}
+use Rattle.line_graph.proofs.PartLemmas.{labels_are}
+use Rattle.line_graph.proofs.joined_lines.pieces.Goals as goal
+
+pub labelled_pieces-requires : goal.labelled_pieces-requires
+labelled_pieces-requires c =
+    rw c.as_slice-2.ensures.value
+    (labels_are c.args.d.now _ _ c.in_ok-links.ensures (rw (← c.as_slice.ensures.value) c.in_ok-labels.ensures.value)
+    (c.in_ok-labels.ensures.sized ∙ c.line_count.ensures.value))

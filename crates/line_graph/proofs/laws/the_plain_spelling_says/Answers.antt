@@ -1,5 +1,0 @@
-use Rattle.line_graph.proofs.SpelledDrawings.{spelling_read}
-use Rattle.line_graph.proofs.laws.the_plain_spelling_says.Goals as goal
-
-pub returns : goal.returns
-returns c d keeps = spelling_read d keeps

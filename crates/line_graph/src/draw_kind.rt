@@ -1,0 +1,55 @@
+ghost use Rattle.std.specs.Prelude.{◌≡◌};
+
+use design_model::Memory;
+use std::alloc::AllocFailed;
+
+/// What is wrong with a drawing or a drawing text.
+#[derive(Clone, Copy, Debug, PartialEq, Eq)]
+pub enum DrawKind {
+    /// The text does not begin with the words `redwork 1`.
+    BadHeader,
+    /// A text line says nothing that a line of a drawing text may say there.
+    BadWord,
+    /// A word is not a number.
+    BadNumber,
+    /// A number leaves its range.
+    OutOfRange,
+    /// A line has fewer than two points, or a number without its partner.
+    FewPoints,
+    /// A point of a line is the same as the one before.
+    RepeatedPoint,
+    /// A block has no line.
+    EmptyBlock,
+    /// A line comes before any block, or there is no block at all.
+    NoBlock,
+    /// There are more than 1,024 lines.
+    TooManyLines,
+    /// All lines together have more than 65,536 points.
+    TooManyPoints,
+    /// There are more than 255 blocks.
+    TooManyBlocks,
+    /// All lines together have more than 200,000 steps.
+    TooMuchCost,
+    /// Memory was wanted and not found.
+    Memory,
+}
+
+impl From<Memory> for DrawKind {
+    ghost use Rattle.line_graph.specs.declared.draw_kind.DrawKind.TheVariants as kind;
+
+    ghost from_gives = { λ _ e. e ≡ kind.Memory };
+
+    fn from(_memory: Memory) -> DrawKind {
+        DrawKind::Memory
+    }
+}
+
+impl<T: Drop> From<AllocFailed<T>> for DrawKind {
+    ghost use Rattle.line_graph.specs.declared.draw_kind.DrawKind.TheVariants as kind;
+
+    ghost from_gives = { λ _ e. e ≡ kind.Memory };
+
+    fn from(_error: AllocFailed<T>) -> DrawKind {
+        DrawKind::Memory
+    }
+}

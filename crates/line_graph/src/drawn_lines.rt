@@ -1,0 +1,37 @@
+ghost use Rattle.std.specs.Prelude.{◌≡◌, ◌<◌, ◌≤◌, Some, length};
+ghost use Rattle.line_graph.specs.declared.limits.TheConstants.{MAX_POINTS};
+ghost use Rattle.line_graph.specs.Drawings.{IsLine, first_of, last_of, points_of};
+ghost use Rattle.line_graph.specs.Walks.{cost_of_line};
+
+use crate::drawing::Drawing;
+use crate::line_shape::line_steps;
+use design_model::Point;
+
+/// The points where a line begins and where it ends.
+pub fn line_ends(d: &Drawing, line: u32) -> (Point, Point)
+    requires { line < length d.now.lines }
+    ensures first { first_of (points_of d.now line) ≡ Some result.0 }
+    ensures last { last_of (points_of d.now line) ≡ Some result.1 }
+{
+    let points = points_to_sew(d, line);
+    (points[0], points[points.len() - 1])
+}
+
+/// What it costs to sew along a line, in steps.
+pub fn line_cost(d: &Drawing, line: u32) -> u32
+    requires { line < length d.now.lines }
+    ensures { result ≡ cost_of_line d.now line }
+{
+    line_steps(d.step(), points_to_sew(d, line)) as u32
+}
+
+/// The points of a line, and what is known of them.
+fn points_to_sew(d: &Drawing, line: u32) -> &[Point]
+    requires { line < length d.now.lines }
+    ensures value { result.now ≡ points_of d.now line }
+    ensures line { IsLine result.now }
+    ensures few { length result.now ≤ MAX_POINTS }
+{
+    let _step = d.step();
+    d.line_points(line)
+}

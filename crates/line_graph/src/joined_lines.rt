@@ -1,0 +1,51 @@
+ghost use Rattle.std.specs.Prelude.{◌≡◌, ◌<◌, IfOk, get_or, length};
+ghost use Rattle.line_graph.specs.CutPieces.{AreCutFrom, graph_of};
+ghost use Rattle.line_graph.specs.PieceGraphs.{piece_of as the_piece_of};
+ghost use Rattle.line_graph.specs.PieceParts.{AreLabels, labelled};
+
+use crate::drawing::Drawing;
+use crate::first_lines::links;
+use crate::line_labels::labels;
+use crate::piece::{Piece, Pieces};
+use crate::piece_lines::{lines_with, piece_of};
+use design_model::Memory;
+use std::alloc::Global;
+
+/// All pieces of a drawing, in the order of their first lines.
+pub fn pieces(alloc: Global, d: &Drawing) -> Result<Pieces, Memory>
+    ensures { IfOk result (AreCutFrom d.now) }
+{
+    let links = links(alloc, d)?;
+    let labels = labels(alloc, links.as_slice(), d.line_count())?;
+    let pieces = labelled_pieces(alloc, d, labels.as_slice())?;
+    Ok(pieces)
+}
+
+/// The pieces of lines that have one label.
+fn labelled_pieces(alloc: Global, d: &Drawing, labels: &[u32]) -> Result<Pieces, Memory>
+    requires { AreLabels d.now labels.now }
+    ensures { IfOk result (AreCutFrom d.now) }
+{
+    let mut pieces = Pieces::new(alloc);
+    for line in 0..d.line_count() {
+        if labels[line as usize] != line {
+            continue;
+        }
+        pieces.push(labelled_piece(alloc, d, labels, line)?)?;
+    }
+    Ok(pieces)
+}
+
+/// The piece of the lines with that label.
+fn labelled_piece(alloc: Global, d: &Drawing, labels: &[u32], label: u32) -> Result<Piece, Memory>
+    requires labels { AreLabels d.now labels.now }
+    requires there { label < length d.now.lines }
+    requires first { get_or labels.now label 0 ≡ label }
+    ensures { IfOk result (λ piece.
+        graph_of piece ≡ the_piece_of d.now (labelled labels.now label)) }
+{
+    let _step = d.step();
+    let lines = lines_with(alloc, labels, label)?;
+    let piece = piece_of(alloc, d, lines)?;
+    Ok(piece)
+}

@@ -1,0 +1,102 @@
+ghost use Rattle.std.specs.Prelude.{◌≡◌, ◌≤◌, ◌<◌, ◌||◌, ◌∷◌, [], IfOk, get_or, length};
+ghost use Rattle.line_graph.specs.LineLabels.{AreLow, AreOwn, AreSettled, AreWithin, Labels, Lowered, Lowers};
+
+use design_model::Memory;
+use std::alloc::Global;
+
+/// A line, and the first line that has one of its ends.
+#[derive(Clone, Copy, Debug, PartialEq, Eq)]
+pub struct Link {
+    pub line: u32,
+    pub first: u32,
+}
+
+/// A label for each of so many lines: that of a line that is joined to it and no later. Linked lines
+/// have the same.
+pub fn labels(alloc: Global, links: &[Link], count: u32) -> Result<Vec<u32>, Memory>
+    requires { AreWithin count links.now }
+    ensures value { IfOk result (λ labels. Labels links.now labels.items) }
+    ensures sized { IfOk result (λ labels. length labels.items ≡ count) }
+{
+    let mut labels = own_labels(alloc, count)?;
+    settle(&mut labels, links);
+    Ok(labels)
+}
+
+/// Each line's own index.
+fn own_labels(alloc: Global, count: u32) -> Result<Vec<u32>, Memory>
+    ensures { IfOk result (λ labels. AreOwn count labels.items) }
+{
+    let mut labels = Vec::new(alloc);
+    for line in 0..count {
+        labels.push(line)?;
+    }
+    Ok(labels)
+}
+
+/// Lowers labels until linked lines have the same.
+fn settle(labels: &mut Vec<u32>, links: &[Link])
+    requires low { AreLow labels.old.items }
+    requires within { AreWithin (length labels.old.items) links.now }
+    ensures { AreSettled links.now labels.old.items labels.new.items }
+{
+    while sweep(labels, links) {}
+}
+
+/// Lowers the labels at each link, and says whether any changed.
+fn sweep(labels: &mut Vec<u32>, links: &[Link]) -> bool
+    requires low { AreLow labels.old.items }
+    requires within { AreWithin (length labels.old.items) links.now }
+    ensures { Lowers links.now labels.old.items labels.new.items result }
+{
+    let mut changed = false;
+    for link in links {
+        changed = either(join(labels, *link), changed);
+    }
+    changed
+}
+
+/// Lowers the labels of two linked lines, and of the lines that are their labels, to the lesser label
+/// of the latter two. As labels of labels fall too, few sweeps are enough.
+fn join(labels: &mut Vec<u32>, link: Link) -> bool
+    requires low { AreLow labels.old.items }
+    requires line { link.line < length labels.old.items }
+    requires first { link.first < length labels.old.items }
+    ensures { Lowers (link ∷ []) labels.old.items labels.new.items result }
+{
+    let line = label_at(labels, link.line);
+    let first = label_at(labels, link.first);
+    let least = label_at(labels, line).min(label_at(labels, first));
+    let at_label = lower(labels, line, least);
+    let at_other_label = lower(labels, first, least);
+    let at_line = lower(labels, link.line, least);
+    let at_first = lower(labels, link.first, least);
+    either(either(at_first, at_line), either(at_other_label, at_label))
+}
+
+/// Gives a line the label, unless its own is no greater.
+fn lower(labels: &mut Vec<u32>, line: u32, label: u32) -> bool
+    requires { line < length labels.old.items }
+    ensures { Lowered line label labels.old.items labels.new.items result }
+{
+    if label < labels[line as usize] {
+        labels[line as usize] = label;
+        return true;
+    }
+    false
+}
+
+fn label_at(labels: &Vec<u32>, line: u32) -> u32
+    requires there { line < length labels.now.items }
+    requires low { AreLow labels.now.items }
+    ensures value { result ≡ get_or labels.now.items line 0 }
+    ensures low { result ≤ line }
+{
+    labels[line as usize]
+}
+
+fn either(one: bool, other: bool) -> bool
+    ensures { result ≡ (one || other) }
+{
+    one || other
+}

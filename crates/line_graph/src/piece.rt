@@ -1,0 +1,34 @@
+ghost use Rattle.line_graph.specs.KeptPieces.{KeepsPiece};
+
+use crate::edge::Edges;
+use design_model::{Items, Numbers, Points};
+
+/// Lines of one block that chains of shared junctions join, as a graph.
+///
+/// `lines` are indexes of the drawing's lines, rising. `junctions` are the ends of these lines, each
+/// once, in the order in which the lines name them, a line's first point before its last. `edges` has
+/// an entry for each line in the same order, and `degrees` the number of line ends at each junction.
+/// `start` and `end` are indexes of junctions: where a walk over the piece is to begin and to end, if
+/// anything is said of it.
+#[derive(Debug, Drop)]
+pub struct Piece {
+    pub block: u32,
+    pub lines: Numbers,
+    pub junctions: Points,
+    pub edges: Edges,
+    pub degrees: Numbers,
+    pub start: Option<u32>,
+    pub end: Option<u32>,
+    pub ghost kept: { KeepsPiece (record {
+      block = block;
+      lines = lines;
+      junctions = junctions;
+      edges = edges;
+      degrees = degrees;
+      start = start;
+      end = end;
+    }) },
+}
+
+/// Pieces, one after another.
+pub type Pieces = Items<Piece>;

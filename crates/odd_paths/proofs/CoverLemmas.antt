@@ -1,0 +1,105 @@
+-- A least cost is at most the costs of all lines: each height below it is crossed by a line.
+use Rattle.std.proofs.Common.{◌≡◌, ℕ, ◌+◌, ◌-◌, ◌<◌, ◌≤◌, min, max, List, [], ◌∷◌, Some, ap, arith, inl, inr, ◌⊎◌, zero, suc}
+use Rattle.std.proofs.lemmas.Bool.{cases_lt}
+use Rattle.std.specs.Prelude.{slice_get, slice_index}
+use Rattle.line_graph.specs.declared.edge.Edge.{Edge}
+use Rattle.line_graph.specs.PieceWalks.{cost_of, edge_sum}
+use Rattle.odd_paths.proofs.PlaceLemmas.{none_is, some_is}
+use Rattle.odd_paths.specs.PlaceWalks.{Links, IsPlaceWalk}
+use Rattle.odd_paths.specs.Sweeps.{IsSettled}
+
+-- the range of an edge: from the lesser of the numbers at its ends to the greater
+abbrev low : List ℕ → Edge → ℕ
+low row e = min (slice_index row e.a) (slice_index row e.b)
+
+abbrev high : List ℕ → Edge → ℕ
+high row e = max (slice_index row e.a) (slice_index row e.b)
+
+-- some line crosses the height
+abbrev Crossed : List ℕ → List Edge → ℕ → Type 0
+Crossed row es h = (k : ℕ) × (e : Edge) × (slice_get es k ≡ Some e) × (low row e ≤ h) × (h < high row e)
+
+-- the sum of what the ranges of the edges have in common with the range from x to y
+abbrev spans : List ℕ → ℕ → ℕ → List Edge → ℕ
+spans row x y [] = 0
+spans row x y (e ∷ es) = (min (high row e) y - max (low row e) x) + spans row x y es
+
+-- an edge whose first end is no higher and whose second end is higher crosses the height
+crosses : (row : List ℕ) (e : Edge) (i m h : ℕ) → Links e i m → slice_index row i ≤ h → h < slice_index row m
+    → (low row e ≤ h) × (h < high row e)
+crosses row e i m h (inl p) under over =
+    let one = ap (λ (x : ℕ). slice_index row x) p.0 in
+    let two = ap (λ (x : ℕ). slice_index row x) p.1 in
+    (omega arith, omega arith)
+crosses row e i m h (inr p) under over =
+    let one = ap (λ (x : ℕ). slice_index row x) p.0 in
+    let two = ap (λ (x : ℕ). slice_index row x) p.1 in
+    (omega arith, omega arith)
+
+-- so a walk that rises above a height has an edge that crosses it
+crossed : (row : List ℕ) (es : List Edge) (i j h : ℕ) (ks : List ℕ) → IsPlaceWalk es i j ks → slice_index row i ≤ h
+    → h < slice_index row j → Crossed row es h
+crossed row es i j h [] w under over = absurd (omega (arith, ap (λ (x : ℕ). slice_index row x) w))
+crossed row es i j h (k ∷ ks) w under over = elim (cases_lt h (slice_index row w.1)) [
+  | inl less ↦ let p = crosses row w.0 i w.1 h w.3 under less in (k, w.0, w.2, p.0, p.1)
+  | inr more ↦ crossed row es w.1 j h ks w.4 more over
+]
+
+in_rest : (row : List ℕ) (x : Edge) (es : List Edge) (h k : ℕ) (e : Edge) → slice_get (x ∷ es) k ≡ Some e → low row e ≤ h
+    → h < high row e → (h < low row x) ⊎ (high row x ≤ h) → Crossed row es h
+in_rest row x es h zero e got lo hi (inl out) = let same = ap (low row) (some_is x e got) in absurd (omega arith)
+in_rest row x es h zero e got lo hi (inr out) = let same = ap (high row) (some_is x e got) in absurd (omega arith)
+in_rest row x es h (suc k) e got lo hi out = (k, e, got, lo, hi)
+
+-- a range without the middle one, in two parts
+spans_split : (row : List ℕ) (lo hi x y : ℕ) (es : List Edge) → lo ≤ hi
+    → spans row x (min lo y) es + spans row (max hi x) y es ≤ spans row x y es
+spans_split row lo hi x y [] le = omega arith
+spans_split row lo hi x y (e ∷ es) le =
+    add_up _ _ _ _ _ _ (one (low row e) (high row e) lo hi x y le) (spans_split row lo hi x y es le)
+  where
+    one : (l h lo hi x y : ℕ) → lo ≤ hi → (min h (min lo y) - max l x) + (min h y - max l (max hi x)) ≤ min h y - max l x
+    one l h lo hi x y le = omega arith
+
+    add_up : (a b c d e f : ℕ) → a + b ≤ c → d + e ≤ f → (a + d) + (b + e) ≤ c + f
+    add_up a b c d e f h k = omega arith
+
+-- edges that cross each height of a range cover it
+covered : (row : List ℕ) (es : List Edge) (x y : ℕ) → ((h : ℕ) → x ≤ h → h < y → Crossed row es h) → y - x ≤ spans row x y es
+covered row [] x y f = elim (cases_lt x y) [
+  | inl less ↦ let p = f x (omega arith) less in absurd (none_is p.1 p.2)
+  | inr more ↦ omega arith
+]
+covered row (e ∷ es) x y f =
+    let left : min (low row e) y - x ≤ spans row x (min (low row e) y) es = covered row es x (min (low row e) y)
+    (λ h a b. let p = f h a (omega arith) in in_rest row e es h p.0 p.1 p.2 p.3 p.4 (inl (omega arith))) in
+    let right : y - max (high row e) x ≤ spans row (max (high row e) x) y es = covered row es (max (high row e) x) y
+    (λ h a b. let p = f h (omega arith) b in in_rest row e es h p.0 p.1 p.2 p.3 p.4 (inr (omega arith))) in
+    let both = spans_split row (low row e) (high row e) x y es (omega arith) in
+    whole (low row e) (high row e) x y _ _ _ (omega arith) left right both
+  where
+    whole : (lo hi x y a b c : ℕ) → lo ≤ hi → min lo y - x ≤ a → y - max hi x ≤ b → a + b ≤ c → y - x ≤ (min hi y - max lo x) + c
+    whole lo hi x y a b c le h k l = omega arith
+
+-- in a settled row the range of an edge is no more than its cost
+spans_fit : (row : List ℕ) (x y : ℕ) (es : List Edge) → IsSettled row es → spans row x y es ≤ edge_sum cost_of es
+spans_fit row x y [] s = omega arith
+spans_fit row x y (e ∷ es) s =
+    sums _ _ _ _ (one (slice_index row e.a) (slice_index row e.b) e.cost x y s.0.forth s.0.back) (spans_fit row x y es s.1)
+  where
+    one : (a b c x y : ℕ) → b ≤ a + c → a ≤ b + c → min (max a b) y - max (min a b) x ≤ c
+    one a b c x y h k = omega arith
+
+    sums : (a b c d : ℕ) → a ≤ b → c ≤ d → a + c ≤ b + d
+    sums a b c d h k = omega arith
+
+-- a walk rises by no more than all lines cost
+pub rises_within : (row : List ℕ) (es : List Edge) (i j : ℕ) (ks : List ℕ) → IsSettled row es → IsPlaceWalk es i j ks
+    → slice_index row j - slice_index row i ≤ edge_sum cost_of es
+rises_within row es i j ks s w =
+    let one = covered row es (slice_index row i) (slice_index row j) (λ h a b. crossed row es i j h ks w a b) in
+    let two = spans_fit row (slice_index row i) (slice_index row j) es s in
+    trans_le _ _ _ one two
+  where
+    trans_le : (a b c : ℕ) → a ≤ b → b ≤ c → a ≤ c
+    trans_le a b c h k = omega arith

@@ -1,0 +1,15 @@
+mod DegreeLemmas
+mod PlaceLemmas
+mod SweepLemmas
+mod CoverLemmas
+mod SoundLemmas
+mod FallLemmas
+mod RowLemmas
+mod LastLemmas
+mod PassLemmas
+mod TableLemmas
+mod RowFacts
+mod LaneLemmas
+mod PassKeeping
+mod DistanceLemmas
+mod SweepFacts

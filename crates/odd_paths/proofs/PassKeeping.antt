@@ -1,0 +1,65 @@
+-- What passes over edges keep in a table of lanes.
+use Rattle.std.proofs.Common.{◌≡◌, ℕ, ◌+◌, ◌<◌, ◌≤◌, Bool, false, List, Some, length, refl, sym, ◌∙◌, subst, arith}
+use Rattle.std.specs.Prelude.{slice_get}
+use Rattle.line_graph.specs.declared.edge.Edge.{Edge}
+use Rattle.line_graph.specs.PieceGraphs.{bit}
+use Rattle.odd_paths.specs.declared.lanes.TheConstants.{LANES}
+use Rattle.odd_paths.proofs.PlaceLemmas.{below_at}
+use Rattle.odd_paths.proofs.RowLemmas.{settled_new}
+use Rattle.odd_paths.proofs.SoundLemmas.{relaxed_sound, swept_sound}
+use Rattle.odd_paths.specs.Lanes.{IsCapped, KeepsCosts, column, weight}
+use Rattle.odd_paths.specs.PlaceWalks.{AreWithin}
+use Rattle.odd_paths.specs.Sweeps.{IsSettled, IsSound, changes, relaxed, swept}
+
+-- no pass at all
+pub keeps_itself : (es : List Edge) (table : List (List ℕ)) → IsCapped table → KeepsCosts es table table
+keeps_itself es table capped = record {
+  size = refl;
+  capped = capped;
+  sound = λ i from there s. s;
+  most = omega arith;
+}
+
+-- one pass after another
+pub keeps_on : (es : List Edge) (old between new : List (List ℕ)) → KeepsCosts es old between → KeepsCosts es between new
+    → KeepsCosts es old new
+keeps_on es old between new one two = record {
+  size = two.size ∙ one.size;
+  capped = two.capped;
+  sound = λ i from there s. (
+      let Sound : ℕ → List (List ℕ) → Type 0 = λ n table. IsSound es n from (column i table) in
+      subst (λ n. Sound n new) one.size (two.sound i from there (subst (λ n. Sound n between) (sym one.size)
+      (one.sound i from there s))));
+  most = omega (arith, one.most, two.most);
+}
+
+-- one edge
+pub relax_keeps : (es : List Edge) (k : ℕ) (e : Edge) (old new : List (List ℕ)) (told : Bool) → AreWithin (length old) es
+    → slice_get es k ≡ Some e → length new ≡ length old → IsCapped new
+    → ((i : ℕ) → i < LANES → column i new ≡ relaxed (column i old) e) → weight new + bit told ≤ weight old → KeepsCosts es old new
+relax_keeps es k e old new told ends got size capped value less = record {
+  size = size;
+  capped = capped;
+  sound = λ i from there s. (
+      let both = below_at (length old) es k e ends got in
+      subst (λ (row : List ℕ). IsSound es (length old) from row) (sym (value i there))
+      (relaxed_sound es (length old) from k e (column i old) s got both.0 both.1));
+  most = omega (arith, less);
+}
+
+-- all edges in their order
+pub sweep_keeps : (es : List Edge) (old new : List (List ℕ)) (told : Bool) → AreWithin (length old) es → length new ≡ length old
+    → IsCapped new → ((i : ℕ) → i < LANES → column i new ≡ swept (column i old) es) → weight new + bit told ≤ weight old
+    → KeepsCosts es old new
+sweep_keeps es old new told ends size capped value less = record {
+  size = size;
+  capped = capped;
+  sound = λ i from there s. (
+      subst (λ (row : List ℕ). IsSound es (length old) from row) (sym (value i there))
+      (swept_sound es (length old) from (column i old) ends s));
+  most = omega (arith, less);
+}
+
+pub sweep_settles : (es : List Edge) (old new : List (List ℕ)) → ((i : ℕ) → i < LANES → column i new ≡ swept (column i old) es)
+    → ((i : ℕ) → i < LANES → changes (column i old) es ≡ false) → (i : ℕ) → i < LANES → IsSettled (column i new) es
+sweep_settles es old new value same i there = settled_new es (column i old) (column i new) (value i there) (same i there)

@@ -1,0 +1,53 @@
+-- Worked values of sweeps, last edges and columns.
+use Rattle.std.proofs.Common.{◌≡◌, ℕ, true, false, List, [], ◌∷◌, Some, None, refl}
+use Rattle.line_graph.specs.declared.edge.Edge.{Edge}
+use Rattle.odd_paths.specs.declared.sweeps.TheConstants.{FAR}
+use Rattle.odd_paths.specs.Lanes.{column, columns_of, lesser, weight}
+use Rattle.odd_paths.specs.LastEdges.{last_from}
+use Rattle.odd_paths.specs.PlaceWalks.{place_cost}
+use Rattle.odd_paths.specs.Sweeps.{changes, lowered, swept}
+
+abbrev edge : ℕ → ℕ → ℕ → Edge
+edge a b cost = record { a = a; b = b; cost = cost }
+
+-- from junction 0 over 1 to 2, and the same with the far edge first and the near one turned
+abbrev forth : List Edge
+forth = edge 0 1 3 ∷ edge 1 2 5 ∷ []
+
+abbrev back : List Edge
+back = edge 1 2 5 ∷ edge 1 0 3 ∷ []
+
+-- in good order one sweep is enough, else each sweep goes one edge further
+pub known_sweep : swept (0 ∷ FAR ∷ FAR ∷ []) forth ≡ 0 ∷ 3 ∷ 8 ∷ []
+known_sweep = refl
+
+pub known_sweeps : (swept (0 ∷ FAR ∷ FAR ∷ []) back ≡ 0 ∷ 3 ∷ FAR ∷ []) × (swept (0 ∷ 3 ∷ FAR ∷ []) back ≡ 0 ∷ 3 ∷ 8 ∷ [])
+known_sweeps = (refl, refl)
+
+pub known_changes : (changes (0 ∷ 3 ∷ FAR ∷ []) back ≡ true) × (changes (0 ∷ 3 ∷ 8 ∷ []) back ≡ false)
+known_changes = (refl, refl)
+
+-- an equal cost lowers nothing
+pub known_lowered : (lowered (2 ∷ 9 ∷ []) 0 1 6 ≡ 2 ∷ 8 ∷ []) × (lowered (2 ∷ 9 ∷ []) 0 1 7 ≡ 2 ∷ 9 ∷ [])
+known_lowered = (refl, refl)
+
+-- the edge by which a walk comes, and where it comes from; none comes to the terminal
+pub known_last : (last_from (0 ∷ 3 ∷ 8 ∷ []) 2 0 forth ≡ Some (1, 1)) × (last_from (0 ∷ 3 ∷ 8 ∷ []) 1 0 back ≡ Some (1, 0))
+    × (last_from (0 ∷ 3 ∷ 8 ∷ []) 0 0 back ≡ None)
+known_last = (refl, refl, refl)
+
+pub known_place_cost : place_cost forth (1 ∷ 0 ∷ 1 ∷ []) ≡ 13
+known_place_cost = refl
+
+-- two lanes of three numbers
+abbrev lanes : List (List ℕ)
+lanes = (1 ∷ 2 ∷ 3 ∷ []) ∷ (4 ∷ 5 ∷ 6 ∷ []) ∷ []
+
+pub known_columns : (column 1 lanes ≡ 2 ∷ 5 ∷ []) × (columns_of lanes 1 (7 ∷ 9 ∷ []) ≡ (2 ∷ 5 ∷ []) ∷ (3 ∷ 6 ∷ []) ∷ [])
+known_columns = (refl, refl)
+
+pub known_weight : weight lanes ≡ 21
+known_weight = refl
+
+pub known_lesser : (lesser (1 ∷ 4 ∷ []) (6 ∷ 9 ∷ []) 4 0 ≡ 5) × (lesser (1 ∷ 4 ∷ []) (6 ∷ 7 ∷ []) 4 1 ≡ 7)
+known_lesser = (refl, refl)

@@ -1,0 +1,16 @@
+use Rattle.std.proofs.Common.{◌≡◌}
+use Rattle.line_graph.specs.CutPieces.{graph_of}
+use Rattle.line_graph.specs.PieceGraphs.{odd_junctions}
+use Rattle.odd_paths.proofs.DegreeLemmas.{degrees_few, odds_told}
+use Rattle.odd_paths.proofs.odd_junctions.odd.Goals as goal
+use Rattle.odd_paths.specs.ClosedDegrees.{odds_from}
+
+pub odds_in-requires : goal.odds_in-requires
+odds_in-requires c = rw c.as_slice.ensures (degrees_few (graph_of c.args.p.now) c.args.p.now.kept)
+
+pub returns : goal.returns
+returns c =
+    let told : odds_from c.first_of-from.result c.first_of-to.result 0 c.as_slice.result.now
+    ≡ odd_junctions (graph_of c.args.p.now) =
+    rw (c.first_of-from.ensures, c.first_of-to.ensures, c.as_slice.ensures) (odds_told (graph_of c.args.p.now) c.args.p.now.kept) in
+    rw (← told) c.odds_in.ensures

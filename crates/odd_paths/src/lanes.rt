@@ -1,0 +1,83 @@
+ghost use Rattle.std.specs.Prelude.{◌≡◌, ◌+◌, ◌<◌, ◌≤◌, ◌||◌, false, length, slice_index, sum};
+ghost use Rattle.line_graph.specs.declared.limits.TheConstants.{MAX_COST};
+ghost use Rattle.line_graph.specs.PieceGraphs.{bit};
+ghost use Rattle.odd_paths.specs.declared.sweeps.TheConstants.{FAR};
+ghost use Rattle.odd_paths.specs.Lanes.{EachLane, IsCapped, IsNoLower, Suits, column, lesser, weight};
+ghost use Rattle.odd_paths.specs.Sweeps.{changes, is_lower, lowered, relaxed, relaxes, swept};
+
+use line_graph::Edge;
+
+/// How many terminals a table has.
+pub const LANES: usize = 16;
+
+/// Lowers the lanes at the ends of all edges in order, and says whether a number was lowered.
+pub fn sweep(table: &mut [[u32; LANES]], edges: &[Edge]) -> bool
+    requires { Suits edges.now table.old }
+    ensures value { EachLane (λ i. column i table.new ≡ swept (column i table.old) edges.now) }
+    ensures told { result ≡ false → EachLane (λ i. changes (column i table.old) edges.now ≡ false) }
+    ensures capped { IsCapped table.new }
+    ensures weight { weight table.new + bit result ≤ weight table.old }
+{
+    let mut changed = false;
+    let mut rest = edges;
+    while let [e, after @ ..] = rest {
+        let now = relax(table, *e);
+        changed = either(changed, now);
+        rest = after;
+    }
+    changed
+}
+
+/// Lowers the lanes at both ends of an edge.
+pub fn relax(table: &mut [[u32; LANES]], e: Edge) -> bool
+    requires a { e.a < length table.old }
+    requires b { e.b < length table.old }
+    requires cost { e.cost ≤ MAX_COST }
+    requires capped { IsCapped table.old }
+    ensures value { EachLane (λ i. column i table.new ≡ relaxed (column i table.old) e) }
+    ensures told { result ≡ false → EachLane (λ i. relaxes (column i table.old) e ≡ false) }
+    ensures capped { IsCapped table.new }
+    ensures weight { weight table.new + bit result ≤ weight table.old }
+{
+    let forth = lower(table, e.a, e.b, e.cost);
+    let back = lower(table, e.b, e.a, e.cost);
+    either(forth, back)
+}
+
+fn either(one: bool, other: bool) -> bool
+    ensures { result ≡ one || other }
+{
+    one | other
+}
+
+/// Lowers the lane of `b` to that of `a` and the cost, where this is less.
+fn lower(table: &mut [[u32; LANES]], a: u32, b: u32, cost: u32) -> bool
+    requires a { a < length table.old }
+    requires b { b < length table.old }
+    requires cost { cost ≤ MAX_COST }
+    requires capped { IsCapped table.old }
+    ensures value { EachLane (λ i. column i table.new ≡ lowered (column i table.old) a b cost) }
+    ensures told { result ≡ false → EachLane (λ i. is_lower (column i table.old) a b cost ≡ false) }
+    ensures capped { IsCapped table.new }
+    ensures weight { weight table.new + bit result ≤ weight table.old }
+{
+    let near = table[a as usize];
+    lower_lane(&mut table[b as usize], near, cost)
+}
+
+/// Lowers the numbers of a lane to those of the near lane and the cost, where these are less.
+fn lower_lane(lane: &mut [u32; LANES], near: [u32; LANES], cost: u32) -> bool
+    requires capped { EachLane (λ i. slice_index near i ≤ FAR) }
+    requires cost { cost ≤ MAX_COST }
+    ensures value { EachLane (λ i. slice_index lane.new i ≡ lesser near lane.old cost i) }
+    ensures told { result ≡ false → EachLane (λ i. IsNoLower near lane.old cost i) }
+    ensures weight { sum lane.new + bit result ≤ sum lane.old }
+{
+    let mut changed = false;
+    for i in 0..LANES {
+        let low = near[i] + cost;
+        changed = changed | (low < lane[i]);
+        lane[i] = low.min(lane[i]);
+    }
+    changed
+}

@@ -1,0 +1,89 @@
+ghost use Rattle.std.specs.Prelude.{◌≡◌, ◌+◌, ◌++◌, ◌≤◌, IfOk, OnOk, length};
+ghost use Rattle.line_graph.specs.declared.limits.TheConstants.{MAX_LINES};
+ghost use Rattle.line_graph.specs.CutPieces.{graph_of};
+ghost use Rattle.line_graph.specs.PieceGraphs.{bit as bit_of, is_odd, odd_junctions, or_else};
+ghost use Rattle.odd_paths.specs.ClosedDegrees.{back_ends as ends_back, odds_from, only_if};
+ghost use Rattle.odd_paths.specs.OddJunctions.{OddsAreEven};
+
+use design_model::{Memory, Numbers};
+use line_graph::Piece;
+use std::alloc::Global;
+
+/// The indexes of the odd junctions of a piece, rising.
+pub fn odd(alloc: Global, p: &Piece) -> Result<Numbers, Memory>
+    ensures { IfOk result (λ odds. odds ≡ odd_junctions (graph_of p.now)) }
+{
+    let from = first_of(p.start, p.end);
+    let to = first_of(p.end, p.start);
+    odds_in(alloc, p.degrees.as_slice(), from, to)
+}
+
+/// The odd junctions of a piece are even in number.
+pub fn odds_are_even()
+    ensures { OddsAreEven }
+{}
+
+fn first_of(first: Option<u32>, other: Option<u32>) -> Option<u32>
+    ensures { result ≡ or_else first other }
+{
+    match first {
+        Some(at) => Some(at),
+        None => other,
+    }
+}
+
+/// The odd junctions by their degrees, where a line back leads from `to` to `from`.
+fn odds_in(
+    alloc: Global,
+    degrees: &[u32],
+    from: Option<u32>,
+    to: Option<u32>,
+) -> Result<Numbers, Memory>
+    requires { length degrees.now ≤ MAX_LINES + 1 }
+    ensures { IfOk result (λ odds. odds ≡ odds_from from to 0 degrees.now) }
+{
+    let mut odds = Numbers::new(alloc);
+    let mut at = 0;
+    let mut rest = degrees;
+    while let [degree, after @ ..] = rest {
+        push_odd(&mut odds, at, is_odd_at(at, *degree, from, to))?;
+        at += 1;
+        rest = after;
+    }
+    Ok(odds)
+}
+
+fn push_odd(odds: &mut Numbers, at: u32, is_odd: bool) -> Result<(), Memory>
+    ensures { OnOk result (odds.new ≡ odds.old ++ only_if is_odd at) }
+{
+    if is_odd {
+        odds.push(at)?;
+    }
+    Ok(())
+}
+
+fn is_odd_at(at: u32, degree: u32, from: Option<u32>, to: Option<u32>) -> bool
+    ensures { result ≡ is_odd (ends_back from to at + degree) }
+{
+    (back_ends(at, from, to) + degree % 2) % 2 == 1
+}
+
+fn back_ends(at: u32, from: Option<u32>, to: Option<u32>) -> u32
+    ensures value { result ≡ ends_back from to at }
+    ensures most { result ≤ 2 }
+{
+    match from {
+        Some(from) => match to {
+            Some(to) => bit(to == at) + bit(from == at),
+            None => 0,
+        },
+        None => 0,
+    }
+}
+
+fn bit(is: bool) -> u32
+    ensures value { result ≡ bit_of is }
+    ensures most { result ≤ 1 }
+{
+    if is { 1 } else { 0 }
+}

@@ -1,0 +1,68 @@
+ghost use Rattle.std.specs.Prelude.{◌≡◌, ◌+◌, ◌≤◌, false};
+ghost use Rattle.line_graph.specs.PieceGraphs.{bit};
+ghost use Rattle.odd_paths.specs.Lanes.{EachLane, KeepsCosts, Suits, column, weight};
+ghost use Rattle.odd_paths.specs.Sweeps.{IsSettled};
+
+use crate::edge_order::place_in;
+use crate::lanes::{LANES, relax, sweep};
+use line_graph::Edge;
+
+/// How many rounds the edges take where their order is a good one.
+const FEW_ROUNDS: u32 = 6;
+
+/// Lowers the lanes until nothing changes, and says whether that took many rounds: then another
+/// order of the edges may be a better one.
+pub fn settle(table: &mut [[u32; LANES]], edges: &[Edge], order: &[u64]) -> bool
+    requires { Suits edges.now table.old }
+    ensures keeps { KeepsCosts edges.now table.old table.new }
+    ensures settled { EachLane (λ i. IsSettled (column i table.new) edges.now) }
+{
+    let mut left = FEW_ROUNDS;
+    loop {
+        if !round(table, edges, order) {
+            return left == 0;
+        }
+        left = left.saturating_sub(1);
+    }
+}
+
+/// Goes through the edges backwards and forwards by the order, and once as they stand.
+fn round(table: &mut [[u32; LANES]], edges: &[Edge], order: &[u64]) -> bool
+    requires { Suits edges.now table.old }
+    ensures keeps { KeepsCosts edges.now table.old table.new }
+    ensures settled { result ≡ false → EachLane (λ i. IsSettled (column i table.new) edges.now) }
+    ensures less { weight table.new + bit result ≤ weight table.old }
+{
+    backwards(table, edges, order);
+    forwards(table, edges, order);
+    sweep(table, edges)
+}
+
+fn backwards(table: &mut [[u32; LANES]], edges: &[Edge], order: &[u64])
+    requires { Suits edges.now table.old }
+    ensures { KeepsCosts edges.now table.old table.new }
+{
+    for key in order.iter().rev() {
+        relax_at(table, edges, place_in(*key));
+    }
+}
+
+fn forwards(table: &mut [[u32; LANES]], edges: &[Edge], order: &[u64])
+    requires { Suits edges.now table.old }
+    ensures { KeepsCosts edges.now table.old table.new }
+{
+    for key in order {
+        relax_at(table, edges, place_in(*key));
+    }
+}
+
+/// Lowers the lanes at the ends of the edge at that place, if there is one.
+fn relax_at(table: &mut [[u32; LANES]], edges: &[Edge], place: usize)
+    requires { Suits edges.now table.old }
+    ensures { KeepsCosts edges.now table.old table.new }
+{
+    let Some(e) = edges.get(place) else {
+        return;
+    };
+    relax(table, *e);
+}

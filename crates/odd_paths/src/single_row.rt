@@ -1,0 +1,19 @@
+ghost use Rattle.std.specs.Prelude.{◌<◌, IfOk};
+ghost use Rattle.odd_paths.specs.PlaceWalks.{IsGraph, IsRow};
+
+use crate::sweeps::{FAR, settle};
+use design_model::Memory;
+use line_graph::Edge;
+use std::alloc::Global;
+
+/// The least costs from a junction to each of `n` junctions.
+pub fn least_row(alloc: Global, edges: &[Edge], n: usize, from: u32) -> Result<Vec<u32>, Memory>
+    requires graph { IsGraph edges.now n }
+    requires from { from < n }
+    ensures { IfOk result (λ row. IsRow edges.now n from row.items) }
+{
+    let mut row = vec![in alloc; FAR; n]?;
+    row[from as usize] = 0;
+    settle(&mut row, edges);
+    Ok(row)
+}

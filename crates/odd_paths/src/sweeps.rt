@@ -1,0 +1,65 @@
+ghost use Rattle.std.specs.Prelude.{◌≡◌, ◌<◌, length};
+ghost use Rattle.odd_paths.specs.PlaceWalks.{AreWithin};
+ghost use Rattle.odd_paths.specs.Sweeps.{IsSettled, StaysSound, changes, is_lower, lowered, relaxed, relaxes, swept};
+
+use line_graph::Edge;
+
+/// A cost above that of each walk: no walk is known.
+pub const FAR: u32 = 2_147_483_648;
+
+/// Sweeps over the edges until nothing changes.
+pub fn settle(row: &mut [u32], edges: &[Edge])
+    requires { AreWithin (length row.old) edges.now }
+    ensures sound { StaysSound edges.now row.old row.new }
+    ensures settled { IsSettled row.new edges.now }
+{
+    loop {
+        if !sweep(row, edges) {
+            return;
+        }
+    }
+}
+
+/// Lowers the numbers at the ends of all edges in order, and says whether one was lowered.
+fn sweep(row: &mut [u32], edges: &[Edge]) -> bool
+    requires { AreWithin (length row.old) edges.now }
+    ensures told { result ≡ changes row.old edges.now }
+    ensures value { row.new ≡ swept row.old edges.now }
+{
+    let mut changed = false;
+    let mut rest = edges;
+    while let [e, after @ ..] = rest {
+        let now = relax(row, *e);
+        changed = changed || now;
+        rest = after;
+    }
+    changed
+}
+
+/// Lowers the numbers at both ends of an edge.
+fn relax(row: &mut [u32], e: Edge) -> bool
+    requires a { e.a < length row.old }
+    requires b { e.b < length row.old }
+    ensures told { result ≡ relaxes row.old e }
+    ensures value { row.new ≡ relaxed row.old e }
+{
+    let forth = lower(row, e.a, e.b, e.cost);
+    let back = lower(row, e.b, e.a, e.cost);
+    forth || back
+}
+
+/// Lowers the number at `b` to that at `a` and the cost, where this is less.
+fn lower(row: &mut [u32], a: u32, b: u32, cost: u32) -> bool
+    requires a { a < length row.old }
+    requires b { b < length row.old }
+    ensures told { result ≡ is_lower row.old a b cost }
+    ensures value { row.new ≡ lowered row.old a b cost }
+{
+    let near = row[a as usize] as u64 + cost as u64;
+    if near < row[b as usize] as u64 {
+        row[b as usize] = near as u32;
+        true
+    } else {
+        false
+    }
+}

@@ -1,0 +1,79 @@
+ghost use Rattle.std.specs.Prelude.{◌≡◌, ◌<◌, IfOk, length, reverse};
+ghost use Rattle.odd_paths.specs.LastEdges.{AreLeast, IsRowFrom, comes as is_last, last_from};
+ghost use Rattle.odd_paths.specs.PlaceWalks.{AreWithin};
+
+use design_model::Memory;
+use line_graph::Edge;
+use std::alloc::Global;
+
+/// The places of the edges of a least walk from `from` to `j`, by the row of `from`.
+pub fn places(
+    alloc: Global,
+    row: &[u32],
+    edges: &[Edge],
+    from: u32,
+    j: u32,
+) -> Result<Vec<u32>, Memory>
+    requires row { IsRowFrom edges.now from row.now }
+    requires j { j < length row.now }
+    ensures { IfOk result (λ places. AreLeast edges.now row.now from j places.items) }
+{
+    let mut places = places_back(alloc, row, edges, from, j)?;
+    places.reverse();
+    Ok(places)
+}
+
+/// These places, the last one first.
+fn places_back(
+    alloc: Global,
+    row: &[u32],
+    edges: &[Edge],
+    from: u32,
+    j: u32,
+) -> Result<Vec<u32>, Memory>
+    requires row { IsRowFrom edges.now from row.now }
+    requires j { j < length row.now }
+    ensures { IfOk result (λ places. AreLeast edges.now row.now from j (reverse places.items)) }
+{
+    let mut places = Vec::new(alloc);
+    let mut at = j;
+    while at != from {
+        match last_edge(row, edges, at) {
+            Some((place, before)) => {
+                places.push(place as u32)?;
+                at = before;
+            }
+            None => unreachable!(),
+        }
+    }
+    Ok(places)
+}
+
+/// The place of an edge by which a least walk comes to `j`, and its other end.
+fn last_edge(row: &[u32], edges: &[Edge], j: u32) -> Option<(usize, u32)>
+    requires ends { AreWithin (length row.now) edges.now }
+    requires j { j < length row.now }
+    ensures { result ≡ last_from row.now j 0 edges.now }
+{
+    let mut place = 0;
+    let mut rest = edges;
+    while let [e, after @ ..] = rest {
+        if comes(row, e.a, e.b, e.cost, j) {
+            return Some((place, e.a));
+        }
+        if comes(row, e.b, e.a, e.cost, j) {
+            return Some((place, e.b));
+        }
+        place += 1;
+        rest = after;
+    }
+    None
+}
+
+fn comes(row: &[u32], a: u32, b: u32, cost: u32, j: u32) -> bool
+    requires a { a < length row.now }
+    requires j { j < length row.now }
+    ensures { result ≡ is_last row.now a b cost j }
+{
+    b == j && row[a as usize] as u64 + cost as u64 == row[j as usize] as u64
+}

@@ -1,0 +1,11 @@
+-- The limits of names and of files, in bytes.
+use Rattle.std.proofs.Common.{◌≡◌, refl}
+use Rattle.outside_io.specs.declared.limits.TheConstants.{MAX_FILE, MAX_NAME}
+
+-- how long a file that is read may be: 64 times 2 to the 20th
+pub known_file : MAX_FILE ≡ 67108864
+known_file = refl
+
+-- how long a name may be
+pub known_name : MAX_NAME ≡ 4096
+known_name = refl

@@ -1,0 +1,20 @@
+-- The limits of blocks. Moves are in tenths of a millimetre, lengths in bytes.
+use Rattle.std.proofs.Common.{◌≡◌, refl}
+use Rattle.pec_codec.specs.declared.block.TheConstants.{HEADER_LENGTH, LABELS_LENGTH, LIMIT, MAX_STOPS, THUMBNAIL_LENGTH}
+
+-- how far a written record moves on each axis, and the stops of a block
+pub known_move : LIMIT ≡ 2047
+known_move = refl
+
+pub known_stops : MAX_STOPS ≡ 254
+known_stops = refl
+
+-- the lengths of a block's parts
+pub known_labels : LABELS_LENGTH ≡ 512
+known_labels = refl
+
+pub known_header : HEADER_LENGTH ≡ 528
+known_header = refl
+
+pub known_thumbnail : THUMBNAIL_LENGTH ≡ 228
+known_thumbnail = refl

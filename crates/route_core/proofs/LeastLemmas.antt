@@ -1,0 +1,162 @@
+-- Least costs are the same both ways, and none is more than those of a way round.
+use Rattle.std.proofs.Common.{◌≡◌, ◌≤◌, ◌<◌, ◌⊎◌, inl, inr, ℕ, zero, suc, ◌+◌, ◌*◌, ◌==◌, Bool, true, false, cond, not, nat_lt, List, [], ◌∷◌, ◌++◌, length, min, max, slice_index, Option, Some, None, arith, refl, sym, ◌∙◌, ap, subst}
+use Rattle.std.proofs.lemmas.Bool.Decides.{nat_tests}
+use Rattle.blossom_match.specs.Tables.{KeepsTriangles, entry}
+use Rattle.blossom_match.specs.TableValue.{TableValue}
+use Rattle.line_graph.specs.declared.edge.Edge.{Edge}
+use Rattle.line_graph.specs.declared.pass.Pass.{Pass}
+use Rattle.line_graph.specs.PieceGraphs.{PieceValue}
+use Rattle.line_graph.specs.PieceWalks.{after_edge, after_pass, cost_of, edge_of, end_of, of_edge, pass_sum, start_of, walk_cost, walk_on}
+use Rattle.odd_paths.specs.LeastRows.{AreRows, IsLeastCost, LeadsFrom, RowsValue, cost_at, terminal_of}
+use Rattle.route_core.specs.Distances.{IsTableOf}
+
+walk_append : (ns : List ℕ) (es : List Edge) (at : Option ℕ) (xs ys : List Pass) → walk_on ns es at (xs ++ ys) ≡ walk_on ns es (walk_on ns es at xs) ys
+walk_append ns es at [] ys = refl
+walk_append ns es at (x ∷ xs) ys = walk_append ns es (after_pass ns es x at) xs ys
+
+sum_append : (ns : List ℕ) (es : List Edge) (f : Edge → ℕ) (xs ys : List Pass) → pass_sum ns es f (xs ++ ys) ≡ pass_sum ns es f xs + pass_sum ns es f ys
+sum_append ns es f [] ys = none (pass_sum ns es f ys)
+  where
+    none : (k : ℕ) → k ≡ 0 + k
+    none k = omega arith
+sum_append ns es f (x ∷ xs) ys = rw (sum_append ns es f xs ys) (regroup (of_edge f (edge_of ns es x.line)) (pass_sum ns es f xs) (pass_sum ns es f ys))
+  where
+    regroup : (x u v : ℕ) → x + (u + v) ≡ (x + u) + v
+    regroup x u v = omega arith
+
+abbrev flipped : Pass → Pass
+flipped p = record { line = p.line; back = not p.back }
+
+lost : (ns : List ℕ) (es : List Edge) (ps : List Pass) (k : ℕ) → walk_on ns es None ps ≡ Some k → ⊥
+lost ns es [] k is = cc
+lost ns es (p ∷ ps) k is = lost ns es ps k is
+
+same : (m n : ℕ) → (m == n) ≡ true → m ≡ n
+same m n is = grind (arith, nat_tests)
+
+eq_self : (n : ℕ) → (n == n) ≡ true
+eq_self n = grind (arith, nat_tests)
+
+-- an edge leads back from where it leads to
+flip_edge : (found : Option Edge) (back : Bool) (j m : ℕ) → after_edge found back j ≡ Some m → after_edge found (not back) m ≡ Some j
+flip_edge None back j m is = absurd (cc)
+flip_edge (Some e) back j m is = by_test (start_of e back == j) refl is
+  where
+    turned : (e : Edge) (back : Bool) → after_edge (Some e) (not back) (end_of e back) ≡ Some (start_of e back)
+    turned e true = rw (eq_self e.a) refl
+    turned e false = rw (eq_self e.b) refl
+
+    by_test : (t : Bool) → (start_of e back == j) ≡ t → cond t (Some (end_of e back)) None ≡ Some m → after_edge (Some e) (not back) m ≡ Some j
+    by_test true test is =
+        let to : end_of e back ≡ m = cc in
+        rw (← to, ← same (start_of e back) j test) (turned e back)
+    by_test false test is = absurd (cc)
+
+-- a walk from one junction to another, and what it costs
+record Way (ns : List ℕ) (es : List Edge) (from to cost : ℕ) : Type 0 where
+  walk : List Pass
+  leads : walk_on ns es (Some from) walk ≡ Some to
+  costs : pass_sum ns es cost_of walk ≡ cost
+
+-- a walk leads back for the same cost
+way_back : (ns : List ℕ) (es : List Edge) (from to : ℕ) (ps : List Pass) → walk_on ns es (Some from) ps ≡ Some to
+    → Way ns es to from (pass_sum ns es cost_of ps)
+way_back ns es from to [] is = record { walk = []; leads = sym is; costs = refl }
+way_back ns es from to (p ∷ ps) is = by_next (after_pass ns es p (Some from)) refl is (λ m. λ h. way_back ns es m to ps h)
+  where
+    by_next : (x : Option ℕ) → after_pass ns es p (Some from) ≡ x → walk_on ns es x ps ≡ Some to
+        → ((m : ℕ) → walk_on ns es (Some m) ps ≡ Some to → Way ns es to m (pass_sum ns es cost_of ps))
+        → Way ns es to from (of_edge cost_of (edge_of ns es p.line) + pass_sum ns es cost_of ps)
+    by_next None next on rest = absurd (lost ns es ps to on)
+    by_next (Some m) next on rest =
+        let r = rest m on in
+        record {
+          walk = r.walk ++ flipped p ∷ [];
+          leads = walk_append ns es (Some to) r.walk (flipped p ∷ []) ∙ ap (λ (x : Option ℕ). after_pass ns es (flipped p) x) r.leads
+              ∙ flip_edge (edge_of ns es p.line) p.back from m next;
+          costs = sum_append ns es cost_of r.walk (flipped p ∷ []) ∙ turned (pass_sum ns es cost_of r.walk) (of_edge cost_of (edge_of ns es p.line)) _ r.costs;
+        }
+      where
+        turned : (r k u : ℕ) → r ≡ u → r + (k + 0) ≡ k + u
+        turned r k u h = omega arith
+
+-- the least cost of the way back
+least_back : (p : PieceValue) (i j c : ℕ) → IsLeastCost p i j c → IsLeastCost p j i c
+least_back p i j c l =
+    let back = way_back p.lines p.edges i j l.walk l.leads in
+    record {
+      walk = back.walk;
+      leads = back.leads;
+      costs = back.costs ∙ l.costs;
+      least = λ other. λ leads.
+          let forth = way_back p.lines p.edges j i other leads in
+          subst (λ (k : ℕ). c ≤ k) forth.costs (l.least forth.walk forth.leads);
+    }
+
+pub one_least : (p : PieceValue) (i j c d : ℕ) → IsLeastCost p i j c → IsLeastCost p i j d → c ≡ d
+one_least p i j c d l m =
+    equal c d (subst (λ (k : ℕ). c ≤ k) m.costs (l.least m.walk m.leads)) (subst (λ (k : ℕ). d ≤ k) l.costs (m.least l.walk l.leads))
+  where
+    equal : (c d : ℕ) → c ≤ d → d ≤ c → c ≡ d
+    equal c d h g = omega arith
+
+least_self : (p : PieceValue) (i : ℕ) → IsLeastCost p i i 0
+least_self p i = record { walk = []; leads = refl; costs = refl; least = λ other. λ leads. omega arith }
+
+least_round : (p : PieceValue) (i j k c d e : ℕ) → IsLeastCost p i j c → IsLeastCost p j k d → IsLeastCost p i k e → e ≤ c + d
+least_round p i j k c d e l m n =
+    subst (λ (x : ℕ). e ≤ x) (sum_append p.lines p.edges cost_of l.walk m.walk ∙ both (walk_cost p l.walk) (walk_cost p m.walk) c d l.costs m.costs)
+    (n.least (l.walk ++ m.walk) (walk_append p.lines p.edges (Some i) l.walk m.walk ∙ ap (λ (x : Option ℕ). walk_on p.lines p.edges x m.walk) l.leads ∙ m.leads))
+  where
+    both : (x y c d : ℕ) → x ≡ c → y ≡ d → x + y ≡ c + d
+    both x y c d h g = omega arith
+
+entry_back : (t : TableValue) (a b : ℕ) → entry t a b ≡ entry t b a
+entry_back t a b = ap (slice_index t.cells) (turned a b t.places)
+  where
+    small : (a b : ℕ) → min a b ≡ min b a
+    small a b = omega arith
+
+    large : (a b : ℕ) → max a b ≡ max b a
+    large a b = omega arith
+
+    turned : (a b n : ℕ) → min a b * n + max a b ≡ min b a * n + max b a
+    turned a b n = rw (small a b, large a b) refl
+
+-- each entry is the least cost between two terminals
+pub entry_least : (p : PieceValue) (rows : RowsValue) (t : TableValue) → IsTableOf p rows t → (a b : ℕ) → a < t.places → b < t.places
+    → IsLeastCost p (terminal_of rows a) (terminal_of rows b) (entry t a b)
+entry_least p rows t j a b a_in b_in = by_test (nat_lt a b) refl (nat_lt b a) refl
+  where
+    less : (m n : ℕ) → nat_lt m n ≡ true → m < n
+    less m n is = grind (arith, nat_tests)
+
+    equal : (m n : ℕ) → nat_lt m n ≡ false → nat_lt n m ≡ false → n ≡ m
+    equal m n h g = grind (arith, nat_tests)
+
+    at : (c d : ℕ) → c < d → d < t.places → IsLeastCost p (terminal_of rows c) (terminal_of rows d) (entry t c d)
+    at c d cd within =
+        subst (IsLeastCost p (terminal_of rows c) (terminal_of rows d)) (sym (j.distances.entries c d cd within))
+        (j.rows_are.least c (terminal_of rows d) (omega (arith, j.places, cd, within)) (j.there d (omega (arith, j.places, within))))
+
+    by_test : (s : Bool) → nat_lt a b ≡ s → (u : Bool) → nat_lt b a ≡ u → IsLeastCost p (terminal_of rows a) (terminal_of rows b) (entry t a b)
+    by_test true is u other = at a b (less a b is) b_in
+    by_test false is true other =
+        subst (IsLeastCost p (terminal_of rows a) (terminal_of rows b)) (entry_back t b a)
+        (least_back p (terminal_of rows b) (terminal_of rows a) (entry t b a) (at b a (less b a other) a_in))
+    by_test false is false other =
+        subst (λ (k : ℕ). IsLeastCost p (terminal_of rows a) (terminal_of rows k) (entry t a k)) (sym (equal a b is other))
+        (subst (IsLeastCost p (terminal_of rows a) (terminal_of rows a)) (sym (j.distances.none a a_in)) (least_self p (terminal_of rows a)))
+
+pub triangles : (p : PieceValue) (rows : RowsValue) (t : TableValue) → IsTableOf p rows t → KeepsTriangles t
+triangles p rows t j a b a_in b_in c c_in =
+    least_round p (terminal_of rows a) (terminal_of rows b) (terminal_of rows c) (entry t a b) (entry t b c) (entry t a c)
+    (entry_least p rows t j a b a_in b_in) (entry_least p rows t j b c b_in c_in) (entry_least p rows t j a c a_in c_in)
+
+-- an entry is the number of the row
+pub entry_is : (p : PieceValue) (rows : RowsValue) (t : TableValue) → IsTableOf p rows t → (a b : ℕ) → a < t.places → b < t.places
+    → entry t a b ≡ cost_at rows a (terminal_of rows b)
+entry_is p rows t j a b a_in b_in =
+    one_least p (terminal_of rows a) (terminal_of rows b) (entry t a b) (cost_at rows a (terminal_of rows b))
+    (entry_least p rows t j a b a_in b_in)
+    (j.rows_are.least a (terminal_of rows b) (omega (arith, j.places, a_in)) (j.there b (omega (arith, j.places, b_in))))

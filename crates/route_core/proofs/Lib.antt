@@ -1,0 +1,14 @@
+mod CopyLemmas
+mod PathLemmas
+mod PairLemmas
+mod DistanceLemmas
+mod LeastLemmas
+mod MatchLemmas
+mod PassLemmas
+mod ProvedLemmas
+mod SewLemmas
+mod RouteLemmas
+mod ActOrderLemmas
+mod SameActs
+mod VerdictLemmas
+mod VerdictFacts

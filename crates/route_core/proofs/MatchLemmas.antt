@@ -1,0 +1,175 @@
+-- A matching of the odd junctions of a piece, from a matching of places.
+use Rattle.std.proofs.Common.{◌≡◌, ◌≢◌, ◌≤◌, ◌<◌, ℕ, zero, suc, ◌+◌, ◌*◌, ◌^◌, ◌%◌, ◌==◌, Bool, true, false, cond, ◌&&◌, nat_lt, List, [], ◌∷◌, length, filter, get_or, All, AllPairs, sum_by, arith, refl, sym, ◌∙◌, ap, subst}
+use Rattle.std.proofs.lemmas.Bool.Decides.{nat_tests}
+use Rattle.std.proofs.lemmas.List.Elements.{All-from_get_or, All-get_or, All-head, All-tail}
+use Rattle.std.proofs.lemmas.List.Sums.{get_or-le-sum_by, sum_by-cons, sum_by-le}
+use Rattle.blossom_match.specs.declared.matching.Moat.{Moat}
+use Rattle.blossom_match.specs.declared.matching.Pair.{Pair}
+use Rattle.blossom_match.specs.declared.table.TheConstants.{MAX_DISTANCE}
+use Rattle.blossom_match.specs.Matchings.{IsMatching, IsOddMoat, PairsEach, cost_of as matching_cost, ends_at as ends_of_pairs, load_on, width_of}
+use Rattle.blossom_match.specs.Tables.{IsTable, entry}
+use Rattle.blossom_match.specs.TableValue.{TableValue}
+use Rattle.line_graph.specs.PieceGraphs.{PieceValue}
+use Rattle.odd_paths.specs.LeastRows.{RowsValue, cost_at, terminal_of}
+use Rattle.route_core.proofs.LeastLemmas.{entry_is}
+use Rattle.route_core.specs.Copies.{IsPairOf, pair_costs}
+use Rattle.route_core.specs.Distances.{HasDistances, IsTableOf}
+use Rattle.route_core.specs.Matched.{AreOddRows, IsMatched}
+
+-- how often a pair ends at a place
+abbrev ends_in : ℕ → Pair → ℕ
+ends_in x q = cond (x == q.a) 1 0 + cond (x == q.b) 1 0
+
+eq_self : (n : ℕ) → (n == n) ≡ true
+eq_self n = grind (arith, nat_tests)
+
+met : (n : ℕ) → 1 ≤ cond (n == n) 1 0
+met n = rw (eq_self n) (omega arith)
+
+-- a number that is an end of a pair is a place
+within : (n : ℕ) (pairs : List Pair) → PairsEach n pairs → (x : ℕ) → 1 ≤ ends_of_pairs pairs x → x < n
+within n pairs each x some = by_test (nat_lt x n) refl
+  where
+    less : (m n : ℕ) → nat_lt m n ≡ true → m < n
+    less m n is = grind (arith, nat_tests)
+
+    none : (t : Bool) → t ≡ false → cond t 1 0 < 1
+    none true is = absurd (cc)
+    none false is = omega arith
+
+    by_test : (t : Bool) → nat_lt x n ≡ t → x < n
+    by_test true is = less x n is
+    by_test false is = absurd (omega (arith, some, each x, none (nat_lt x n) is))
+
+pairs_within : (rows : RowsValue) (pairs : List Pair) → PairsEach (length rows.terminals) pairs → All (IsPairOf rows) pairs
+pairs_within rows pairs each = All-from_get_or (IsPairOf rows) pairs (record { a = 0; b = 0 })
+    (λ i. λ below. let q = get_or pairs i (record { a = 0; b = 0 }) in record {
+      a_in = within (length rows.terminals) pairs each q.a (first q (ends_of_pairs pairs q.a) (get_or-le-sum_by (ends_in q.a) pairs i (record { a = 0; b = 0 }) below));
+      b_in = within (length rows.terminals) pairs each q.b (second q (ends_of_pairs pairs q.b) (get_or-le-sum_by (ends_in q.b) pairs i (record { a = 0; b = 0 }) below));
+    })
+  where
+    first : (q : Pair) (k : ℕ) → ends_in q.a q ≤ k → 1 ≤ k
+    first q k most = let one = met q.a in omega (arith, one, most)
+
+    second : (q : Pair) (k : ℕ) → ends_in q.b q ≤ k → 1 ≤ k
+    second q k most = let one = met q.b in omega (arith, one, most)
+
+-- what walks between the pairs cost is what the pairs cost in the table
+costs_are : (p : PieceValue) (rows : RowsValue) (t : TableValue) → IsTableOf p rows t → (pairs : List Pair) → All (IsPairOf rows) pairs
+    → pair_costs rows pairs ≡ matching_cost t pairs
+costs_are p rows t table [] there = refl
+costs_are p rows t table (q ∷ pairs) there =
+    let here = All-head (IsPairOf rows) q pairs there in
+    rw (
+      costs_are p rows t table pairs (All-tail (IsPairOf rows) q pairs there),
+      ← entry_is p rows t table q.a q.b (omega (arith, table.places, here.a_in)) (omega (arith, table.places, here.b_in)),
+    )
+    (sym (sum_by-cons (λ (q : Pair). entry t q.a q.b) q pairs))
+
+-- the sum of a quantity over numbers from one on
+abbrev sum_over : (ℕ → ℕ) → ℕ → ℕ → ℕ
+sum_over f at zero = 0
+sum_over f at (suc n) = f at + sum_over f (at + 1) n
+
+over_at : (x at n : ℕ) → at ≤ x → x < at + n → 1 ≤ sum_over (λ y. cond (y == x) 1 0) at n
+over_at x at zero from to = absurd (omega arith)
+over_at x at (suc n) from to = by_test (at == x) refl (λ (h : at + 1 ≤ x). over_at x (at + 1) n h (omega arith))
+  where
+    next : (m n : ℕ) → (m == n) ≡ false → m ≤ n → m + 1 ≤ n
+    next m n is h = grind (arith, nat_tests)
+
+    by_test : (t : Bool) → (at == x) ≡ t → (at + 1 ≤ x → 1 ≤ sum_over (λ y. cond (y == x) 1 0) (at + 1) n)
+        → 1 ≤ cond (at == x) 1 0 + sum_over (λ y. cond (y == x) 1 0) (at + 1) n
+    by_test true is rest = rw is (omega arith)
+    by_test false is rest = let more = rest (next at x is from) in omega (arith, more)
+
+over_more : (q : Pair) (f : ℕ → ℕ) (g : ℕ → ℕ) → ((y : ℕ) → g y ≡ ends_in y q + f y) → (at n : ℕ)
+    → sum_over (λ y. cond (y == q.a) 1 0) at n + sum_over f at n ≤ sum_over g at n
+over_more q f g is at zero = omega arith
+over_more q f g is at (suc n) = let rest = over_more q f g is (at + 1) n in omega (arith, is at, rest)
+
+over_few : (f : ℕ → ℕ) (at n : ℕ) → ((y : ℕ) → f y ≤ 1) → sum_over f at n ≤ n
+over_few f at zero few = omega arith
+over_few f at (suc n) few = let rest = over_few f (at + 1) n few in omega (arith, few at, rest)
+
+pairs_under : (n : ℕ) (pairs : List Pair) → All (λ (q : Pair). q.a < n) pairs → length pairs ≤ sum_over (ends_of_pairs pairs) 0 n
+pairs_under n [] there = omega arith
+pairs_under n (q ∷ pairs) there =
+    let one = over_at q.a 0 n (omega arith) (omega (arith, All-head (λ (q : Pair). q.a < n) q pairs there)) in
+    let rest = pairs_under n pairs (All-tail (λ (q : Pair). q.a < n) q pairs there) in
+    let more = over_more q (ends_of_pairs pairs) (ends_of_pairs (q ∷ pairs)) (λ y. sum_by-cons (ends_in y) q pairs) 0 n in
+    omega (arith, one, rest, more)
+
+pairs_few : (n : ℕ) (pairs : List Pair) → PairsEach n pairs → All (λ (q : Pair). q.a < n) pairs → length pairs ≤ n
+pairs_few n pairs each there =
+    let under = pairs_under n pairs there in
+    let few = over_few (ends_of_pairs pairs) 0 n (λ y. subst (λ (k : ℕ). k ≤ 1) (sym (each y)) (bit_few (nat_lt y n))) in
+    omega (arith, under, few)
+  where
+    bit_few : (t : Bool) → cond t 1 0 ≤ 1
+    bit_few true = omega arith
+    bit_few false = omega arith
+
+moats_under : (n : ℕ) (moats : List Moat) → All (IsOddMoat n) moats → length moats ≤ width_of moats
+moats_under n [] odd = omega arith
+moats_under n (m ∷ moats) odd =
+    let one = All-head (IsOddMoat n) m moats odd in
+    let rest = moats_under n moats (All-tail (IsOddMoat n) m moats odd) in
+    omega (arith, one.wide, rest, sum_by-cons (λ (m : Moat). m.width) m moats)
+
+-- what all pairs cost is no more than so many longest distances
+costs_few : (t : TableValue) → IsTable t → (pairs : List Pair) → All (λ (q : Pair). (q.a < t.places) × (q.b < t.places)) pairs
+    → matching_cost t pairs ≤ length pairs * MAX_DISTANCE
+costs_few t table [] there = omega arith
+costs_few t table (q ∷ pairs) there =
+    let here = All-head (λ (q : Pair). (q.a < t.places) × (q.b < t.places)) q pairs there in
+    let rest = costs_few t table pairs (All-tail (λ (q : Pair). (q.a < t.places) × (q.b < t.places)) q pairs there) in
+    omega (arith, table.short q.a q.b here.0 here.1, rest, sum_by-cons (λ (q : Pair). entry t q.a q.b) q pairs)
+
+-- the ends of pairs of terminals are places of the table
+ends_within : (rows : RowsValue) (n : ℕ) → n ≡ length rows.terminals → (pairs : List Pair) → All (IsPairOf rows) pairs
+    → All (λ (q : Pair). (q.a < n) × (q.b < n)) pairs
+ends_within rows n is pairs there = All-from_get_or (λ (q : Pair). (q.a < n) × (q.b < n)) pairs (record { a = 0; b = 0 })
+    (λ i. λ below. let q = All-get_or (IsPairOf rows) pairs i (record { a = 0; b = 0 }) below there in (omega (arith, is, q.a_in), omega (arith, is, q.b_in)))
+
+firsts_within : (n : ℕ) (pairs : List Pair) → All (λ (q : Pair). (q.a < n) × (q.b < n)) pairs → All (λ (q : Pair). q.a < n) pairs
+firsts_within n pairs there = All-from_get_or (λ (q : Pair). q.a < n) pairs (record { a = 0; b = 0 })
+    (λ i. λ below. (All-get_or (λ (q : Pair). (q.a < n) × (q.b < n)) pairs i (record { a = 0; b = 0 }) below there).0)
+
+few_enough : (moats width cost pairs places : ℕ) → moats ≤ width → width ≡ 2 * cost → cost ≤ pairs * 200000 → pairs ≤ places → places ≤ 1024 → moats < 2 ^ 31
+few_enough moats width cost pairs places a b c d e = omega arith
+
+-- a matching of the table's places is one of the odd junctions
+pub is_matched : (p : PieceValue) (rows : RowsValue) (t : TableValue) → AreOddRows p rows → IsTableOf p rows t → IsTable t
+    → (pairs : List Pair) (moats : List Moat) → IsMatching t pairs moats → IsMatched p rows pairs moats
+is_matched p rows t odd_rows table is_table pairs moats m =
+    let each = subst (λ (n : ℕ). PairsEach n pairs) table.places m.paired in
+    let there = pairs_within rows pairs each in
+    let ends = ends_within rows t.places table.places pairs there in
+    record {
+      moats_are = record {
+        rows_are = odd_rows.rows_are;
+        terminals = odd_rows.terminals;
+        odd = subst (λ (n : ℕ). All (IsOddMoat n) moats) table.places m.odd;
+        laminar = m.laminar;
+        loads = λ x. λ y. λ x_in. λ y_in.
+            let a : x < t.places = omega (arith, table.places, x_in) in
+            let b : y < t.places = omega (arith, table.places, y_in) in
+            subst (λ (k : ℕ). load_on moats x y ≤ 2 * k) (entry_is p rows t table x y a b) (m.loads x y a b);
+      };
+      few = few_enough (length moats) (width_of moats) (matching_cost t pairs) (length pairs) t.places (moats_under t.places moats m.odd) m.paid
+          (costs_few t is_table pairs ends) (pairs_few t.places pairs m.paired (firsts_within t.places pairs ends)) is_table.few;
+      pairs_are = there;
+      each = each;
+      paid = m.paid ∙ ap (λ (k : ℕ). 2 * k) (sym (costs_are p rows t table pairs there));
+    }
+
+-- the distances of the rows of odd junctions
+pub table_is : (p : PieceValue) (rows : RowsValue) (odds : List ℕ) (t : TableValue) → AreOddRows p rows → rows.terminals ≡ odds
+    → t.places ≡ length odds → HasDistances rows t → IsTableOf p rows t
+table_is p rows odds t odd_rows is places distances = record {
+  rows_are = odd_rows.rows_are;
+  there = λ a. λ below. All-get_or (λ (t : ℕ). t < length p.junctions) rows.terminals a 0 below odd_rows.rows_are.terminals.there;
+  places = places ∙ ap (λ (xs : List ℕ). length xs) (sym is);
+  distances = distances;
+}

@@ -1,0 +1,55 @@
+-- Copies for pairs, as far as they are added.
+use Rattle.std.proofs.Common.{◌≡◌, ◌≤◌, ◌<◌, ℕ, zero, suc, ◌+◌, ◌*◌, ◌^◌, List, [], ◌∷◌, length, replicate, All, arith, refl, sym, ◌∙◌, ap, subst}
+use Rattle.std.proofs.lemmas.List.Elements.{All-head, All-tail}
+use Rattle.std.proofs.lemmas.List.{length-replicate}
+use Rattle.blossom_match.specs.declared.matching.Pair.{Pair}
+use Rattle.line_graph.specs.declared.edge.Edge.{Edge}
+use Rattle.line_graph.specs.PieceGraphs.{PieceValue}
+use Rattle.line_graph.specs.PieceWalks.{cost_of}
+use Rattle.odd_paths.specs.LeastRows.{RowsValue}
+use Rattle.route_core.proofs.PathLemmas.{adds_more, adds_no_pairs}
+use Rattle.route_core.specs.Copies.{AddsPairs, IsPairOf, copies_sum, pair_costs}
+
+-- what adds the pairs that are left has added all of them
+pub record LeftPairs (p : PieceValue) (rows : RowsValue) (pairs : List Pair) (cs : List ℕ) (rest : List Pair) : Type 0 where
+  pub there : All (IsPairOf rows) rest
+  pub sized : length cs ≡ length p.edges
+  pub few : copies_sum cost_of p.edges cs + pair_costs rows rest < 2 ^ 32
+  pub whole : (new : List ℕ) → AddsPairs p rows rest cs new → AddsPairs p rows pairs (replicate (length p.edges) 0) new
+
+pub none_cost : (f : Edge → ℕ) (es : List Edge) (n : ℕ) → copies_sum f es (replicate n 0) ≡ 0
+none_cost f [] n = refl
+none_cost f (e ∷ es) zero = refl
+none_cost f (e ∷ es) (suc n) = rw (none_cost f es n) (nothing (f e))
+  where
+    nothing : (k : ℕ) → 0 * k + 0 ≡ 0
+    nothing k = omega arith
+
+pub begun : (p : PieceValue) (rows : RowsValue) (pairs : List Pair) (cs : List ℕ) → cs ≡ replicate (length p.edges) 0
+    → All (IsPairOf rows) pairs → pair_costs rows pairs < 2 ^ 32 → LeftPairs p rows pairs cs pairs
+begun p rows pairs cs is there few = record {
+  there = there;
+  sized = ap length is ∙ length-replicate (length p.edges) 0;
+  few = omega (arith, ap (copies_sum cost_of p.edges) is, none_cost cost_of p.edges (length p.edges), few);
+  whole = λ new. λ adds. subst (λ (xs : List ℕ). AddsPairs p rows pairs xs new) is adds;
+}
+
+pub first_pair : (rows : RowsValue) (pairs rest : List Pair) (q : Pair) → pairs ≡ q ∷ rest → All (IsPairOf rows) pairs → IsPairOf rows q
+first_pair rows pairs rest q is there = All-head (IsPairOf rows) q rest (subst (λ (qs : List Pair). All (IsPairOf rows) qs) is there)
+
+pub room_for_pair : (p : PieceValue) (rows : RowsValue) (pairs : List Pair) (cs : List ℕ) (left rest : List Pair) (q : Pair) → left ≡ q ∷ rest
+    → LeftPairs p rows pairs cs left → copies_sum cost_of p.edges cs + pair_costs rows (q ∷ []) < 2 ^ 32
+room_for_pair p rows pairs cs left rest q is l = omega (arith, l.few, ap (pair_costs rows) is)
+
+pub goes_on : (p : PieceValue) (rows : RowsValue) (pairs : List Pair) (cs next : List ℕ) (left rest : List Pair) (q : Pair) → left ≡ q ∷ rest
+    → LeftPairs p rows pairs cs left → AddsPairs p rows (q ∷ []) cs next → LeftPairs p rows pairs next rest
+goes_on p rows pairs cs next left rest q is l adds = record {
+  there = All-tail (IsPairOf rows) q rest (subst (λ (qs : List Pair). All (IsPairOf rows) qs) is l.there);
+  sized = adds.sized ∙ l.sized;
+  few = omega (arith, l.few, ap (pair_costs rows) is, adds.costs);
+  whole = λ new. λ more. l.whole new (subst (λ (qs : List Pair). AddsPairs p rows qs cs new) (sym is) (adds_more p rows q rest cs next new adds more));
+}
+
+pub ended : (p : PieceValue) (rows : RowsValue) (pairs : List Pair) (cs : List ℕ) (left : List Pair) → left ≡ []
+    → LeftPairs p rows pairs cs left → AddsPairs p rows pairs (replicate (length p.edges) 0) cs
+ended p rows pairs cs left is l = l.whole cs (subst (λ (qs : List Pair). AddsPairs p rows qs cs cs) (sym is) (adds_no_pairs p rows cs))

@@ -1,0 +1,19 @@
+use Rattle.route_core.proofs.CopyLemmas.{adds_one, first_below, has_room, left_one}
+use Rattle.route_core.proofs.copies.add_places.Goals as goal
+
+pub add_one-requires-clause-few : goal.add_one-requires-clause-few
+add_one-requires-clause-few c =
+    has_room c.loop-k.copies.items c.loop-k.rest.now c.in-Some.after.now c.in-Some.k c.in-Some.ensures.some c.loop-k.invariant.few
+
+pub loop-k-preserved : goal.loop-k-preserved
+loop-k-preserved c =
+    let i = c.loop-k.invariant in
+    let cs = c.loop-k.copies.items in
+    let next = c.add_one.new.copies.items in
+    let left = left_one cs next c.loop-k.rest.now c.in-Some.after.now c.in-Some.k c.in-Some.ensures.some c.add_one.ensures i.there i.few in
+    record {
+      there = left.there;
+      few = left.few;
+      whole = λ new. λ adds. i.whole new (adds_one cs next c.loop-k.rest.now c.in-Some.after.now new c.in-Some.k c.in-Some.ensures.some c.add_one.ensures
+          (first_below cs c.loop-k.rest.now c.in-Some.after.now c.in-Some.k c.in-Some.ensures.some i.there) adds);
+    }

@@ -1,0 +1,11 @@
+use Rattle.std.proofs.Common.{◌≡◌, ◌≤◌, ◌-◌, replicate}
+use Rattle.design_model.specs.declared.command.Command.TheVariants.{Stop}
+use Rattle.route_core.specs.SewingSteps.{with_commands}
+use Rattle.route_core.proofs.sewing.add_stops.Given as goal
+
+-- the stops so far, and there are no more than wanted
+abbrev pub invariant-loop : goal.invariant-loop
+invariant-loop l = record {
+  stops : l.design ≡ with_commands l.fn.design (replicate (l.counter - l.before) Stop);
+  most : l.counter - l.before ≤ l.block - l.before;
+}

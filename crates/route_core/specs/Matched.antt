@@ -1,0 +1,32 @@
+-- The odd junctions of a piece in pairs, with moats that pay for them. Costs count steps, widths halves of a step.
+use Rattle.std.specs.Prelude.{◌≡◌, ℕ, ◌*◌, ◌+◌, ◌<◌, ◌≤◌, ◌^◌, true, List, None, length, All}
+use Rattle.blossom_match.specs.declared.matching.Moat.{Moat}
+use Rattle.blossom_match.specs.declared.matching.Pair.{Pair}
+use Rattle.blossom_match.specs.Matchings.{PairsEach, width_of}
+use Rattle.cut_certificate.specs.Lifts.{AreMoats}
+use Rattle.line_graph.specs.declared.pass.Pass.{Pass}
+use Rattle.line_graph.specs.PieceGraphs.{PieceValue, from_of, odd_junctions}
+use Rattle.line_graph.specs.Pieces.{first_line}
+use Rattle.line_graph.specs.PieceWalks.{BeginsWith, fits, piece_cost, walk_cost}
+use Rattle.odd_paths.specs.LeastRows.{AreRows, RowsValue}
+use Rattle.route_core.specs.Copies.{IsPairOf, pair_costs}
+
+-- the rows of the odd junctions of a piece, in order
+pub record AreOddRows (p : PieceValue) (rows : RowsValue) : Type 0 where
+  pub rows_are : AreRows p rows
+  pub terminals : rows.terminals ≡ odd_junctions p
+
+-- pairs of all odd junctions, and few moats that are twice as wide as least walks between the pairs cost
+pub record IsMatched (p : PieceValue) (rows : RowsValue) (pairs : List Pair) (moats : List Moat) : Type 0 where
+  pub moats_are : AreMoats p rows moats
+  pub few : length moats < 2 ^ 31
+  pub pairs_are : All (IsPairOf rows) pairs
+  pub each : PairsEach (length rows.terminals) pairs
+  pub paid : width_of moats ≡ 2 * pair_costs rows pairs
+
+-- a fitting walk that costs as much above the lines as least walks between the pairs
+pub record IsWalkBy (p : PieceValue) (rows : RowsValue) (pairs : List Pair) (walk : List Pass) : Type 0 where
+  pub fitting : fits p walk ≡ true
+  pub begins : from_of p ≡ None → BeginsWith (first_line p.lines) walk
+  pub some : 1 ≤ length walk
+  pub costs : walk_cost p walk ≡ piece_cost p + pair_costs rows pairs

@@ -1,0 +1,19 @@
+-- What a certificate says of a piece, where it is right and proves the walk least. Weights of cuts count halves
+-- of a step, costs count steps.
+use Rattle.std.specs.Prelude.{◌≡◌, ℕ, ◌+◌, ◌*◌, true, None}
+use Rattle.cut_certificate.specs.declared.certificate.PieceCert.{PieceCert}
+use Rattle.cut_certificate.specs.Cuts.{total_of}
+use Rattle.cut_certificate.specs.Packings.{IsPacking}
+use Rattle.line_graph.specs.PieceGraphs.{PieceValue, from_of}
+use Rattle.line_graph.specs.Pieces.{first_line}
+use Rattle.line_graph.specs.PieceWalks.{BeginsWith, IsLeast, fits, piece_cost, walk_cost}
+
+-- the walk fits the piece, and begins with its first line, forwards, where no start and no end is said; what it
+-- costs above the lines is the retraced cost, a packing has twice that, and so no fitting walk costs less
+pub record Proves (p : PieceValue) (cert : PieceCert) : Type 0 where
+  pub fitting : fits p cert.walk ≡ true
+  pub begins : from_of p ≡ None → BeginsWith (first_line p.lines) cert.walk
+  pub retraced : walk_cost p cert.walk ≡ piece_cost p + cert.retraced
+  pub packing : IsPacking p cert.cuts
+  pub total : total_of cert.cuts ≡ 2 * cert.retraced
+  pub least : IsLeast p cert.walk

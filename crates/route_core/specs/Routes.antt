@@ -1,0 +1,40 @@
+-- The route of a drawing: for each piece a walk that none undercuts, and cuts that prove it. Weights of cuts
+-- count halves of a step, costs count steps.
+use Rattle.std.specs.Prelude.{◌≡◌, ℕ, ◌+◌, List, length, map, All}
+use Rattle.std.specs.List.{AllZip}
+use Rattle.cut_certificate.specs.declared.certificate.Cert.{Cert}
+use Rattle.cut_certificate.specs.declared.certificate.PieceCert.{PieceCert}
+use Rattle.cut_certificate.specs.CertificateTexts.{CanBeSpelled}
+use Rattle.line_graph.specs.declared.pass.Pass.{Pass}
+use Rattle.line_graph.specs.Drawings.{DrawingValue}
+use Rattle.line_graph.specs.PieceGraphs.{piece_of}
+use Rattle.line_graph.specs.Pieces.{ArePieces}
+use Rattle.line_graph.specs.PieceWalks.{walk_cost}
+use Rattle.line_graph.specs.Runs.{AreWritable, runs_of, sewn_design}
+use Rattle.line_graph.specs.Walks.{needles_of_walk}
+use Rattle.route_core.specs.declared.routed.Routed.{Routed}
+use Rattle.route_core.specs.PieceRoutes.{Proves}
+
+-- the walk of each piece
+abbrev pub walks_of : List PieceCert → List (List Pass)
+walks_of certs = map (λ (cert : PieceCert). cert.walk) certs
+
+-- the certificate proves the walk least over the piece of these lines, and the needle goes down once more often
+-- than the walk costs steps
+pub record IsBest (d : DrawingValue) (lines : List ℕ) (cert : PieceCert) : Type 0 where
+  pub proved : Proves (piece_of d lines) cert
+  pub penetrations : length (needles_of_walk d cert.walk) ≡ walk_cost (piece_of d lines) cert.walk + 1
+
+-- the route over the pieces of a drawing: a certificate that is right for each of them in order, and the design
+-- that sews its walks, which every format can write whose limit the drawing's step keeps
+pub record IsRouteOver (d : DrawingValue) (pieces : List (List ℕ)) (routed : Routed) : Type 0 where
+  pub pieces_are : ArePieces d pieces
+  pub best : AllZip (IsBest d) pieces routed.cert.pieces
+  pub spelled : All CanBeSpelled routed.cert.pieces
+  pub writable : AreWritable d.step (runs_of d (walks_of routed.cert.pieces))
+  pub design : routed.design ≡ sewn_design d (walks_of routed.cert.pieces)
+
+-- the route of a drawing: that over its pieces
+pub record IsRoute (d : DrawingValue) (routed : Routed) : Type 0 where
+  pub pieces : List (List ℕ)
+  pub is : IsRouteOver d pieces routed

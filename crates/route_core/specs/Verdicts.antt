@@ -1,0 +1,131 @@
+-- Verdicts on designs and their certificates. Pieces and acts are told by number, from 1. Weights
+-- of cuts count halves of a step, costs count steps.
+use Rattle.std.specs.Prelude.{◌≡◌, ◌↔◌, ℕ, ◌+◌, ◌-◌, ◌*◌, ◌<◌, ◌^◌, ◌==◌, true, List, [], ◌∷◌, Option, Some, None, length, map, if◌then◌else◌}
+use Rattle.std.specs.List.{AllZip}
+use Rattle.cut_certificate.specs.declared.certificate.PieceCert.{PieceCert}
+use Rattle.cut_certificate.specs.declared.faults.CutFault.{CutFault}
+use Rattle.cut_certificate.specs.declared.faults.WalkFault.{WalkFault}
+use Rattle.cut_certificate.specs.CutFaults.{AreNumbered, cuts_fault}
+use Rattle.cut_certificate.specs.Cuts.{total_of}
+use Rattle.cut_certificate.specs.Faults.{first_fault}
+use Rattle.cut_certificate.specs.Packings.{IsPacking}
+use Rattle.cut_certificate.specs.WalkFaults.{walk_fault}
+use Rattle.design_model.specs.Acts.{acts_of, bare}
+use Rattle.design_model.specs.Designs.{DesignValue}
+use Rattle.line_graph.specs.Drawings.{DrawingValue}
+use Rattle.line_graph.specs.PieceGraphs.{PieceValue, piece_of}
+use Rattle.line_graph.specs.Pieces.{ArePieces}
+use Rattle.line_graph.specs.PieceWalks.{IsLeast, fits, piece_cost, walk_cost}
+use Rattle.line_graph.specs.Runs.{Sews, runs_of, sewn_acts}
+use Rattle.route_core.specs.declared.verdict.Reason.{Reason}
+use Rattle.route_core.specs.declared.verdict.Reason.TheVariants as reason
+use Rattle.route_core.specs.declared.verdict.Verdict.{Verdict}
+use Rattle.route_core.specs.declared.verdict.Verdict.TheVariants as verdict
+use Rattle.route_core.specs.ActOrder.{first_difference}
+use Rattle.route_core.specs.Routes.{walks_of}
+
+-- the certificate is to have as many pieces as the drawing
+abbrev pub count_reason : (found drawn : ℕ) → Option Reason
+count_reason found drawn = if found == drawn then None else Some (reason.Pieces found drawn)
+
+-- what is wrong with the walk of the piece with that number
+abbrev pub walk_reason : ℕ → Option WalkFault → Option Reason
+walk_reason number None = None
+walk_reason number (Some fault) = Some (reason.Walk number fault)
+
+-- what a walk costs above the lines of its piece
+abbrev pub cost_above : PieceValue → PieceCert → ℕ
+cost_above p cert = walk_cost p cert.walk - piece_cost p
+
+-- that cost is to be said
+abbrev pub retraced_reason : (number said found : ℕ) → Option Reason
+retraced_reason number said found =
+    if said == found then None else Some (reason.Retraced number said found)
+
+-- what is wrong with the cuts of the piece with that number
+abbrev pub cuts_reason : ℕ → Option CutFault → Option Reason
+cuts_reason number None = None
+cuts_reason number (Some fault) = Some (reason.Cuts number fault)
+
+-- what is wrong with what is said of the piece with that number, first: with its walk, its retraced
+-- cost, or its cuts
+abbrev pub piece_reason : PieceValue → ℕ → PieceCert → Option Reason
+piece_reason p number cert = first_fault (walk_reason number (walk_fault p cert.walk))
+    (first_fault (retraced_reason number cert.retraced (cost_above p cert))
+    (cuts_reason number (cuts_fault p cert.retraced cert.cuts)))
+
+-- what is wrong with what is said of pieces in order, the first of them with that number
+abbrev pub pieces_reason : ℕ → List PieceValue → List PieceCert → Option Reason
+pieces_reason number [] certs = None
+pieces_reason number (p ∷ pieces) [] = None
+pieces_reason number (p ∷ pieces) (cert ∷ certs) =
+    first_fault (piece_reason p number cert) (pieces_reason (number + 1) pieces certs)
+
+-- the act with that number is not the one that sews the walks
+abbrev pub acts_reason : Option ℕ → Option Reason
+acts_reason None = None
+acts_reason (Some number) = Some (reason.Acts number)
+
+-- the first act of a design that is not the one that sews these walks
+abbrev pub difference_of : DrawingValue → DesignValue → List PieceCert → Option ℕ
+difference_of d design certs =
+    first_difference 1 (bare (acts_of design)) (sewn_acts (runs_of d (walks_of certs)))
+
+-- the first thing that is wrong: with the count of pieces, with a piece, or with an act
+abbrev pub reason_of : DrawingValue → List PieceValue → DesignValue → List PieceCert → Option Reason
+reason_of d pieces design certs = first_fault (count_reason (length certs) (length pieces))
+    (first_fault (pieces_reason 1 pieces certs) (acts_reason (difference_of d design certs)))
+
+-- no where there is such a reason, else yes
+abbrev pub verdict_by : Option Reason → Verdict
+verdict_by None = verdict.Yes
+verdict_by (Some wrong) = verdict.No wrong
+
+-- the verdict over the pieces of a drawing
+abbrev pub verdict_of : DrawingValue → List (List ℕ) → DesignValue → List PieceCert → Verdict
+verdict_of d pieces design certs = verdict_by (reason_of d (map (piece_of d) pieces) design certs)
+
+-- what is said of a piece is right: the walk fits it, the retraced cost is what the walk costs
+-- above its lines, and the cuts are a packing with twice that total
+pub record IsRight (p : PieceValue) (cert : PieceCert) : Type 0 where
+  pub fitting : fits p cert.walk ≡ true
+  pub retraced : walk_cost p cert.walk ≡ piece_cost p + cert.retraced
+  pub packing : IsPacking p cert.cuts
+  pub total : total_of cert.cuts ≡ 2 * cert.retraced
+
+-- what is said of each piece of a drawing is right, and the design sews the drawing by the walks
+pub record AreRight (d : DrawingValue) (pieces : List (List ℕ)) (design : DesignValue)
+    (certs : List PieceCert) : Type 0 where
+  pub each : AllZip (λ lines cert. IsRight (piece_of d lines) cert) pieces certs
+  pub sews : Sews d (walks_of certs) (acts_of design)
+
+-- the verdict over the pieces of a drawing: yes exactly where all is right, and then no walk is
+-- undercut
+pub record IsVerdictOver (d : DrawingValue) (pieces : List (List ℕ)) (design : DesignValue)
+    (certs : List PieceCert) (given : Verdict) : Type 0 where
+  pub pieces_are : ArePieces d pieces
+  pub is : given ≡ verdict_of d pieces design certs
+  pub exact : (given ≡ verdict.Yes) ↔ AreRight d pieces design certs
+  pub least : given ≡ verdict.Yes
+      → AllZip (λ lines cert. IsLeast (piece_of d lines) cert.walk) pieces certs
+
+-- the verdict on a design and what is said of the pieces of a drawing: that over its pieces
+pub record IsVerdict (d : DrawingValue) (design : DesignValue) (certs : List PieceCert)
+    (given : Verdict) : Type 0 where
+  pub pieces : List (List ℕ)
+  pub is : IsVerdictOver d pieces design certs given
+
+-- the design sews for each piece of the drawing a fitting walk that none undercuts
+pub record SewsLeast (d : DrawingValue) (design : DesignValue)
+    (certs : List PieceCert) : Type 0 where
+  pub pieces : List (List ℕ)
+  pub pieces_are : ArePieces d pieces
+  pub right : AllZip (λ lines cert. IsRight (piece_of d lines) cert) pieces certs
+  pub least : AllZip (λ lines cert. IsLeast (piece_of d lines) cert.walk) pieces certs
+  pub sews : Sews d (walks_of certs) (acts_of design)
+
+-- lists of what is said of a piece are not too long, and no member of a cut is the greatest index
+pub record IsShort (cert : PieceCert) : Type 0 where
+  pub walk : length cert.walk < 2 ^ 32 - 1
+  pub cuts : length cert.cuts < 2 ^ 32 - 1
+  pub numbered : AreNumbered cert.cuts

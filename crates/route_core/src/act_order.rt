@@ -1,0 +1,141 @@
+ghost use Rattle.std.specs.Prelude.{◌≡◌, ◌+◌, ◌≤◌, ◌∷◌, IfOk, [], drop, false, length, map, replicate};
+ghost use Rattle.design_model.specs.declared.act.Act.TheVariants as act;
+ghost use Rattle.design_model.specs.declared.design.TheConstants.{MAX_COMMANDS};
+ghost use Rattle.design_model.specs.Acts.{bare};
+ghost use Rattle.line_graph.specs.Runs.{runs_of, sewn_acts};
+ghost use Rattle.route_core.specs.ActOrder.{first_difference as difference, is_same_act};
+ghost use Rattle.route_core.specs.ActSteps.{Passes, begins_with, run_acts};
+ghost use Rattle.route_core.specs.Routes.{walks_of};
+ghost use Rattle.route_core.specs.SewingSteps.{AllDrawn};
+
+use crate::sewing::block_of_walk;
+use crate::slices::{first_lent, first_of};
+use crate::walk_needles::walk_needles;
+use cut_certificate::PieceCert;
+use design_model::{Act, Memory, NumberedAct, Point};
+use line_graph::Drawing;
+use std::alloc::Global;
+
+/// The number of the first act that isn't the one that sews the walks of these pieces.
+pub(crate) fn first_difference(
+    alloc: Global,
+    d: &Drawing,
+    acts: &[NumberedAct],
+    certs: &[PieceCert],
+) -> Result<Option<u32>, Memory>
+    requires there { AllDrawn d.now certs.now }
+    requires few { length acts.now ≤ MAX_COMMANDS }
+    ensures { IfOk result (λ found. found
+        ≡ difference 1 (bare acts.now) (sewn_acts (runs_of d.now (walks_of certs.now)))) }
+{
+    let mut at = 0;
+    let mut before = 0;
+    let mut rest = certs;
+    while let Some((cert, after)) = first_lent(rest) {
+        let points = walk_needles(alloc, d, cert.walk.as_slice())?;
+        let block = block_of_walk(d, cert.walk.as_slice());
+        match pass_run(acts, at, block.saturating_sub(before), points.as_slice()) {
+            Ok(next) => at = next,
+            Err(number) => return Ok(Some(number)),
+        }
+        before = block;
+        rest = after;
+    }
+    Ok(end_of_acts(acts, at))
+}
+
+/// The number of the act at an index, if there is one.
+fn end_of_acts(acts: &[NumberedAct], at: u32) -> Option<u32>
+    requires few { length acts.now ≤ MAX_COMMANDS }
+    ensures { result ≡ difference (at + 1) (bare (drop at acts.now)) [] }
+{
+    if (at as usize) < acts.len() {
+        Some(at + 1)
+    } else {
+        None
+    }
+}
+
+/// Passes over the acts of a run from an index on, so many stops first: the index behind them, or
+/// the number of the first act that differs.
+fn pass_run(acts: &[NumberedAct], at: u32, stops: u32, points: &[Point]) -> Result<u32, u32>
+    requires few { length acts.now ≤ MAX_COMMANDS }
+    requires there { at ≤ length acts.now }
+    ensures { Passes acts.now at (run_acts stops points.now) result }
+{
+    let at = match pass_stops(acts, at, stops) {
+        Ok(next) => next,
+        Err(number) => return Err(number),
+    };
+    let at = match pass_needles(acts, at, points) {
+        Ok(next) => next,
+        Err(number) => return Err(number),
+    };
+    pass(acts, at, Act::Trim)
+}
+
+fn pass_stops(acts: &[NumberedAct], at: u32, count: u32) -> Result<u32, u32>
+    requires few { length acts.now ≤ MAX_COMMANDS }
+    requires there { at ≤ length acts.now }
+    ensures { Passes acts.now at (replicate count act.Stop) result }
+{
+    let mut next = at;
+    let mut left = count;
+    while left > 0 {
+        match pass(acts, next, Act::Stop) {
+            Ok(behind) => next = behind,
+            Err(number) => return Err(number),
+        }
+        left -= 1;
+    }
+    Ok(next)
+}
+
+fn pass_needles(acts: &[NumberedAct], at: u32, points: &[Point]) -> Result<u32, u32>
+    requires few { length acts.now ≤ MAX_COMMANDS }
+    requires there { at ≤ length acts.now }
+    ensures { Passes acts.now at (map (λ p. act.Needle p false) points.now) result }
+{
+    let mut next = at;
+    let mut rest = points;
+    while let Some((point, after)) = first_of(rest) {
+        match pass(
+            acts,
+            next,
+            Act::Needle {
+                at: point,
+                float: false,
+            },
+        ) {
+            Ok(behind) => next = behind,
+            Err(number) => return Err(number),
+        }
+        rest = after;
+    }
+    Ok(next)
+}
+
+/// Passes over one act.
+fn pass(acts: &[NumberedAct], at: u32, expected: Act) -> Result<u32, u32>
+    requires few { length acts.now ≤ MAX_COMMANDS }
+    requires there { at ≤ length acts.now }
+    ensures { Passes acts.now at (expected ∷ []) result }
+{
+    if has_act(acts, at as usize, expected) {
+        Ok(at + 1)
+    } else {
+        Err(at + 1)
+    }
+}
+
+fn has_act(acts: &[NumberedAct], at: usize, expected: Act) -> bool
+    ensures { result ≡ begins_with (bare (drop at acts.now)) expected }
+{
+    at < acts.len() && is_same(acts[at].act, expected)
+}
+
+fn is_same(found: Act, expected: Act) -> bool
+    ensures { result ≡ is_same_act found expected }
+{
+    found == expected
+}

@@ -1,0 +1,113 @@
+ghost use Rattle.std.specs.Prelude.{◌≡◌, ◌-◌, ◌<◌, ◌^◌, All, IfOk, length, map};
+ghost use Rattle.line_graph.specs.CutPieces.{AreCutFrom, graph_of, lines_of_pieces};
+ghost use Rattle.route_core.specs.Verdicts.{IsShort, IsVerdict, IsVerdictOver, SewsLeast, reason_of, difference_of, acts_reason, verdict_by as verdict_for};
+ghost use Rattle.route_core.specs.SewingSteps.{AllDrawn};
+ghost use Rattle.route_core.specs.declared.verdict.Verdict.TheVariants as verdict;
+
+use crate::act_order::first_difference;
+use crate::piece_reasons::{wrong_count, wrong_piece};
+use crate::verdict::{Reason, Verdict};
+use cut_certificate::{
+    Cert, PieceCert, cut_faults_are_exact, packings_bound_walks, packings_prove_least,
+    walk_faults_are_exact,
+};
+use design_model::{Design, Memory, acts};
+use line_graph::{Drawing, Piece, fitting_walks_are_sewable, pieces, pieces_keep_limits};
+use std::alloc::Global;
+
+/// Whether a design sews a drawing by the walks of a certificate, and the certificate proves these
+/// walks least, whoever made the two. Else the first reason: the number of pieces; then for each
+/// piece its walk, its retraced cost and its cuts; then the first act that differs.
+pub fn judge(alloc: Global, d: &Drawing, design: &Design, cert: &Cert) -> Result<Verdict, Memory>
+    requires few { length cert.now.pieces < 2 ^ 32 - 1 }
+    requires short { All IsShort cert.now.pieces }
+    ensures verdict { IfOk result (IsVerdict d.now design.now cert.now.pieces) }
+    ensures least { IfOk result (λ given. given ≡ verdict.Yes
+        → SewsLeast d.now design.now cert.now.pieces) }
+{
+    let pieces = pieces(alloc, d)?;
+    let given = judge_pieces(alloc, d, pieces.as_slice(), design, cert)?;
+    Ok(given)
+}
+
+/// The same, of a drawing whose pieces are at hand.
+pub fn judge_pieces(
+    alloc: Global,
+    d: &Drawing,
+    pieces: &[Piece],
+    design: &Design,
+    cert: &Cert,
+) -> Result<Verdict, Memory>
+    requires pieces { AreCutFrom d.now pieces.now }
+    requires few { length cert.now.pieces < 2 ^ 32 - 1 }
+    requires short { All IsShort cert.now.pieces }
+    ensures { IfOk result
+        (IsVerdictOver d.now (lines_of_pieces pieces.now) design.now cert.now.pieces) }
+{
+    walk_faults_are_exact();
+    cut_faults_are_exact();
+    packings_bound_walks();
+    packings_prove_least();
+    let reason = first_reason(alloc, d, pieces, design, cert.pieces.as_slice())?;
+    Ok(verdict_by(reason))
+}
+
+fn verdict_by(reason: Option<Reason>) -> Verdict
+    ensures { result ≡ verdict_for reason }
+{
+    match reason {
+        None => Verdict::Yes,
+        Some(reason) => Verdict::No(reason),
+    }
+}
+
+/// The first thing that is wrong.
+fn first_reason(
+    alloc: Global,
+    d: &Drawing,
+    pieces: &[Piece],
+    design: &Design,
+    certs: &[PieceCert],
+) -> Result<Option<Reason>, Memory>
+    requires pieces { AreCutFrom d.now pieces.now }
+    requires few { length certs.now < 2 ^ 32 - 1 }
+    requires short { All IsShort certs.now }
+    ensures { IfOk result (λ reason. reason
+        ≡ reason_of d.now (map graph_of pieces.now) design.now certs.now) }
+{
+    // The clauses of `step` bring the drawing's limits.
+    let _step = d.step();
+    walk_faults_are_exact();
+    fitting_walks_are_sewable();
+    pieces_keep_limits();
+    match wrong_count(certs, pieces) {
+        Some(reason) => return Ok(Some(reason)),
+        None => {}
+    }
+    match wrong_piece(pieces, certs) {
+        Some(reason) => return Ok(Some(reason)),
+        None => {}
+    }
+    let reason = wrong_act(alloc, d, design, certs)?;
+    Ok(reason)
+}
+
+/// The first act that isn't the one that sews the walks.
+fn wrong_act(
+    alloc: Global,
+    d: &Drawing,
+    design: &Design,
+    certs: &[PieceCert],
+) -> Result<Option<Reason>, Memory>
+    requires { AllDrawn d.now certs.now }
+    ensures { IfOk result (λ reason. reason
+        ≡ acts_reason (difference_of d.now design.now certs.now)) }
+{
+    // The clauses of `commands` bring the design's limits.
+    let _commands = design.commands();
+    let acts = acts(alloc, design)?;
+    match first_difference(alloc, d, acts.as_slice(), certs)? {
+        Some(number) => Ok(Some(Reason::Acts { number })),
+        None => Ok(None),
+    }
+}

@@ -1,0 +1,9 @@
+use cut_certificate::Cert;
+use design_model::Design;
+
+/// The route of a drawing: the design that sews it, and the certificate of its walks.
+#[derive(Debug, Drop)]
+pub struct Routed {
+    pub design: Design,
+    pub cert: Cert,
+}

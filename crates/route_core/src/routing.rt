@@ -1,0 +1,52 @@
+ghost use Rattle.std.specs.Prelude.{IfOk};
+ghost use Rattle.line_graph.specs.CutPieces.{AreCutFrom, lines_of_pieces};
+ghost use Rattle.route_core.specs.RoutedPieces.{AreRouted};
+ghost use Rattle.route_core.specs.Routes.{IsRoute, IsRouteOver};
+
+use crate::piece_route::route_piece;
+use crate::routed::Routed;
+use crate::sewing::sew;
+use crate::slices::first_lent;
+use cut_certificate::{Cert, PieceCerts, packings_keep_their_total};
+use design_model::Memory;
+use line_graph::{Drawing, Piece, fitting_walks_are_sewable, pieces, pieces_keep_limits};
+use std::alloc::Global;
+
+/// The route of a drawing: for each of its pieces a walk over every line that none undercuts, with cuts
+/// that prove it, and the design that sews these walks.
+pub fn route(alloc: Global, d: &Drawing) -> Result<Routed, Memory>
+    ensures { IfOk result (IsRoute d.now) }
+{
+    let pieces = pieces(alloc, d)?;
+    route_pieces(alloc, d, pieces.as_slice())
+}
+
+/// The same, of a drawing whose pieces are at hand.
+pub fn route_pieces(alloc: Global, d: &Drawing, pieces: &[Piece]) -> Result<Routed, Memory>
+    requires { AreCutFrom d.now pieces.now }
+    ensures { IfOk result (IsRouteOver d.now (lines_of_pieces pieces.now)) }
+{
+    // The clauses of `step` bring the drawing's limits.
+    let _step = d.step();
+    fitting_walks_are_sewable();
+    pieces_keep_limits();
+    packings_keep_their_total();
+    let cert = Cert {
+        pieces: certs_of(alloc, pieces)?,
+    };
+    let design = sew(alloc, d, &cert)?;
+    Ok(Routed { design, cert })
+}
+
+/// A certificate for each of the pieces, in order.
+fn certs_of(alloc: Global, pieces: &[Piece]) -> Result<PieceCerts, Memory>
+    ensures { IfOk result (AreRouted pieces.now) }
+{
+    let mut certs = PieceCerts::new(alloc);
+    let mut rest = pieces;
+    while let Some((piece, after)) = first_lent(rest) {
+        certs.push(route_piece(alloc, piece)?)?;
+        rest = after;
+    }
+    Ok(certs)
+}

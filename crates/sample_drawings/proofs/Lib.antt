@@ -1,0 +1,5 @@
+pub mod SampleFacts
+pub mod DrawLemmas
+pub mod RowLemmas
+pub mod ShortLines
+pub mod TakingLemmas

@@ -1,0 +1,54 @@
+-- A growing drawing takes short lines as long as it has room.
+use Rattle.std.proofs.Common.{◌≡◌, ℕ, ◌+◌, ◌≤◌, ◌==◌, false, nat_lt, List, [], ◌∷◌, length, Result, Ok, ap, ◌∙◌, refl, arith}
+use Rattle.std.proofs.lemmas.Bool.Decides.{nat_tests}
+use Rattle.design_model.specs.declared.point.Point.{Point}
+use Rattle.line_graph.specs.declared.draw_kind.DrawKind.{DrawKind}
+use Rattle.line_graph.specs.declared.draw_kind.DrawKind.TheVariants as kind
+use Rattle.line_graph.specs.Drawings.{DrawingValue}
+use Rattle.line_graph.specs.Growing.{IsSaid, line_added, point_count, step_count}
+use Rattle.line_graph.specs.Needles.{line_steps}
+use Rattle.sample_drawings.specs.declared.segment.Segment.{Segment}
+use Rattle.sample_drawings.specs.Taking.{HasRoom, IsShort, first_block, with_segments}
+
+-- the drawing takes the two ends of a short line
+taken_so : (d : DrawingValue) (s : Segment) → HasRoom d 1 → IsShort s
+    → line_added d (s.from ∷ s.to ∷ []) ≡ Ok (with_segments d (s ∷ []))
+taken_so d s room short =
+    let some : (length d.threads == 0) ≡ false = rw room.threads refl in
+    let lines : (length d.lines == 1024) ≡ false = grind (arith, nat_tests, room.lines) in
+    let points : nat_lt 65536 (point_count d.lines + 2) ≡ false = grind (arith, nat_tests, room.points, room.lines) in
+    let cost : nat_lt 200000 (step_count 25 d.lines + line_steps 25 (s.from ∷ s.to ∷ [])) ≡ false =
+    grind (arith, nat_tests, room.steps, room.lines, short.cost) in
+    rw (some, short.from, short.to, short.apart, lines, points, room.step, cost, room.threads) refl
+
+-- so it takes a list of points that is those two
+pub line_taken : (d : DrawingValue) (s : Segment) (points : List Point) → points ≡ s.from ∷ s.to ∷ [] → HasRoom d 1
+    → IsShort s → line_added d points ≡ Ok (with_segments d (s ∷ []))
+line_taken d s points are room short = ap (line_added d) are ∙ taken_so d s room short
+
+-- a call that may want memory alone refuses for want of memory
+pub wants_memory : {A : Type 0} (said : Result A DrawKind) (a : A) (why : DrawKind) → said ≡ Ok a → IsSaid said why
+    → why ≡ kind.Memory
+wants_memory said a kind.Memory is refused = refl
+wants_memory said a kind.BadHeader is refused = absurd cc
+wants_memory said a kind.BadWord is refused = absurd cc
+wants_memory said a kind.BadNumber is refused = absurd cc
+wants_memory said a kind.OutOfRange is refused = absurd cc
+wants_memory said a kind.FewPoints is refused = absurd cc
+wants_memory said a kind.RepeatedPoint is refused = absurd cc
+wants_memory said a kind.EmptyBlock is refused = absurd cc
+wants_memory said a kind.NoBlock is refused = absurd cc
+wants_memory said a kind.TooManyLines is refused = absurd cc
+wants_memory said a kind.TooManyPoints is refused = absurd cc
+wants_memory said a kind.TooManyBlocks is refused = absurd cc
+wants_memory said a kind.TooMuchCost is refused = absurd cc
+
+-- a drawing of one block without a line has room for so many
+pub first_room : (count : ℕ) → count ≤ 930 → HasRoom first_block count
+first_room count few = record {
+  threads = refl;
+  step = refl;
+  lines = omega (arith, few);
+  points = omega arith;
+  steps = omega arith;
+}

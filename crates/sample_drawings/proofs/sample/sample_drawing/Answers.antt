@@ -1,0 +1,15 @@
+use Rattle.std.proofs.Common.{◌∙◌, ap}
+use Rattle.sample_drawings.specs.Samples.{segments}
+use Rattle.sample_drawings.proofs.ShortLines.{all_short, few_lines}
+use Rattle.sample_drawings.proofs.TakingLemmas.{first_room}
+use Rattle.sample_drawings.proofs.sample.sample_drawing.Goals as goal
+
+pub add_lines-requires-clause-room : goal.add_lines-requires-clause-room
+add_lines-requires-clause-room c =
+    let are = c.as_slice.ensures ∙ (c.in_ok-lines.ensures ∙ ap segments c.in_ok-grid.ensures) in
+    rw (c.in_ok-maker.ensures, are) (first_room _ (few_lines c.args.number))
+
+pub add_lines-requires-clause-short : goal.add_lines-requires-clause-short
+add_lines-requires-clause-short c =
+    let are = c.as_slice.ensures ∙ (c.in_ok-lines.ensures ∙ ap segments c.in_ok-grid.ensures) in
+    rw are (all_short c.args.number)

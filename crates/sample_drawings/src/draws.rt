@@ -1,0 +1,26 @@
+ghost use Rattle.std.specs.Prelude.{◌≡◌, ◌<◌, ◌≤◌, ◌%◌};
+ghost use Rattle.sample_drawings.specs.declared.draws.TheConstants.{MAX_NUMBER};
+ghost use Rattle.sample_drawings.specs.Draws.{next_state};
+
+/// The greatest number that has a sample drawing.
+pub const MAX_NUMBER: u32 = 999_999;
+
+/// The generator of the sample drawings, which begins with a drawing's number. Each draw replaces
+/// its state.
+#[derive(Clone, Copy, Debug)]
+pub struct Generator {
+    pub state: u32,
+    pub ghost small: { state ≤ MAX_NUMBER },
+}
+
+impl Generator {
+    /// A number below that limit.
+    pub fn draw(&mut self, limit: u32) -> u32
+        requires { 0 < limit }
+        ensures state { self.new.state ≡ next_state self.old.state }
+        ensures value { result ≡ next_state self.old.state % limit }
+    {
+        self.state = (75 * self.state + 74) % 65_537;
+        self.state % limit
+    }
+}

@@ -1,0 +1,118 @@
+use super::rows::{Holds, Row, Step, play};
+use std::test::Fail;
+use stitch_cli::Status;
+
+const SHOW: &[&str] = &["show", "a.dst"];
+
+/// Cut off in its second record; three jumps, which read as a trim; two jumps; a stop alone.
+const SHOWN: &[Row] = &[
+    Row {
+        before: &[("a.dst", records!(&[0x00, 0x05, 0x03, 0x00, 0x05]))],
+        steps: &[done!(
+            SHOW,
+            "format dst\nlabel []\ncommands 1\nneedles 1\ntrims 0\nstops 0\nextent 30 0 30 0\nended no\nblock 1 thread 1 needles 1\n",
+            &[],
+        )],
+    },
+    Row {
+        before: &[(
+            "a.dst",
+            records!(&[
+                0, 0, 0x03, 0, 0, 0x83, 0, 0, 0x83, 0, 0, 0x83, 0, 0, 0x03, 0, 0, 0xF3,
+            ]),
+        )],
+        steps: &[done!(
+            SHOW,
+            "format dst\nlabel []\ncommands 6\nneedles 2\ntrims 1\nstops 0\nextent 0 0 0 0\nended yes\nblock 1 thread 1 needles 2\n",
+            &[],
+        )],
+    },
+    Row {
+        before: &[(
+            "a.dst",
+            records!(&[0, 0, 0x03, 0, 0, 0x83, 0, 0, 0x83, 0, 0, 0x03, 0, 0, 0xF3]),
+        )],
+        steps: &[done!(
+            SHOW,
+            "format dst\nlabel []\ncommands 4\nneedles 2\ntrims 0\nstops 0\nextent 0 0 0 0\nended yes\nblock 1 thread 1 needles 2\n",
+            &[],
+        )],
+    },
+    Row {
+        before: &[("a.dst", records!(&[0, 0, 0xC3, 0, 0, 0xF3]))],
+        steps: &[done!(
+            SHOW,
+            "format dst\nlabel []\ncommands 1\nneedles 0\ntrims 0\nstops 1\nextent none\nended yes\nblock 1 thread 1 needles 0\nblock 2 thread 2 needles 0\n",
+            &[],
+        )],
+    },
+];
+
+/// Files that are none of their format; the last has too many commands.
+const NOT_SHOWN: &[Row] = &[
+    Row {
+        before: &[("a.dst", Holds::Behind(b"", 511, 0, b""))],
+        steps: &[refused!(SHOW, "stitch: a.dst: byte 511: file too short\n")],
+    },
+    Row {
+        before: &[("a.dst", records!(&[0x00, 0x00, 0x43]))],
+        steps: &[refused!(SHOW, "stitch: a.dst: byte 512: sequin\n")],
+    },
+    Row {
+        before: &[("a.dst", Holds::Behind(b"", 512, 248, &[0x05, 0x05, 0x07]))],
+        steps: &[refused!(SHOW, "stitch: a.dst: byte 1253: point out of range\n")],
+    },
+    Row {
+        before: &[("a.exp", Holds::Bytes(&[0x80, 0x05, 0x00, 0x00]))],
+        steps: &[refused!(
+            &["show", "a.exp"],
+            "stitch: a.exp: byte 0: control code not known\n",
+        )],
+    },
+    Row {
+        before: &[("a.pec", Holds::Bytes(b"#PAC0001"))],
+        steps: &[refused!(
+            &["show", "a.pec"],
+            "stitch: a.pec: byte 0: signature not known\n",
+        )],
+    },
+    Row {
+        before: &[("a.exp", Holds::Behind(b"", 0, 2_000_002, &[0]))],
+        steps: &[refused!(
+            &["show", "a.exp"],
+            "stitch: a.exp: byte 2000000: more than 1000000 commands\n",
+        )],
+    },
+];
+
+const HOOPS: &[Row] = &[
+    Row {
+        before: &[("a.exp", Holds::Bytes(&[0x00, 0x00, 0x1E, 0x00, 0x00, 0xE2]))],
+        steps: &[
+            done!(&["hoop", "a.exp", "30", "0030"], "fits upright\n", &[]),
+            refused!(
+                &["hoop", "a.exp", "20", "25"],
+                "stitch: too large by 10 5\n",
+            ),
+        ],
+    },
+    Row {
+        before: &[("a.exp", Holds::Bytes(&[0x00, 0x00, 0x1E, 0x00]))],
+        steps: &[done!(&["hoop", "a.exp", "10", "30"], "fits turned\n", &[])],
+    },
+];
+
+#[test]
+fn a_file_is_shown(rt: HostRuntime) -> Result<(), Fail> {
+    play(&rt, rt.alloc(), SHOWN)
+}
+
+#[test]
+fn a_file_that_is_none_of_its_format_is_refused(rt: HostRuntime) -> Result<(), Fail> {
+    play(&rt, rt.alloc(), NOT_SHOWN)
+}
+
+#[test]
+fn a_design_fits_into_a_hoop_upright_or_turned(rt: HostRuntime) -> Result<(), Fail> {
+    play(&rt, rt.alloc(), HOOPS)
+}

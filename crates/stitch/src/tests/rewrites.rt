@@ -1,0 +1,284 @@
+use super::rows::{Holds, Row, Step, play};
+use std::test::Fail;
+use stitch_cli::Status;
+
+/// In EXP: a stitch, four jumps of 100 to the right, and a stitch.
+const FLOAT: [u8; 20] = [
+    0x00, 0x00, 0x80, 0x04, 0x64, 0x00, 0x80, 0x04, 0x64, 0x00, 0x80, 0x04, 0x64, 0x00, 0x80, 0x04,
+    0x64, 0x00, 0x00, 0x00,
+];
+
+/// The same in DST with a trim before the jumps.
+const CUT_FLOAT: [u8; 30] = [
+    0x00, 0x00, 0x03, 0x82, 0x41, 0x83, 0x82, 0x82, 0x83, 0x82, 0x41, 0x83, 0x09, 0x04, 0x87, 0x09,
+    0x04, 0x87, 0x09, 0x04, 0x87, 0x09, 0x04, 0x87, 0x00, 0x00, 0x03, 0x00, 0x00, 0xF3,
+];
+
+/// In EXP: five stitches with two stops.
+const FIVE: &[u8] = &[
+    0x00, 0x00, 0x3E, 0x3F, 0x3F, 0x00, 0x80, 0x01, 0x00, 0x00, 0x00, 0x00, 0x80, 0x01, 0x00, 0x00,
+    0x00, 0x00,
+];
+
+/// Their records in PEC.
+const FIVE_RECORDS: &[u8] = &[
+    0x00, 0x00, 0x3E, 0x41, 0x80, 0x3F, 0x80, 0x00, 0xFE, 0xB0, 0x02, 0x00, 0x00, 0xFE, 0xB0, 0x01,
+    0x00, 0x00, 0xFF,
+];
+
+/// In DST: a stitch, and one of 500 in five parts.
+const SPLIT: &[u8] = &[
+    0x00, 0x00, 0x03, 0x09, 0x04, 0x07, 0x09, 0x04, 0x07, 0x09, 0x04, 0x07, 0x09, 0x04, 0x07, 0x09,
+    0x04, 0x07, 0x00, 0x00, 0xF3,
+];
+
+/// In EXP: a stitch, a stop, a stitch, a trim, and a stitch.
+const THREE: &[u8] = &[
+    0x00, 0x00, 0x80, 0x01, 0x00, 0x00, 0x14, 0x0A, 0x80, 0x80, 0x07, 0x00, 0x80, 0x04, 0x05, 0x05,
+    0x00, 0x00,
+];
+
+/// The same as it is written.
+const THREE_WRITTEN: &[u8] = &[
+    0x00, 0x00, 0x80, 0x01, 0x00, 0x00, 0x80, 0x04, 0x14, 0x0A, 0x00, 0x00, 0x80, 0x80, 0x07, 0x00,
+    0x80, 0x04, 0x05, 0x05, 0x00, 0x00,
+];
+
+const REFITS: &[Row] = &[
+    // A stitch of 122 is too long for DST, one of (-5, 128) for EXP.
+    Row {
+        before: &[("a.exp", Holds::Bytes(&[0x00, 0x00, 0x7A, 0x00]))],
+        steps: &[
+            refused!(
+                &["convert", "a.exp", "b.dst"],
+                "stitch: b.dst: command 2: stitch longer than 121\n",
+            ),
+            done!(
+                &["convert", "a.exp", "b.dst", "--split"],
+                "needles 3 trims 0 stops 0\n",
+                &[(
+                    "b.dst",
+                    records!(&[
+                        0x00, 0x00, 0x03, 0x05, 0x0A, 0x07, 0x05, 0x0A, 0x07, 0x00, 0x00, 0xF3,
+                    ]),
+                )],
+            ),
+        ],
+    },
+    Row {
+        before: &[("a.exp", Holds::Bytes(&[0x00, 0x00, 0xFB, 0x80]))],
+        steps: &[
+            refused!(
+                &["convert", "a.exp", "b.exp"],
+                "stitch: b.exp: command 2: stitch longer than 127\n",
+            ),
+            done!(
+                &["convert", "a.exp", "b.exp", "--split"],
+                "needles 3 trims 0 stops 0\n",
+                &[("b.exp", Holds::Bytes(&[0x00, 0x00, 0xFD, 0xC0, 0xFE, 0xC0]))],
+            ),
+        ],
+    },
+    // A float of 400 is too long for DST; where it is cut, the jumps follow a trim.
+    Row {
+        before: &[("a.exp", Holds::Bytes(&FLOAT))],
+        steps: &[
+            refused!(
+                &["convert", "a.exp", "b.dst"],
+                "stitch: b.dst: command 6: float too long\n",
+            ),
+            done!(
+                &["convert", "a.exp", "b.dst", "--cut"],
+                "needles 2 trims 1 stops 0\n",
+                &[("b.dst", records!(&CUT_FLOAT))],
+            ),
+        ],
+    },
+];
+
+const CONVERT: &[&str] = &["convert", "a.exp", "b.pec"];
+
+const FIVE_REPORT: &str = "needles 5 trims 0 stops 2\n";
+
+const ONE_REPORT: &str = "needles 1 trims 0 stops 0\n";
+
+const WRITTEN: &[Row] = &[
+    Row {
+        before: &[("a.exp", Holds::Bytes(FIVE))],
+        steps: &[
+            done!(
+                CONVERT,
+                FIVE_REPORT,
+                &[("b.pec", Holds::At(1_467, 536, FIVE_RECORDS))],
+            ),
+            done!(
+                CONVERT,
+                FIVE_REPORT,
+                &[("b.pec", Holds::At(1_467, 522, &[0x23, 0x00, 0x00]))],
+            ),
+            done!(
+                CONVERT,
+                FIVE_REPORT,
+                &[("b.pec", Holds::At(1_467, 56, &[0x02, 0x01, 0x02, 0x03]))],
+            ),
+        ],
+    },
+    Row {
+        before: &[("a.exp", Holds::Bytes(&[0x00, 0x00]))],
+        steps: &[
+            done!(
+                CONVERT,
+                ONE_REPORT,
+                &[("b.pec", Holds::At(995, 536, &[0x00, 0x00, 0xFF]))],
+            ),
+            done!(
+                CONVERT,
+                ONE_REPORT,
+                &[("b.pec", Holds::At(995, 522, &[0x13, 0x00, 0x00]))],
+            ),
+            done!(
+                &["convert", "a.exp", "b.pes"],
+                ONE_REPORT,
+                &[("b.pes", Holds::At(1_009, 0, b"#PES0001\x16\x00\x00\x00"))],
+            ),
+        ],
+    },
+    Row {
+        before: &[(
+            "a.pec",
+            Holds::Behind(
+                b"#PEC0001",
+                536,
+                1,
+                &[0x00, 0x00, 0x81, 0xF4, 0x80, 0x00, 0xFF],
+            ),
+        )],
+        steps: &[
+            refused!(
+                &["convert", "a.pec", "b.dst"],
+                "stitch: b.dst: command 2: stitch longer than 121\n",
+            ),
+            done!(
+                &["convert", "a.pec", "b.dst", "--split"],
+                "needles 6 trims 0 stops 0\n",
+                &[("b.dst", records!(SPLIT))],
+            ),
+        ],
+    },
+    Row {
+        before: &[(
+            "a.pec",
+            Holds::Behind(
+                b"#PEC0001",
+                536,
+                1,
+                &[0x00, 0x00, 0x8F, 0x81, 0x80, 0x00, 0xFF],
+            ),
+        )],
+        steps: &[done!(
+            &["convert", "a.pec", "b.exp"],
+            "needles 2 trims 0 stops 0\n",
+            &[("b.exp", Holds::Bytes(&[0x00, 0x00, 0x81, 0x00]))],
+        )],
+    },
+];
+
+const EDITS: &[Row] = &[
+    // A quarter turn brings what points to the right downwards.
+    Row {
+        before: &[("a.exp", Holds::Bytes(&[0x00, 0x00, 0x1E, 0x00]))],
+        steps: &[done!(
+            &["edit", "a.exp", "b.exp", "turn=1"],
+            "needles 2 trims 0 stops 0\n",
+            &[("b.exp", Holds::Bytes(&[0x00, 0x00, 0x00, 0xE2]))],
+        )],
+    },
+    Row {
+        before: &[("a.exp", Holds::Bytes(&[0x01, 0x00]))],
+        steps: &[
+            refused!(
+                &["edit", "a.exp", "b.exp", "shift=30000,0"],
+                "stitch: a.exp: command 1: moved out of range\n",
+            ),
+            refused!(
+                &["edit", "a.exp", "b.exp", "thread=2,7"],
+                "stitch: a.exp: no colour place 2, there are 1\n",
+            ),
+            refused!(
+                &[
+                    "edit",
+                    "a.exp",
+                    "b.exp",
+                    "shift=0,5",
+                    "shift=29999,0",
+                    "turn=2",
+                    "shift=-1,0",
+                ],
+                "stitch: a.exp: command 1: moved out of range\n",
+            ),
+            done!(
+                &["edit", "a.exp", "b.exp", "shift=-1,5", "mirror=y"],
+                "needles 1 trims 0 stops 0\n",
+                &[("b.exp", Holds::Bytes(&[0x80, 0x04, 0x00, 0x05, 0x00, 0x00]))],
+            ),
+            done!(
+                &["edit", "a.exp", "b.pes", "shift=29999,0"],
+                "needles 1 trims 0 stops 0\n",
+                &[],
+            ),
+            done!(
+                &["show", "b.pes"],
+                "format pes\nlabel []\ncommands 16\nneedles 1\ntrims 0\nstops 0\nextent 30000 0 30000 0\nended yes\nblock 1 thread 1 needles 1\n",
+                &[],
+            ),
+            done!(
+                &["edit", "a.exp", "b.pec", "turn=0", "thread=1,9"],
+                "needles 1 trims 0 stops 0\n",
+                &[],
+            ),
+            done!(
+                &["show", "b.pec"],
+                "format pec\nlabel []\ncommands 2\nneedles 1\ntrims 0\nstops 0\nextent 1 0 1 0\nended yes\nblock 1 thread 9 needles 1\n",
+                &[],
+            ),
+        ],
+    },
+];
+
+const THREE_REPORT: &str = "needles 3 trims 1 stops 1\n";
+
+const BACK: &[(&str, Holds)] = &[("c.exp", Holds::Bytes(THREE_WRITTEN))];
+
+const THERE_AND_BACK: &[Row] = &[Row {
+    before: &[("a.exp", Holds::Bytes(THREE))],
+    steps: &[
+        done!(&["convert", "a.exp", "b.dst"], THREE_REPORT, &[]),
+        done!(&["convert", "b.dst", "c.exp"], THREE_REPORT, BACK),
+        done!(&["convert", "a.exp", "b.exp"], THREE_REPORT, &[]),
+        done!(&["convert", "b.exp", "c.exp"], THREE_REPORT, BACK),
+        done!(&["convert", "a.exp", "b.pec"], THREE_REPORT, &[]),
+        done!(&["convert", "b.pec", "c.exp"], THREE_REPORT, BACK),
+        done!(&["convert", "a.exp", "b.pes"], THREE_REPORT, &[]),
+        done!(&["convert", "b.pes", "c.exp"], THREE_REPORT, BACK),
+    ],
+}];
+
+#[test]
+fn a_conversion_refits_what_it_is_asked_to(rt: HostRuntime) -> Result<(), Fail> {
+    play(&rt, rt.alloc(), REFITS)
+}
+
+#[test]
+fn a_design_is_written_in_each_format(rt: HostRuntime) -> Result<(), Fail> {
+    play(&rt, rt.alloc(), WRITTEN)
+}
+
+#[test]
+fn an_edit_changes_the_points_or_is_refused(rt: HostRuntime) -> Result<(), Fail> {
+    play(&rt, rt.alloc(), EDITS)
+}
+
+#[test]
+fn a_conversion_there_and_back_keeps_the_acts(rt: HostRuntime) -> Result<(), Fail> {
+    play(&rt, rt.alloc(), THERE_AND_BACK)
+}

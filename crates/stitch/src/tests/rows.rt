@@ -1,0 +1,160 @@
+//! Rows of tests as data, and the one function that runs them: commands one after another over one store.
+use dst_codec::Dst;
+use exp_codec::Exp;
+use format_traits::Format;
+use outside_io::{MemSink, MemStore};
+use pes_codec::{Pec, Pes};
+use std::alloc::Global;
+use std::process::Abort;
+use std::test::Fail;
+use stitch_cli::{Status, run};
+
+/// What a file holds.
+#[derive(Clone, Copy, Debug)]
+pub enum Holds {
+    /// These bytes.
+    Bytes(&'static [u8]),
+    /// A text, filled with spaces up to that length, and then so many times these bytes.
+    Behind(&'static [u8], usize, usize, &'static [u8]),
+    /// So many bytes, and from that offset on these.
+    At(usize, usize, &'static [u8]),
+    /// What the file of that name holds.
+    Same(&'static str),
+    /// There is no such file.
+    Nothing,
+}
+
+/// A command, and what it leaves.
+#[derive(Clone, Copy, Debug)]
+pub struct Step {
+    pub words: &'static [&'static str],
+    pub status: Status,
+    pub out: &'static str,
+    pub err: &'static str,
+    pub after: &'static [(&'static str, Holds)],
+}
+
+/// The files that are there, and commands one after another.
+#[derive(Clone, Copy, Debug)]
+pub struct Row {
+    pub before: &'static [(&'static str, Holds)],
+    pub steps: &'static [Step],
+}
+
+/// The names that have room for what commands write.
+const WRITTEN: [&str; 8] = [
+    "b.dst", "b.exp", "b.pec", "b.pes", "b.cert", "c.exp", "c.pes", "s.rw",
+];
+
+/// Runs the rows.
+pub fn play(rt: &impl Abort, alloc: Global, rows: &[Row]) -> Result<(), Fail> {
+    for row in rows {
+        let mut store = stocked(alloc, row.before)?;
+        for step in row.steps {
+            take(rt, alloc, step, &mut store)?;
+        }
+    }
+    Ok(())
+}
+
+/// A store with these files, and with room for what is written.
+pub fn stocked(alloc: Global, before: &[(&'static str, Holds)]) -> Result<MemStore, Fail> {
+    let mut store = MemStore::new(alloc);
+    for (name, holds) in before {
+        put(alloc, &mut store, name, *holds)?;
+    }
+    for name in WRITTEN {
+        store.prepare(name, 10_000)?;
+    }
+    Ok(store)
+}
+
+fn put(alloc: Global, store: &mut MemStore, name: &str, holds: Holds) -> Result<(), Fail> {
+    match holds {
+        Holds::Bytes(bytes) => store.put_file(name, bytes)?,
+        Holds::Behind(text, length, times, piece) => {
+            let bytes = behind(alloc, text, length, times, piece)?;
+            store.put_file(name, bytes.as_slice())?;
+        }
+        Holds::At(_, _, _) | Holds::Same(_) | Holds::Nothing => {}
+    }
+    Ok(())
+}
+
+/// A text, filled with spaces up to that length, and then so many times these bytes.
+fn behind(
+    alloc: Global,
+    text: &[u8],
+    length: usize,
+    times: usize,
+    piece: &[u8],
+) -> Result<Vec<u8>, Fail> {
+    let mut bytes = Vec::from_slice(alloc, text)?;
+    bytes.resize(length, b' ')?;
+    for _ in 0..times {
+        bytes.extend_from_slice(piece)?;
+    }
+    Ok(bytes)
+}
+
+fn take(rt: &impl Abort, alloc: Global, step: &Step, store: &mut MemStore) -> Result<(), Fail> {
+    let mut out = MemSink::new(alloc, 10_000)?;
+    let mut err = MemSink::new(alloc, 10_000)?;
+    let words = step.words;
+    let before = sizes(store);
+    let status = answer(alloc, words, store, &mut out, &mut err)?;
+    assert_eq!(rt; err.taken(), step.err.as_bytes(), "{words:?}");
+    assert_eq!(rt; status, step.status, "{words:?}");
+    assert_eq!(rt; out.taken(), step.out.as_bytes(), "{words:?}");
+    if status == Status::Refused {
+        assert_eq!(rt; sizes(store), before, "{words:?}");
+    }
+    for (name, holds) in step.after {
+        assert!(rt; is_held(store, name, *holds), "{words:?} leaves {name}");
+    }
+    Ok(())
+}
+
+/// How long the files are that commands write.
+fn sizes(store: &MemStore) -> [Option<usize>; 8] {
+    let mut sizes = [None; 8];
+    for (size, name) in sizes.iter_mut().zip(WRITTEN) {
+        *size = store.file(name).map(|file| file.len());
+    }
+    sizes
+}
+
+fn is_held(store: &MemStore, name: &str, holds: Holds) -> bool {
+    match (store.file(name), holds) {
+        (file, Holds::Same(other)) => file == store.file(other),
+        (Some(file), Holds::Bytes(bytes)) => file == bytes,
+        (Some(file), Holds::Behind(_, length, _, piece)) => {
+            file.len().checked_sub(length) == Some(piece.len()) && file.ends_with(piece)
+        }
+        (Some(file), Holds::At(size, offset, bytes)) => {
+            file.len() == size && offset <= size && file[offset..].starts_with(bytes)
+        }
+        (None, Holds::Nothing) => true,
+        _ => false,
+    }
+}
+
+/// The status of the program over its four formats.
+pub fn answer(
+    alloc: Global,
+    words: &[&str],
+    store: &mut MemStore,
+    out: &mut MemSink,
+    err: &mut MemSink,
+) -> Result<Status, Fail> {
+    let mut owned = Vec::new(alloc);
+    for word in words {
+        owned.push(String::from_str(alloc, word)?)?;
+    }
+    let mut formats: Vec<Box<dyn Format>> = Vec::new(alloc);
+    formats.push(Box::new(alloc, Dst)?)?;
+    formats.push(Box::new(alloc, Exp)?)?;
+    formats.push(Box::new(alloc, Pec)?)?;
+    formats.push(Box::new(alloc, Pes)?)?;
+    Ok(run(alloc, &owned, &formats, store, out, err))
+}

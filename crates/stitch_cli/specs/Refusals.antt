@@ -1,0 +1,33 @@
+-- Why an order is refused: each reason with what its line says. A name is the bytes of a file's name.
+use Rattle.std.specs.Prelude.{ℕ, List}
+use Rattle.drawing_text.specs.declared.draw_fault.DrawFault.{DrawFault}
+use Rattle.format_traits.specs.declared.fault.ReadFault.{ReadFault}
+use Rattle.format_traits.specs.declared.fault.WriteFault.{WriteFault}
+use Rattle.route_core.specs.declared.verdict.Reason.{Reason}
+use Rattle.stitch_cli.specs.declared.changing.ChangeFault.{ChangeFault}
+use Rattle.stitch_cli.specs.declared.halt.Refusal.{Refusal}
+use Rattle.stitch_cli.specs.declared.halt.Refusal.TheVariants as refusal
+
+-- a reason; the limit of a step and of a stitch is that of the output's format
+pub data RefusalValue : Type 0 where
+  too_long : (name : List ℕ) → RefusalValue
+  undrawn : (name : List ℕ) → DrawFault → RefusalValue
+  step_too_long : (name : List ℕ) → (step limit : ℕ) → (ending : List ℕ) → RefusalValue
+  unread : (name : List ℕ) → ReadFault → RefusalValue
+  unchanged : (input output : List ℕ) → ChangeFault → RefusalValue
+  unwritten : (name : List ℕ) → (limit : ℕ) → WriteFault → RefusalValue
+  uncertified : (name : List ℕ) → (line : ℕ) → RefusalValue
+  disproved : Reason → RefusalValue
+  too_large : (x y : ℕ) → RefusalValue
+
+-- the reason that a refusal of the program is
+abbrev pub refusal_of : Refusal → RefusalValue
+refusal_of (refusal.TooLong name) = too_long name.now
+refusal_of (refusal.Undrawn name fault) = undrawn name.now fault
+refusal_of (refusal.StepTooLong name step limit ending) = step_too_long name.now step limit ending.now
+refusal_of (refusal.Unread name fault) = unread name.now fault
+refusal_of (refusal.Unchanged names fault) = unchanged names.input.now names.output.now fault
+refusal_of (refusal.Unwritten name limit fault) = unwritten name.now limit fault
+refusal_of (refusal.Uncertified name number) = uncertified name.now number
+refusal_of (refusal.Disproved reason) = disproved reason
+refusal_of (refusal.TooLarge x y) = too_large x y

@@ -1,0 +1,30 @@
+-- What the inner steps of a sample answer. No public clause cites this file.
+use Rattle.std.specs.Prelude.{ℕ, ◌*◌, List, length, sum_by}
+use Rattle.line_graph.specs.declared.piece.Piece.{Piece}
+use Rattle.line_graph.specs.CutPieces.{graph_of}
+use Rattle.stitch_cli.specs.declared.reports.PieceReport.{PieceReport}
+use Rattle.stitch_cli.specs.declared.summary.Summary.{Summary}
+use Rattle.stitch_cli.specs.Samples.{junction_count, odd_count}
+use Rattle.stitch_cli.specs.Texts.{penetrations_of}
+
+-- the junctions of pieces
+abbrev pub junction_sum : List Piece → ℕ
+junction_sum pieces = sum_by (λ p. junction_count (graph_of p)) pieces
+
+-- their odd junctions
+abbrev pub odd_sum : List Piece → ℕ
+odd_sum pieces = sum_by (λ p. odd_count (graph_of p)) pieces
+
+-- what is told of so many lines in pieces, by what a report says of them
+abbrev pub summed : (number lines : ℕ) → List Piece → List PieceReport → Summary
+summed number lines pieces reports = record {
+  number = number;
+  lines = lines;
+  junctions = junction_sum pieces;
+  odd = odd_sum pieces;
+  pieces = length pieces;
+  cost = sum_by (λ r. r.cost) reports;
+  retraced = sum_by (λ r. r.retraced) reports;
+  penetrations = sum_by penetrations_of reports;
+  cuts = 2 * sum_by (λ r. r.retraced) reports;
+}

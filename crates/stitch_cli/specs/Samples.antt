@@ -1,0 +1,63 @@
+-- What the command `sample` comes to. Costs count steps, weights of cuts halves of a step.
+use Rattle.std.specs.Prelude.{◌≡◌, ℕ, ◌+◌, List, length, sum_by}
+use Rattle.std.specs.List.{AllZip}
+use Rattle.cut_certificate.specs.declared.certificate.PieceCert.{PieceCert}
+use Rattle.cut_certificate.specs.Cuts.{total_of}
+use Rattle.drawing_text.specs.Spelling.{plain_spelling}
+use Rattle.line_graph.specs.Drawings.{DrawingValue}
+use Rattle.line_graph.specs.PieceGraphs.{PieceValue, odd_junctions, piece_of}
+use Rattle.line_graph.specs.Pieces.{ArePieces}
+use Rattle.line_graph.specs.PieceWalks.{piece_cost}
+use Rattle.route_core.specs.Routes.{IsBest}
+use Rattle.sample_drawings.specs.Samples.{sample_of}
+use Rattle.stitch_cli.specs.declared.summary.Summary.{Summary}
+use Rattle.stitch_cli.specs.Orders.{SampleOrder}
+use Rattle.stitch_cli.specs.Plans.{Plan, accepts}
+use Rattle.stitch_cli.specs.Products.{ProductValue, one_output}
+use Rattle.stitch_cli.specs.Texts.{summary_text}
+
+-- the sum of a number over pieces of a drawing
+abbrev pub over_pieces : (PieceValue → ℕ) → DrawingValue → List (List ℕ) → ℕ
+over_pieces count d pieces = sum_by (λ lines. count (piece_of d lines)) pieces
+
+-- how many junctions a piece has, and how many of them are odd
+abbrev pub junction_count : PieceValue → ℕ
+junction_count p = length p.junctions
+
+abbrev pub odd_count : PieceValue → ℕ
+odd_count p = length (odd_junctions p)
+
+-- what walks retrace in all
+abbrev pub retraced_sum : List PieceCert → ℕ
+retraced_sum certs = sum_by (λ cert. cert.retraced) certs
+
+-- the total of all cuts
+abbrev pub cut_sum : List PieceCert → ℕ
+cut_sum certs = sum_by (λ cert. total_of cert.cuts) certs
+
+-- what is told of the drawing with that number and of a route over its pieces: each walk puts the needle down
+-- once more often than it costs steps
+abbrev pub summary_of : ℕ → DrawingValue → List (List ℕ) → List PieceCert → Summary
+summary_of number d pieces certs = record {
+  number = number;
+  lines = length d.lines;
+  junctions = over_pieces junction_count d pieces;
+  odd = over_pieces odd_count d pieces;
+  pieces = length pieces;
+  cost = over_pieces piece_cost d pieces;
+  retraced = retraced_sum certs;
+  penetrations = (over_pieces piece_cost d pieces + retraced_sum certs) + length pieces;
+  cuts = cut_sum certs;
+}
+
+-- a drawing is written in its plain spelling, and the report tells of best walks over its pieces
+pub record TellsOf (order : SampleOrder) (d : DrawingValue) (product : ProductValue) : Type 0 where
+  pub pieces : List (List ℕ)
+  pub certs : List PieceCert
+  pub pieces_are : ArePieces d pieces
+  pub best : AllZip (IsBest d) pieces certs
+  pub made : product ≡ one_output order.drawing (plain_spelling d) (summary_text (summary_of order.number d pieces certs))
+
+-- the plan of a sample: no number is refused
+abbrev pub sample_plan : SampleOrder → Plan
+sample_plan order = accepts (TellsOf order (sample_of order.number))

@@ -1,0 +1,169 @@
+ghost use Rattle.std.specs.Prelude.{◌<◌, ◌-◌, ◌≤◌, ◌^◌, All, Ok, length};
+ghost use Rattle.command_words.specs.Requests.{AreCheckNames};
+ghost use Rattle.cut_certificate.specs.ReadCertificates.{cert_of};
+ghost use Rattle.drawing_text.specs.DrawingText.{drawing_of};
+ghost use Rattle.outside_io.specs.declared.limits.TheConstants.{MAX_FILE};
+ghost use Rattle.route_core.specs.Verdicts.{IsShort};
+ghost use Rattle.stitch_cli.specs.Checks.{CheckOf, check_cert, check_design, check_drawing, check_plan};
+ghost use Rattle.stitch_cli.specs.Endings.{Prepares, Settles};
+ghost use Rattle.stitch_cli.specs.Orders.{check_order};
+ghost use Rattle.stitch_cli.specs.Plans.{decides};
+
+use crate::halt::{Halt, Refusal};
+use crate::product::{Product, only_report};
+use crate::reading::read_input;
+use crate::reports::bytes_of;
+use command_words::CheckNames;
+use cut_certificate::{Cert, CertFault, read_cert};
+use design_model::Design;
+use drawing_text::{DrawFault, read_drawing};
+use format_traits::{Format, Loaded, ReadFault, decode_by};
+use line_graph::{DrawKind, Drawing};
+use outside_io::Store;
+use route_core::{Verdict, judge};
+use std::alloc::Global;
+
+/// Whether a design sews a drawing by the walks of a certificate, and the certificate proves them least.
+/// The drawing, the design and the certificate are read in this order, each refused as it is read.
+pub(crate) fn check<'a, S: Store>(
+    alloc: Global,
+    names: CheckNames<'a>,
+    format: &Box<dyn Format>,
+    store: &mut S,
+) -> Result<Product<'a>, Halt<'a>>
+    requires { AreCheckNames names }
+    ensures { Prepares (check_plan (check_order names.entry (meaning format.now)))
+        (S.sight store.old) (S.sight store.new) result }
+{
+    let bytes = read_input(alloc, store, names.drawing)?;
+    check_text(alloc, names, format, bytes.as_slice(), store)
+}
+
+fn check_text<'a, S: Store>(
+    alloc: Global,
+    names: CheckNames<'a>,
+    format: &Box<dyn Format>,
+    bytes: &[u8],
+    store: &mut S,
+) -> Result<Product<'a>, Halt<'a>>
+    requires names { AreCheckNames names }
+    requires short { length bytes.now ≤ MAX_FILE }
+    ensures { Prepares (check_drawing (check_order names.entry (meaning format.now)) (drawing_of bytes.now))
+        (S.sight store.old) (S.sight store.new) result }
+{
+    match read_drawing(alloc, bytes) {
+        Ok(drawing) => check_file(alloc, names, format, &drawing, store),
+        Err(
+            DrawFault {
+                kind: DrawKind::Memory,
+                number: _,
+            },
+        ) => Err(Halt::Memory),
+        Err(fault) => Err(Halt::Refused(Refusal::Undrawn {
+            name: names.drawing,
+            fault,
+        })),
+    }
+}
+
+fn check_file<'a, S: Store>(
+    alloc: Global,
+    names: CheckNames<'a>,
+    format: &Box<dyn Format>,
+    drawing: &Drawing,
+    store: &mut S,
+) -> Result<Product<'a>, Halt<'a>>
+    requires names { AreCheckNames names }
+    ensures { Prepares (check_drawing (check_order names.entry (meaning format.now)) (Ok drawing.now))
+        (S.sight store.old) (S.sight store.new) result }
+{
+    let bytes = read_input(alloc, store, names.file)?;
+    check_bytes(alloc, names, format, drawing, bytes.as_slice(), store)
+}
+
+fn check_bytes<'a, S: Store>(
+    alloc: Global,
+    names: CheckNames<'a>,
+    format: &Box<dyn Format>,
+    drawing: &Drawing,
+    bytes: &[u8],
+    store: &mut S,
+) -> Result<Product<'a>, Halt<'a>>
+    requires names { AreCheckNames names }
+    ensures { Prepares (check_design (check_order names.entry (meaning format.now)) drawing.now
+        ((meaning format.now).reads bytes.now)) (S.sight store.old) (S.sight store.new) result }
+{
+    match decode_by(alloc, format, bytes) {
+        Ok(loaded) => check_loaded(alloc, names, format, drawing, &loaded, store),
+        Err(ReadFault::Memory) => Err(Halt::Memory),
+        Err(fault) => Err(Halt::Refused(Refusal::Unread {
+            name: names.file,
+            fault,
+        })),
+    }
+}
+
+fn check_loaded<'a, S: Store>(
+    alloc: Global,
+    names: CheckNames<'a>,
+    format: &Box<dyn Format>,
+    drawing: &Drawing,
+    loaded: &Loaded,
+    store: &mut S,
+) -> Result<Product<'a>, Halt<'a>>
+    requires names { AreCheckNames names }
+    ensures { Prepares (check_design (check_order names.entry (meaning format.now)) drawing.now (Ok loaded.now))
+        (S.sight store.old) (S.sight store.new) result }
+{
+    let bytes = read_input(alloc, store, names.cert)?;
+    check_words(
+        alloc,
+        names,
+        format,
+        drawing,
+        &loaded.design,
+        bytes.as_slice(),
+    )
+}
+
+fn check_words<'a>(
+    alloc: Global,
+    names: CheckNames<'a>,
+    format: &Box<dyn Format>,
+    drawing: &Drawing,
+    design: &Design,
+    bytes: &[u8],
+) -> Result<Product<'a>, Halt<'a>>
+    requires short { length bytes.now ≤ MAX_FILE }
+    ensures { Settles (check_cert (check_order names.entry (meaning format.now)) drawing.now design.now
+        (cert_of bytes.now)) result }
+{
+    match read_cert(alloc, bytes) {
+        Ok(cert) => judged(alloc, drawing, design, &cert),
+        Err(CertFault::Memory) => Err(Halt::Memory),
+        Err(CertFault::BadLine { number }) => Err(Halt::Refused(Refusal::Uncertified {
+            name: names.cert,
+            number,
+        })),
+    }
+}
+
+/// The verdict on a design and a certificate of a drawing.
+fn judged<'a>(
+    alloc: Global,
+    drawing: &Drawing,
+    design: &Design,
+    cert: &Cert,
+) -> Result<Product<'a>, Halt<'a>>
+    requires few { length cert.now.pieces < 2 ^ 32 - 1 }
+    requires short { All IsShort cert.now.pieces }
+    ensures { Settles (decides (CheckOf drawing.now design.now cert.now.pieces)) result }
+{
+    match judge(alloc, drawing, design, cert)? {
+        Verdict::Yes => {
+            let report = bytes_of(alloc, b"yes\n")?;
+            Ok(only_report(alloc, report))
+        }
+        Verdict::No(why) => Err(Halt::Refused(Refusal::Disproved(why))),
+    }
+}

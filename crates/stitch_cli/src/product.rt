@@ -1,0 +1,58 @@
+ghost use Rattle.std.specs.Prelude.{◌≡◌, ◌∷◌, [], IfOk};
+ghost use Rattle.stitch_cli.specs.Products.{one_output as one_output_value, only_report as only_report_value, product_of, two_outputs as two_outputs_value, written_as};
+
+use design_model::{Bytes, Items, Memory};
+use std::alloc::Global;
+
+/// A file that a command writes: its name, and what it is to hold.
+#[derive(Debug, Drop)]
+pub struct Output<'a> {
+    pub name: &'a str,
+    pub content: Bytes,
+}
+
+/// What a command makes: its outputs in the order in which they are written, and its report.
+#[derive(Debug, Drop)]
+pub struct Product<'a> {
+    pub outputs: Items<Output<'a>>,
+    pub report: Bytes,
+}
+
+/// A product that writes nothing.
+pub(crate) fn only_report<'a>(alloc: Global, report: Bytes) -> Product<'a>
+    ensures { product_of result ≡ only_report_value report }
+{
+    Product {
+        outputs: Items::new(alloc),
+        report,
+    }
+}
+
+/// A product that writes one file.
+pub(crate) fn one_output<'a>(
+    alloc: Global,
+    output: Output<'a>,
+    report: Bytes,
+) -> Result<Product<'a>, Memory>
+    ensures { IfOk result (λ product. product_of product ≡ one_output_value output.entry.name.now output.entry.content report) }
+{
+    let mut outputs = Items::new(alloc);
+    outputs.push(output)?;
+    Ok(Product { outputs, report })
+}
+
+/// A product that writes two files, one after the other.
+pub(crate) fn two_outputs<'a>(
+    alloc: Global,
+    first: Output<'a>,
+    second: Output<'a>,
+    report: Bytes,
+) -> Result<Product<'a>, Memory>
+    ensures { IfOk result (λ product. product_of product
+        ≡ two_outputs_value (written_as first.entry) (written_as second.entry) report) }
+{
+    let mut outputs = Items::new(alloc);
+    outputs.push(first)?;
+    outputs.push(second)?;
+    Ok(Product { outputs, report })
+}
