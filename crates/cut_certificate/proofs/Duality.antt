@@ -1,22 +1,23 @@
 -- The bound: each cut is crossed once more than the lines cross it, and the loads bound what is crossed more.
-use Rattle.std.proofs.Common.{◌≡◌, ◌≤◌, ◌<◌, ℕ, zero, suc, ◌+◌, ◌-◌, ◌*◌, ◌%◌, ◌==◌, Bool, true, false, cond, not, ◌&&◌, nat_lt, nat_le, List, [], ◌∷◌, ◌++◌, length, Option, Some, None, All, sum_by, arith, refl, sym, ◌∙◌, ap, subst}
+use Rattle.std.proofs.Common.{◌≡◌, ◌≤◌, ℕ, ◌+◌, ◌*◌, ◌%◌, ◌==◌, Bool, true, false, cond, not, List, [], ◌∷◌, ◌++◌, length, Option, Some, None, All, arith, refl, sym, ◌∙◌, ap}
 use Rattle.std.proofs.lemmas.Bool.Decides.{nat_tests}
 use Rattle.std.proofs.lemmas.Bool.{and_parts}
 use Rattle.std.proofs.lemmas.List.Elements.{All-head, All-tail}
 use Rattle.std.proofs.lemmas.List.Sums.{sum_by-cons}
+use Rattle.std.specs.Option.{option_or}
 use native.Mathlib.Nat.{mul-le-mul_left, le-mul_of_pos_right}
 use Rattle.line_graph.specs.declared.edge.Edge.{Edge}
 use Rattle.line_graph.specs.declared.pass.Pass.{Pass}
 use Rattle.line_graph.specs.KeptPieces.{KeepsPiece, ends_below, is_below}
-use Rattle.line_graph.specs.PieceGraphs.{PieceValue, bit, closed_edges, closing, degrees_from, odd_junctions, or_else}
-use Rattle.line_graph.specs.PieceWalks.{are_one, cost_of, covers, edge_sum, first_start, fits, leads, pass_sum, piece_cost, rises, walk_cost, walk_on}
+use Rattle.line_graph.specs.PieceGraphs.{PieceValue, bit, closed_edges, closing}
+use Rattle.line_graph.specs.PieceWalks.{are_one, cost_of, covers, edge_sum, first_start, fits, leads, pass_sum, piece_cost, walk_cost, walk_on}
 use Rattle.cut_certificate.specs.declared.cut.Cut.{Cut}
 use Rattle.cut_certificate.specs.Bounds.{BoundsWalks, ProvesLeast}
 use Rattle.cut_certificate.specs.Cuts.{crosses, holds, load_on, total_of}
-use Rattle.cut_certificate.specs.Packings.{IsOddCut, IsPacking, odd_held}
+use Rattle.cut_certificate.specs.Packings.{IsOddCut, odd_held}
 use Rattle.cut_certificate.proofs.Crossing.{crossing, inside, walk_even}
-use Rattle.cut_certificate.proofs.Degrees.{odd_counted, odd_crossing, odd_in}
-use Rattle.cut_certificate.proofs.Sums.{exchange, more, often, once_and_more, weigh}
+use Rattle.cut_certificate.proofs.Degrees.{odd_counted, odd_crossing}
+use Rattle.cut_certificate.proofs.Sums.{exchange, more, once_and_more, weigh}
 
 -- what the first of the cuts adds
 load_cons : (c : Cut) (cs : List Cut) (e : Edge) → load_on (c ∷ cs) e ≡ cond (crosses c.members e) c.weight 0 + load_on cs e
@@ -123,8 +124,8 @@ led_between ns es walk a b is = record {
 }
 
 led : (ns : List ℕ) (es : List Edge) (walk : List Pass) (start end first : Option ℕ)
-    → are_one (walk_on ns es (or_else (or_else start end) first) walk) (or_else (or_else end start) first) ≡ true
-    → Led ns es walk (closing (or_else start end) (or_else end start))
+    → are_one (walk_on ns es (option_or (option_or start end) first) walk) (option_or (option_or end start) first) ≡ true
+    → Led ns es walk (closing (option_or start end) (option_or end start))
 led ns es walk (Some a) (Some b) first is = led_between ns es walk a b is
 led ns es walk (Some a) None first is = led_between ns es walk a a is
 led ns es walk None (Some b) first is = led_between ns es walk b b is
@@ -152,14 +153,14 @@ ends_of_back n None to es f t within = within
 ends_of_back n (Some a) None es f t within = within
 ends_of_back n (Some a) (Some b) es f t within = rw (f, t, within) refl
 
-or_below : (n : ℕ) (x y : Option ℕ) → is_below n x ≡ true → is_below n y ≡ true → is_below n (or_else x y) ≡ true
+or_below : (n : ℕ) (x y : Option ℕ) → is_below n x ≡ true → is_below n y ≡ true → is_below n (option_or x y) ≡ true
 or_below n (Some a) y f t = f
 or_below n None y f t = t
 
 -- both ends of each edge of a piece, and of the line back, are junctions
 pub closed_ends : (p : PieceValue) → KeepsPiece p → ends_below (length p.junctions) (closed_edges p) ≡ true
 closed_ends p kept =
-    ends_of_back (length p.junctions) (or_else p.start p.end) (or_else p.end p.start) p.edges
+    ends_of_back (length p.junctions) (option_or p.start p.end) (option_or p.end p.start) p.edges
     (or_below _ p.start p.end kept.start_below kept.end_below) (or_below _ p.end p.start kept.end_below kept.start_below) kept.ends
 
 -- the odd junctions that a set holds, and the lines that cross it, the line back among them
@@ -171,16 +172,16 @@ held_crossing p kept members =
 
 -- a fitting walk crosses an odd cut once more than the lines do
 crossed_more : (p : PieceValue) (walk : List Pass) → KeepsPiece p → covers p.lines walk ≡ true
-    → Led p.lines p.edges walk (closing (or_else p.start p.end) (or_else p.end p.start))
+    → Led p.lines p.edges walk (closing (option_or p.start p.end) (option_or p.end p.start))
     → (c : Cut) → IsOddCut p c → 1 ≤ weigh p.lines p.edges (more walk) (crossing (holds c.members))
 crossed_more p walk kept all led c odd =
     let s = holds c.members in
     left (pass_sum p.lines p.edges (crossing s) walk) (edge_sum (crossing s) p.edges) (weigh p.lines p.edges (more walk) (crossing s))
-    (edge_sum (crossing s) (closing (or_else p.start p.end) (or_else p.end p.start))) (inside s led.at) (inside s led.to)
+    (edge_sum (crossing s) (closing (option_or p.start p.end) (option_or p.end p.start))) (inside s led.at) (inside s led.to)
     (exchange p.lines p.edges (crossing s) walk kept.rising ∙ once_and_more p.lines p.edges (crossing s) walk kept.beside all)
     (walk_even p.lines p.edges s walk led.at led.to led.goes)
     (led.even s)
-    (ap (λ (k : ℕ). k % 2) (sym (sum_append (crossing s) (closing (or_else p.start p.end) (or_else p.end p.start)) p.edges))
+    (ap (λ (k : ℕ). k % 2) (sym (sum_append (crossing s) (closing (option_or p.start p.end) (option_or p.end p.start)) p.edges))
     ∙ sym (held_crossing p kept c.members) ∙ odd.odd)
   where
     left : (w b m k i t : ℕ) → w ≡ b + m → ((w + i) + t) % 2 ≡ 0 → ((k + i) + t) % 2 ≡ 0 → (k + b) % 2 ≡ 1 → 1 ≤ m

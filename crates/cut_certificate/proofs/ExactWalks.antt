@@ -1,10 +1,11 @@
 -- The check of a walk accepts exactly the fitting ones.
 use Rattle.std.proofs.Common.{◌≡◌, ◌≤◌, ℕ, ◌+◌, ◌==◌, Bool, true, false, cond, ◌&&◌, List, [], ◌∷◌, length, Option, Some, None, Result, Ok, Err, is_ok, arith, refl, sym, ◌∙◌, ap}
 use Rattle.std.proofs.lemmas.Bool.Decides.{nat_tests}
+use Rattle.std.specs.Option.{option_or}
 use Rattle.line_graph.specs.declared.edge.Edge.{Edge}
 use Rattle.line_graph.specs.declared.pass.Pass.{Pass}
 use Rattle.line_graph.specs.KeptPieces.{KeepsPiece}
-use Rattle.line_graph.specs.PieceGraphs.{PieceValue, from_of, or_else, to_of}
+use Rattle.line_graph.specs.PieceGraphs.{PieceValue, from_of, to_of}
 use Rattle.line_graph.specs.PieceWalks.{after_edge, are_one, covers, edge_of, edge_start, end_of, first_start, fits, leads, passed, start_of, walk_on}
 use Rattle.cut_certificate.specs.declared.faults.WalkFault.{WalkFault}
 use Rattle.cut_certificate.specs.declared.faults.WalkFault.TheVariants as fault
@@ -103,9 +104,9 @@ from_there ns es at to p ps (Some e) is = rw (is, from_start ns es p ps e is) (b
     by_test false = rw (lost ns es ps) refl
 
 led : (ns : List ℕ) (es : List Edge) (start end : Option ℕ) (p : Pass) (ps : List Pass)
-    → are_one (walk_on ns es (or_else (or_else start end) (first_start ns es (p ∷ ps))) (p ∷ ps))
-    (or_else (or_else end start) (first_start ns es (p ∷ ps)))
-    ≡ is_right (ends_fault (or_else start end) (or_else end start) (first_start ns es (p ∷ ps))
+    → are_one (walk_on ns es (option_or (option_or start end) (first_start ns es (p ∷ ps))) (p ∷ ps))
+    (option_or (option_or end start) (first_start ns es (p ∷ ps)))
+    ≡ is_right (ends_fault (option_or start end) (option_or end start) (first_start ns es (p ∷ ps))
     (walk_on ns es (first_start ns es (p ∷ ps)) (p ∷ ps)))
 led ns es None None p ps =
     sym (told (are_one (walk_on ns es (first_start ns es (p ∷ ps)) (p ∷ ps)) (first_start ns es (p ∷ ps))) fault.Open)

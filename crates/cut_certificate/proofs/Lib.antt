@@ -29,16 +29,3 @@ mod ExactCuts
 mod WalkFaultFacts
 mod CutFaultFacts
 mod PieceExamples
-mod NumeralLemmas
-mod PartLemmas
-mod WordsLemmas
-mod ReadingLemmas
-mod CertificateFacts
-mod NumberWords
-mod ItemWords
-mod LineTexts
-mod OneText
-mod ReadTexts
-mod ItemPuts
-mod TextLengths
-mod FirstUnfit

@@ -1,13 +1,15 @@
 -- Loads and totals, as they are summed up.
-use Rattle.std.proofs.Common.{◌≡◌, ◌≤◌, ◌<◌, ℕ, suc, ◌+◌, ◌*◌, ◌^◌, All, true, nat_le, List, [], ◌∷◌, Option, Some, None, length, get_or, replicate, set, slice_get, inl, inr, arith, refl, sym, ap, subst}
+use Rattle.std.proofs.Common.{◌≡◌, ◌≤◌, ◌<◌, ℕ, suc, ◌+◌, ◌*◌, ◌^◌, All, true, nat_le, List, [], ◌∷◌, Option, Some, None, Result, Ok, Err, length, get_or, replicate, set, slice_get, inl, inr, arith, refl, sym, ap, subst, ◌∙◌}
 use Rattle.std.proofs.lemmas.Bool.{cases_eq}
 use Rattle.std.proofs.lemmas.Bool.Decides.{nat_tests}
 use Rattle.std.proofs.lemmas.List.{get_or-set_other, get_or-set_same}
 use Rattle.std.proofs.lemmas.Option.{get_or_from_slice_get}
 use Rattle.std.proofs.lemmas.List.Elements.{All-head, All-tail}
 use Rattle.std.specs.List.{fold}
+use Rattle.std.specs.Result.{IsErrAnd}
 use Rattle.cut_certificate.specs.declared.cut.Cut.{Cut}
 use Rattle.cut_certificate.specs.CheckTables.{AddsShares, AreLoads, share_of, sum_faults}
+use Rattle.cut_certificate.specs.Faults.{Tells}
 use Rattle.cut_certificate.specs.CutFaults.{AreNumbered, cut_fault, cut_faults, cuts_fault, load_faults, total_fault}
 use Rattle.cut_certificate.specs.declared.faults.CutFault.{CutFault}
 use Rattle.cut_certificate.specs.Cuts.{load_on, total_of}
@@ -130,3 +132,9 @@ pub total_found : (p : PieceValue) (retraced : ℕ) (cuts : List Cut) (loads : L
     → (cut_faults p 1 cuts ≡ None) × AreLoads cuts p.edges loads → sum_faults p.lines p.edges loads ≡ None
     → total_fault (total_of cuts) (2 * retraced) ≡ cuts_fault p retraced cuts
 total_found p retraced cuts loads are is = rw (are.0, ← sums_told cuts p.lines p.edges loads are.1, is) refl
+
+-- an answer with that fault tells it
+pub told_on : {T F : Type 0} (found : Option F) (fault : F) (result : Result T F) → IsErrAnd result (λ (f : F). f ≡ fault)
+    → found ≡ Some fault → Tells found result
+told_on found fault (Ok x) is told = absurd is
+told_on found fault (Err f) is told = told ∙ ap (λ (g : _). Some g) (sym is)

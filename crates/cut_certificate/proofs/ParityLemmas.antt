@@ -1,6 +1,5 @@
 -- The parities of junctions tell how many odd ones a cut holds.
-use Rattle.std.proofs.Common.{◌≡◌, ◌≤◌, ℕ, zero, suc, ◌+◌, ◌%◌, ◌==◌, Bool, true, false, List, [], ◌∷◌, ◌++◌, Option, Some, None, length, get_or, arith, refl, sym, ◌∙◌, ap}
-use Rattle.std.proofs.lemmas.Bool.Decides.{nat_tests}
+use Rattle.std.proofs.Common.{◌≡◌, ◌≤◌, ℕ, zero, suc, ◌+◌, Bool, true, false, List, [], ◌∷◌, ◌++◌, Option, Some, None, length, get_or, arith, refl, sym, ◌∙◌, ap}
 use Rattle.cut_certificate.specs.declared.cut.Cut.{Cut}
 use Rattle.cut_certificate.specs.declared.faults.CutFault.TheVariants as fault
 use Rattle.cut_certificate.specs.CheckTables.{AreHeld, odd_among, parities_from}

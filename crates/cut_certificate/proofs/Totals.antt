@@ -1,8 +1,8 @@
 -- The total of a packing is at most twice the cost of the lines, since each odd cut is crossed by a line.
-use Rattle.std.proofs.Common.{◌≡◌, ◌≤◌, ◌<◌, ℕ, zero, suc, ◌+◌, ◌-◌, ◌*◌, ◌%◌, ◌==◌, Bool, true, false, cond, not, ◌&&◌, nat_lt, List, [], ◌∷◌, ◌++◌, length, Option, Some, None, slice_get, All, arith, refl, sym, ◌∙◌, ap, subst}
+use Rattle.std.proofs.Common.{◌≡◌, ◌≤◌, ◌<◌, ℕ, zero, suc, ◌+◌, ◌*◌, ◌%◌, Bool, true, false, cond, not, List, [], ◌∷◌, length, Some, arith, refl, ◌∙◌, ap, subst}
 use Rattle.line_graph.specs.declared.edge.Edge.{Edge}
 use Rattle.line_graph.specs.KeptPieces.{KeepsPiece, NoneLeaves}
-use Rattle.line_graph.specs.PieceGraphs.{PieceValue, bit, closed_edges, degree, degrees_from, is_odd}
+use Rattle.line_graph.specs.PieceGraphs.{PieceValue, bit, closed_edges, degrees_from}
 use Rattle.line_graph.specs.PieceWalks.{cost_of, edge_sum, piece_cost}
 use Rattle.cut_certificate.specs.declared.cut.Cut.{Cut}
 use Rattle.cut_certificate.specs.Bounds.{KeepsTotal}

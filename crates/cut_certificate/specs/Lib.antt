@@ -5,7 +5,7 @@ pub mod Cuts
 pub mod Packings
 pub mod Bounds
 pub mod Lifts
-pub mod CertificateTexts
+pub mod Certificates
 -- how moats are lifted
 pub mod Levels
 pub mod Stands
@@ -18,6 +18,4 @@ pub mod WalkFaults
 pub mod CutFaults
 -- of the checks' inside
 pub mod CheckTables
-pub mod CertificateLines
-pub mod ReadCertificates
 pub mod FaultLaws

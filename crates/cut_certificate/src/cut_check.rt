@@ -5,13 +5,13 @@ ghost use Rattle.cut_certificate.specs.Cuts.{total_of as sum_of};
 ghost use Rattle.cut_certificate.specs.Faults.{Tells};
 ghost use Rattle.cut_certificate.specs.Packings.{IsPacking};
 ghost use Rattle.line_graph.specs.CutPieces.{graph_of};
+ghost use Rattle.line_graph.specs.PieceGraphs.{is_odd as is_odd_number};
 
 use crate::cut::Cut;
 use crate::faults::CutFault;
 use crate::held_junctions::{MAX_JUNCTIONS, count_odd, held_by, parities_of};
 use crate::line_loads::{add_shares, check_loads};
 use crate::slices::first_lent;
-use crate::stated_ends::is_odd;
 use line_graph::{MAX_LINES, Piece};
 
 /// Whether cuts are a packing of a piece with a total of twice the retraced cost, which is in
@@ -34,10 +34,8 @@ fn first_fault(p: &Piece, retraced: u32, cuts: &[Cut]) -> Result<(), CutFault>
     ensures { Tells (cuts_fault (graph_of p.now) retraced cuts.now) result }
 {
     let loads = loads_of(p, cuts)?;
-    match check_loads(p, &loads) {
-        Ok(()) => check_total(total_of(cuts), 2 * u64::from(retraced)),
-        Err(fault) => Err(fault),
-    }
+    check_loads(p, &loads)?;
+    check_total(total_of(cuts), 2 * u64::from(retraced))
 }
 
 /// What cuts load on the edges of a piece, by place.
@@ -51,10 +49,7 @@ fn loads_of(p: &Piece, cuts: &[Cut]) -> Result<[u64; MAX_LINES], CutFault>
     let mut number = 1;
     let mut rest = cuts;
     while let Some((cut, after)) = first_lent(rest) {
-        let held = match check_cut(p, parities.as_slice(), number, cut) {
-            Ok(held) => held,
-            Err(fault) => return Err(fault),
-        };
+        let held = check_cut(p, parities.as_slice(), number, cut)?;
         add_shares(&mut loads, p.edges.as_slice(), &held, cut);
         number += 1;
         rest = after;
@@ -81,6 +76,12 @@ fn check_cut(
     } else {
         Err(CutFault::EvenCut { cut: number, odd })
     }
+}
+
+fn is_odd(n: u32) -> bool
+    ensures { result ≡ is_odd_number n }
+{
+    n % 2 == 1
 }
 
 fn check_members(count: usize, number: u32, members: &[u32]) -> Result<(), CutFault>

@@ -3,9 +3,9 @@ ghost use Rattle.cut_certificate.specs.CheckTables.{AreHeld, AreParities, odd_am
 ghost use Rattle.line_graph.specs.CutPieces.{graph_of};
 ghost use Rattle.line_graph.specs.declared.limits.TheConstants.{MAX_LINES as most_lines};
 
-use crate::stated_ends::{from_of, is_odd_at, to_of};
 use arrayvec::ArrayVec;
 use line_graph::Piece;
+use odd_paths::is_odd_at;
 
 /// The most junctions of a piece: each further line brings one at most.
 pub(crate) const MAX_JUNCTIONS: usize = 1_025;
@@ -43,7 +43,7 @@ fn hold(held: &mut [bool; MAX_JUNCTIONS], member: u32)
 pub(crate) fn parities_of(p: &Piece) -> ArrayVec<bool, MAX_JUNCTIONS>
     ensures { AreParities (graph_of p.now) result.items }
 {
-    parities_in(p.degrees.as_slice(), from_of(p), to_of(p))
+    parities_in(p.degrees.as_slice(), p.from(), p.to())
 }
 
 fn parities_in(degrees: &[u32], from: Option<u32>, to: Option<u32>) -> ArrayVec<bool, MAX_JUNCTIONS>

@@ -2,14 +2,6 @@
 #![tactic(auto)]
 
 mod certificate;
-mod certificate_draft;
-mod certificate_laws;
-mod certificate_lines;
-mod certificate_reading;
-#[cfg(test)]
-mod certificate_tests;
-mod certificate_text;
-mod certificate_words;
 #[cfg(test)]
 mod check_tests;
 mod cut;
@@ -29,16 +21,9 @@ mod passed_lines;
 mod reach;
 mod slices;
 mod stand;
-mod stated_ends;
 mod walk_check;
 
 pub use certificate::{Cert, PieceCert, PieceCerts};
-pub use certificate_laws::{
-    pieces_have_one_text, said_pieces_can_be_spelled, the_limit_of_certificates,
-    the_line_told_is_the_first, the_text_of_pieces_says_them,
-};
-pub use certificate_reading::{CertFault, MAX_CERT, read_cert};
-pub use certificate_text::print_cert;
 pub use cut::{Cut, Cuts};
 pub use cut_check::check_cuts;
 pub use fault_laws::{cut_faults_are_exact, walk_faults_are_exact};

@@ -11,7 +11,6 @@ ghost use Rattle.line_graph.specs.declared.limits.TheConstants.{MAX_LINES as mos
 use crate::faults::WalkFault;
 use crate::line_places::{find_edge, places_of};
 use crate::passed_lines::passed_lines;
-use crate::stated_ends::{from_of as begin_of, to_of as finish_of};
 use line_graph::{Edge, MAX_LINES, Pass, Piece};
 
 /// What a walk over a piece costs, in steps, where it fits: it leads from the piece's start to its
@@ -112,8 +111,8 @@ fn check_ends(p: &Piece, trail: Trail) -> Result<(), WalkFault>
     ensures { Tells (ends_fault (from_of (graph_of p.now)) (to_of (graph_of p.now))
         trail.start trail.end) result }
 {
-    let from = begin_of(p);
-    let to = finish_of(p);
+    let from = p.from();
+    let to = p.to();
     if from.is_none() {
         if is_same(trail.end, trail.start) {
             Ok(())

@@ -2,10 +2,11 @@
 use Rattle.std.proofs.Common.{◌≡◌, ◌≤◌, ◌<◌, inl, inr, ℕ, zero, suc, ◌+◌, ◌%◌, ◌==◌, Bool, true, false, nat_lt, List, [], ◌∷◌, ◌++◌, map, length, get_or, slice_get, Option, Some, None, arith, refl, sym, ◌∙◌, ap, subst}
 use Rattle.std.proofs.lemmas.Bool.Decides.{nat_tests}
 use Rattle.std.proofs.lemmas.Option.{slice_get_within}
+use Rattle.std.specs.Option.{option_or}
 use Rattle.line_graph.specs.declared.edge.Edge.{Edge}
 use Rattle.line_graph.specs.declared.pass.Pass.{Pass}
 use Rattle.line_graph.specs.KeptPieces.{AreJoined, KeepsPiece, ends_below, is_below}
-use Rattle.line_graph.specs.PieceGraphs.{PieceValue, bit, closing, degree, from_of, or_else, to_of}
+use Rattle.line_graph.specs.PieceGraphs.{PieceValue, bit, closing, degree, from_of, to_of}
 use Rattle.line_graph.specs.Pieces.{first_line}
 use Rattle.line_graph.specs.PieceWalks.{BeginsWith, after_edge, cost_of, edge_of, edge_start, first_start, leads, of_edge, pass_sum, passes, walk_on}
 use Rattle.euler_tour.specs.LeftLines.{ends_at, ends_left, left_sum, one_of, times_of}
@@ -31,7 +32,7 @@ first_is [] = refl
 first_is (n ∷ lines) = refl
 
 -- where no start and no end is said, none is said in the other order
-pub none_said : (one other : Option ℕ) → or_else one other ≡ None → or_else other one ≡ None
+pub none_said : (one other : Option ℕ) → option_or one other ≡ None → option_or other one ≡ None
 none_said None None is = refl
 none_said None (Some b) is = absurd (cc)
 none_said (Some a) other is = absurd (cc)
@@ -39,7 +40,7 @@ none_said (Some a) other is = absurd (cc)
 -- both ends of the way are junctions of the piece
 said_below : (one other : Option ℕ) (edges : List Edge) (count : ℕ) → is_below count one ≡ true → is_below count other ≡ true
     → first_a edges < count
-    → or_first (or_else one other) edges < count
+    → or_first (option_or one other) edges < count
 said_below (Some a) other edges count is_one is_other first = less a count is_one
   where
     less : (m n : ℕ) → nat_lt m n ≡ true → m < n
@@ -58,8 +59,8 @@ goal_below p kept =
     (subst (λ (n : ℕ). n < length p.junctions) (sym e.2) (ends_are_below (length p.junctions) p.edges 0 e.0 kept.ends e.1).0)
 
 -- with the line back, each junction has an even number of ends
-said_even : (edges : List Edge) (one other : Option ℕ) (j n : ℕ) → (degree (closing (or_else one other) (or_else other one)) j + n) % 2 ≡ 0
-    → ((n + bit (or_first (or_else other one) edges == j)) + bit (or_first (or_else one other) edges == j)) % 2 ≡ 0
+said_even : (edges : List Edge) (one other : Option ℕ) (j n : ℕ) → (degree (closing (option_or one other) (option_or other one)) j + n) % 2 ≡ 0
+    → ((n + bit (or_first (option_or other one) edges == j)) + bit (or_first (option_or one other) edges == j)) % 2 ≡ 0
 said_even edges (Some a) (Some b) j n even = turned _ _ n even
   where
     turned : (x y n : ℕ) → (((x + y) + 0) + n) % 2 ≡ 0 → ((n + x) + y) % 2 ≡ 0
@@ -159,7 +160,7 @@ all_passed edges left count goal tail joined ends below stuck meets over k e is 
 
 -- where a walk begins
 begins_at : (lines : List ℕ) (edges : List Edge) (walk : List Pass) (from : Option ℕ) → 1 ≤ length lines → length lines ≡ length edges
-    → (from ≡ None → BeginsWith (first_line lines) walk) → or_else from (first_start lines edges walk) ≡ Some (or_first from edges)
+    → (from ≡ None → BeginsWith (first_line lines) walk) → option_or from (first_start lines edges walk) ≡ Some (or_first from edges)
 begins_at lines edges walk (Some j) some beside begins = refl
 begins_at [] edges walk None some beside begins = absurd (omega arith)
 begins_at (n ∷ lines) [] walk None some beside begins = absurd (omega arith)

@@ -3,7 +3,7 @@ ghost use Rattle.euler_tour.specs.LeftLines.{ends_left};
 ghost use Rattle.euler_tour.specs.Tours.{CanPass};
 ghost use Rattle.euler_tour.specs.Trips.{BeginsOn, IsFresh, IsReady, IsStep, KeepsOf, KeepsTrip, PassesOver, Steps, first_b, goal_of, head_of, or_first};
 ghost use Rattle.line_graph.specs.CutPieces.{graph_of};
-ghost use Rattle.line_graph.specs.PieceGraphs.{from_of, or_else as first_said};
+ghost use Rattle.line_graph.specs.PieceGraphs.{from_of};
 ghost use Rattle.line_graph.specs.Pieces.{first_line};
 
 use crate::left_lines::{all_times, take_one};
@@ -36,7 +36,7 @@ pub fn begin(alloc: Global, p: &Piece, copies: &[u32]) -> Result<Trip, Memory>
     ensures keeps { IfOk result (KeepsTrip (graph_of p.now) copies.now) }
 {
     let t = laid_out(alloc, p, copies)?;
-    match or_else(p.start, p.end) {
+    match p.from() {
         Some(_) => Ok(t),
         None => Ok(with_first_line(t, p)?),
     }
@@ -135,14 +135,14 @@ fn go_back(t: &mut Trip, p: &Piece) -> Result<bool, Memory>
 fn head(p: &Piece) -> u32
     ensures { result ≡ head_of (graph_of p.now) }
 {
-    or_first_line(or_else(p.start, p.end), p.edges.as_slice())
+    or_first_line(p.from(), p.edges.as_slice())
 }
 
 /// Where the walk home is to end.
 fn goal(p: &Piece) -> u32
     ensures { result ≡ goal_of (graph_of p.now) }
 {
-    or_first_line(or_else(p.end, p.start), p.edges.as_slice())
+    or_first_line(p.to(), p.edges.as_slice())
 }
 
 fn or_first_line(junction: Option<u32>, edges: &[Edge]) -> u32
@@ -152,15 +152,6 @@ fn or_first_line(junction: Option<u32>, edges: &[Edge]) -> u32
     match junction {
         Some(junction) => junction,
         None => edges[0].a,
-    }
-}
-
-fn or_else(one: Option<u32>, other: Option<u32>) -> Option<u32>
-    ensures { result ≡ first_said one other }
-{
-    match one {
-        Some(junction) => Some(junction),
-        None => other,
     }
 }
 

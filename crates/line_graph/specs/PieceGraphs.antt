@@ -2,6 +2,7 @@
 -- as in the drawing. Costs count steps.
 use Rattle.std.specs.Prelude.{ℕ, zero, suc, ◌+◌, ◌%◌, ◌==◌, Bool, true, false, List, [], ◌∷◌, ◌++◌, Option, Some, None, length, map, filter, if◌then◌else◌}
 use Rattle.std.specs.List.{flat_map, list_any, position_or_len, range_with_len}
+use Rattle.std.specs.Option.{option_or}
 use Rattle.design_model.specs.declared.point.Point.{Point}
 use Rattle.design_model.specs.Points.{is_same_point}
 use Rattle.line_graph.specs.declared.edge.Edge.{Edge}
@@ -88,18 +89,13 @@ closing (Some from) (Some to) = record { a = to; b = from; cost = 0 } ∷ []
 closing (Some from) None = []
 closing None to = []
 
--- the first of the two that is there
-abbrev pub or_else : Option ℕ → Option ℕ → Option ℕ
-or_else (Some a) other = Some a
-or_else None other = other
-
 -- where a walk over the piece is to begin, if that is said: at its start, else at its end
 abbrev pub from_of : PieceValue → Option ℕ
-from_of p = or_else p.start p.end
+from_of p = option_or p.start p.end
 
 -- where a walk over the piece is to end, if that is said: at its end, else at its start
 abbrev pub to_of : PieceValue → Option ℕ
-to_of p = or_else p.end p.start
+to_of p = option_or p.end p.start
 
 -- the lines of the piece, and the one that would lead a walk back to where it began
 abbrev pub closed_edges : PieceValue → List Edge

@@ -2,9 +2,10 @@
 -- postman", Mathematical Programming 5 (1973). Lines and edges of a piece stand side by side. Costs count
 -- steps.
 use Rattle.std.specs.Prelude.{◌≡◌, ℕ, ◌+◌, ◌≤◌, ◌==◌, ◌&&◌, ◌||◌, Bool, true, false, List, [], ◌∷◌, Option, Some, None, nat_lt, if◌then◌else◌}
+use Rattle.std.specs.Option.{option_or}
 use Rattle.line_graph.specs.declared.edge.Edge.{Edge}
 use Rattle.line_graph.specs.declared.pass.Pass.{Pass}
-use Rattle.line_graph.specs.PieceGraphs.{PieceValue, bit, from_of, or_else, to_of}
+use Rattle.line_graph.specs.PieceGraphs.{PieceValue, bit, from_of, to_of}
 
 -- the edge of a line
 abbrev pub edge_of : List ℕ → List Edge → ℕ → Option Edge
@@ -54,11 +55,11 @@ are_one None other = false
 
 -- where a walk over the piece is to begin: where that is said, else where its first pass starts
 abbrev pub begin_of : PieceValue → List Pass → Option ℕ
-begin_of p walk = or_else (from_of p) (first_start p.lines p.edges walk)
+begin_of p walk = option_or (from_of p) (first_start p.lines p.edges walk)
 
 -- where it is to end: where that is said, else where it begins
 abbrev pub finish_of : PieceValue → List Pass → Option ℕ
-finish_of p walk = or_else (to_of p) (first_start p.lines p.edges walk)
+finish_of p walk = option_or (to_of p) (first_start p.lines p.edges walk)
 
 -- the walk leads from where it is to begin to where it is to end; without a start and an end it is closed
 abbrev pub leads : PieceValue → List Pass → Bool

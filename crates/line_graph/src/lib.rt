@@ -20,6 +20,7 @@ mod needle_points;
 mod pass;
 mod piece;
 mod piece_lines;
+mod piece_terms;
 #[cfg(test)]
 mod tests;
 mod walk_laws;

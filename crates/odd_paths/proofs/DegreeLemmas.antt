@@ -6,10 +6,11 @@ use Rattle.std.proofs.lemmas.List.FromFn.{length-range_with_len}
 use Rattle.std.proofs.lemmas.List.Sums.{count_by-le-length, length-filter}
 use Rattle.std.specs.List.{filter, range_with_len}
 use Rattle.std.specs.Prelude.{nat_lt, cond}
+use Rattle.std.specs.Option.{option_or}
 use Rattle.line_graph.specs.declared.edge.Edge.{Edge}
 use Rattle.line_graph.specs.declared.limits.TheConstants.{MAX_LINES}
 use Rattle.line_graph.specs.KeptPieces.{KeepsPiece, ends_below, is_below}
-use Rattle.line_graph.specs.PieceGraphs.{PieceValue, bit, closed_edges, closing, degree, degrees_from, from_of, is_odd, odd_junctions, or_else, to_of}
+use Rattle.line_graph.specs.PieceGraphs.{PieceValue, bit, closed_edges, closing, degree, degrees_from, from_of, is_odd, odd_junctions, to_of}
 use Rattle.odd_paths.specs.ClosedDegrees.{back_ends, odds_from, only_if}
 
 -- the line back adds its ends
@@ -111,7 +112,7 @@ degrees_sum (e ∷ es) n below =
     omega (arith, whole, line, a_once, b_once, degrees_sum es n both.1)
 
 or_else_below : (n : ℕ) (first other : Option ℕ) → is_below n first ≡ true → is_below n other ≡ true
-    → is_below n (or_else first other) ≡ true
+    → is_below n (option_or first other) ≡ true
 or_else_below n (Some a) other one two = one
 or_else_below n None other one two = two
 

@@ -1,7 +1,7 @@
 ghost use Rattle.std.specs.Prelude.{◌≡◌, ◌+◌, ◌++◌, ◌≤◌, IfOk, OnOk, length};
 ghost use Rattle.line_graph.specs.declared.limits.TheConstants.{MAX_LINES};
 ghost use Rattle.line_graph.specs.CutPieces.{graph_of};
-ghost use Rattle.line_graph.specs.PieceGraphs.{bit as bit_of, is_odd, odd_junctions, or_else};
+ghost use Rattle.line_graph.specs.PieceGraphs.{bit as bit_of, is_odd, odd_junctions};
 ghost use Rattle.odd_paths.specs.ClosedDegrees.{back_ends as ends_back, odds_from, only_if};
 ghost use Rattle.odd_paths.specs.OddJunctions.{OddsAreEven};
 
@@ -13,24 +13,13 @@ use std::alloc::Global;
 pub fn odd(alloc: Global, p: &Piece) -> Result<Numbers, Memory>
     ensures { IfOk result (λ odds. odds ≡ odd_junctions (graph_of p.now)) }
 {
-    let from = first_of(p.start, p.end);
-    let to = first_of(p.end, p.start);
-    odds_in(alloc, p.degrees.as_slice(), from, to)
+    odds_in(alloc, p.degrees.as_slice(), p.from(), p.to())
 }
 
 /// The odd junctions of a piece are even in number.
 pub fn odds_are_even()
     ensures { OddsAreEven }
 {}
-
-fn first_of(first: Option<u32>, other: Option<u32>) -> Option<u32>
-    ensures { result ≡ or_else first other }
-{
-    match first {
-        Some(at) => Some(at),
-        None => other,
-    }
-}
 
 /// The odd junctions by their degrees, where a line back leads from `to` to `from`.
 fn odds_in(
@@ -62,7 +51,9 @@ fn push_odd(odds: &mut Numbers, at: u32, is_odd: bool) -> Result<(), Memory>
     Ok(())
 }
 
-fn is_odd_at(at: u32, degree: u32, from: Option<u32>, to: Option<u32>) -> bool
+/// Whether the junction at that index, of that degree, is odd, where a line back leads from `to` to
+/// `from`.
+pub fn is_odd_at(at: u32, degree: u32, from: Option<u32>, to: Option<u32>) -> bool
     ensures { result ≡ is_odd (ends_back from to at + degree) }
 {
     (back_ends(at, from, to) + degree % 2) % 2 == 1

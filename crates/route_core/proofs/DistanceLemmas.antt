@@ -1,12 +1,9 @@
 -- Tables of distances, as far as they are filled.
-use Rattle.std.proofs.Common.{◌≡◌, ◌≤◌, ◌<◌, ℕ, zero, suc, ◌+◌, ◌==◌, Bool, true, false, cond, ◌&&◌, ◌||◌, nat_lt, List, [], ◌∷◌, length, Option, Some, None, get_or, slice_get, All, arith, refl, sym, ◌∙◌, ap, subst}
+use Rattle.std.proofs.Common.{◌≡◌, ◌<◌, ℕ, ◌+◌, ◌==◌, Bool, true, false, cond, ◌&&◌, ◌||◌, nat_lt, arith, refl, sym, ◌∙◌, ap}
 use Rattle.std.proofs.lemmas.Bool.Decides.{nat_tests}
-use Rattle.std.proofs.lemmas.List.Elements.{All-get_or}
-use Rattle.std.proofs.lemmas.Option.{slice_get-get_or}
 use Rattle.blossom_match.specs.Tables.{EntriesAre, after_set, entry}
 use Rattle.blossom_match.specs.TableValue.{TableValue}
-use Rattle.line_graph.specs.PieceGraphs.{PieceValue}
-use Rattle.odd_paths.specs.LeastRows.{AreRows, RowsValue, cost_at, length_in, row_length, terminal_of}
+use Rattle.odd_paths.specs.LeastRows.{RowsValue, cost_at, terminal_of}
 use Rattle.route_core.specs.Distances.{HasDistances, IsFilled, filled}
 
 same : (m n : ℕ) → (m == n) ≡ true → m ≡ n

@@ -1,5 +1,5 @@
 -- Least costs are the same both ways, and none is more than those of a way round.
-use Rattle.std.proofs.Common.{◌≡◌, ◌≤◌, ◌<◌, ◌⊎◌, inl, inr, ℕ, zero, suc, ◌+◌, ◌*◌, ◌==◌, Bool, true, false, cond, not, nat_lt, List, [], ◌∷◌, ◌++◌, length, min, max, slice_index, Option, Some, None, arith, refl, sym, ◌∙◌, ap, subst}
+use Rattle.std.proofs.Common.{◌≡◌, ◌≤◌, ◌<◌, ℕ, ◌+◌, ◌*◌, ◌==◌, Bool, true, false, cond, not, nat_lt, List, [], ◌∷◌, ◌++◌, min, max, slice_index, Option, Some, None, arith, refl, sym, ◌∙◌, ap, subst}
 use Rattle.std.proofs.lemmas.Bool.Decides.{nat_tests}
 use Rattle.blossom_match.specs.Tables.{KeepsTriangles, entry}
 use Rattle.blossom_match.specs.TableValue.{TableValue}
@@ -7,7 +7,7 @@ use Rattle.line_graph.specs.declared.edge.Edge.{Edge}
 use Rattle.line_graph.specs.declared.pass.Pass.{Pass}
 use Rattle.line_graph.specs.PieceGraphs.{PieceValue}
 use Rattle.line_graph.specs.PieceWalks.{after_edge, after_pass, cost_of, edge_of, end_of, of_edge, pass_sum, start_of, walk_cost, walk_on}
-use Rattle.odd_paths.specs.LeastRows.{AreRows, IsLeastCost, LeadsFrom, RowsValue, cost_at, terminal_of}
+use Rattle.odd_paths.specs.LeastRows.{IsLeastCost, RowsValue, cost_at, terminal_of}
 use Rattle.route_core.specs.Distances.{IsTableOf}
 
 walk_append : (ns : List ℕ) (es : List Edge) (at : Option ℕ) (xs ys : List Pass) → walk_on ns es at (xs ++ ys) ≡ walk_on ns es (walk_on ns es at xs) ys

@@ -1,8 +1,8 @@
 -- A matching of the odd junctions of a piece, from a matching of places.
-use Rattle.std.proofs.Common.{◌≡◌, ◌≢◌, ◌≤◌, ◌<◌, ℕ, zero, suc, ◌+◌, ◌*◌, ◌^◌, ◌%◌, ◌==◌, Bool, true, false, cond, ◌&&◌, nat_lt, List, [], ◌∷◌, length, filter, get_or, All, AllPairs, sum_by, arith, refl, sym, ◌∙◌, ap, subst}
+use Rattle.std.proofs.Common.{◌≡◌, ◌≤◌, ◌<◌, ℕ, zero, suc, ◌+◌, ◌*◌, ◌^◌, ◌==◌, Bool, true, false, cond, nat_lt, List, [], ◌∷◌, length, get_or, All, arith, refl, sym, ◌∙◌, ap, subst}
 use Rattle.std.proofs.lemmas.Bool.Decides.{nat_tests}
 use Rattle.std.proofs.lemmas.List.Elements.{All-from_get_or, All-get_or, All-head, All-tail}
-use Rattle.std.proofs.lemmas.List.Sums.{get_or-le-sum_by, sum_by-cons, sum_by-le}
+use Rattle.std.proofs.lemmas.List.Sums.{get_or-le-sum_by, sum_by-cons}
 use Rattle.blossom_match.specs.declared.matching.Moat.{Moat}
 use Rattle.blossom_match.specs.declared.matching.Pair.{Pair}
 use Rattle.blossom_match.specs.declared.table.TheConstants.{MAX_DISTANCE}
@@ -10,7 +10,7 @@ use Rattle.blossom_match.specs.Matchings.{IsMatching, IsOddMoat, PairsEach, cost
 use Rattle.blossom_match.specs.Tables.{IsTable, entry}
 use Rattle.blossom_match.specs.TableValue.{TableValue}
 use Rattle.line_graph.specs.PieceGraphs.{PieceValue}
-use Rattle.odd_paths.specs.LeastRows.{RowsValue, cost_at, terminal_of}
+use Rattle.odd_paths.specs.LeastRows.{RowsValue}
 use Rattle.route_core.proofs.LeastLemmas.{entry_is}
 use Rattle.route_core.specs.Copies.{IsPairOf, pair_costs}
 use Rattle.route_core.specs.Distances.{HasDistances, IsTableOf}

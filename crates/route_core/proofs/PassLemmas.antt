@@ -1,11 +1,12 @@
 -- A piece with copies for the pairs of its odd junctions can be passed, and its tours cost as much more.
-use Rattle.std.proofs.Common.{◌≡◌, ◌≢◌, ◌≤◌, ◌<◌, ℕ, zero, suc, ◌+◌, ◌*◌, ◌%◌, ◌^◌, ◌==◌, Bool, true, false, cond, ◌&&◌, nat_lt, List, [], ◌∷◌, ◌++◌, length, filter, get_or, replicate, Option, Some, None, All, AllPairs, sum_by, arith, refl, sym, ◌∙◌, ap, subst}
+use Rattle.std.proofs.Common.{◌≡◌, ◌≢◌, ◌≤◌, ◌<◌, ℕ, zero, suc, ◌+◌, ◌*◌, ◌%◌, ◌==◌, Bool, true, false, cond, ◌&&◌, nat_lt, List, [], ◌∷◌, ◌++◌, length, filter, get_or, replicate, Option, Some, None, All, arith, refl, sym, ◌∙◌, ap, subst}
 use Rattle.std.proofs.lemmas.Bool.Decides.{nat_tests}
 use Rattle.std.proofs.lemmas.Bool.{and_parts}
 use Rattle.std.proofs.lemmas.List.Elements.{All-head, All-tail}
 use Rattle.std.proofs.lemmas.List.{length-replicate}
 use Rattle.std.proofs.lemmas.List.Sums.{sum_by-cons}
 use Rattle.std.specs.List.{range_with_len}
+use Rattle.std.specs.Option.{option_or}
 use Rattle.blossom_match.specs.declared.matching.Pair.{Pair}
 use Rattle.blossom_match.specs.Matchings.{PairsEach, ends_at as ends_of_pairs}
 use Rattle.euler_tour.specs.Tours.{CanPass, IsTour, copies_cost, pass_count, pass_ends}
@@ -13,8 +14,8 @@ use Rattle.line_graph.specs.declared.edge.Edge.{Edge}
 use Rattle.line_graph.specs.declared.limits.TheConstants.{MAX_COST}
 use Rattle.line_graph.specs.declared.pass.Pass.{Pass}
 use Rattle.line_graph.specs.KeptPieces.{KeepsPiece, ends_below, is_below}
-use Rattle.line_graph.specs.PieceGraphs.{PieceValue, bit, closed_edges, closing, degree, from_of, is_odd, is_odd_junction, odd_junctions, or_else, to_of}
-use Rattle.line_graph.specs.PieceWalks.{cost_of, covers, fits, leads, piece_cost, walk_cost}
+use Rattle.line_graph.specs.PieceGraphs.{PieceValue, bit, closed_edges, closing, degree, from_of, is_odd, is_odd_junction, to_of}
+use Rattle.line_graph.specs.PieceWalks.{cost_of, piece_cost, walk_cost}
 use Rattle.odd_paths.specs.LeastRows.{AreTerminals, RowsValue, terminal_of}
 use Rattle.route_core.proofs.PairLemmas.{none_cost}
 use Rattle.route_core.proofs.PathLemmas.{up_within}
@@ -145,7 +146,7 @@ closing_beyond n v (Some a) (Some b) f t beyond = rw (other a f beyond, other b 
     other : (a : ℕ) → nat_lt a n ≡ true → n ≤ v → (a == v) ≡ false
     other a is beyond = grind (arith, nat_tests)
 
-or_below : (n : ℕ) (x y : Option ℕ) → is_below n x ≡ true → is_below n y ≡ true → is_below n (or_else x y) ≡ true
+or_below : (n : ℕ) (x y : Option ℕ) → is_below n x ≡ true → is_below n y ≡ true → is_below n (option_or x y) ≡ true
 or_below n (Some a) y f t = f
 or_below n None y f t = t
 

@@ -1,17 +1,17 @@
 -- Paths by the places of their lines, and the ends of their passes.
-use Rattle.std.proofs.Common.{◌≡◌, ◌≤◌, ◌<◌, ℕ, zero, suc, ◌+◌, ◌-◌, ◌*◌, ◌%◌, ◌^◌, ◌==◌, Bool, true, false, cond, ◌&&◌, nat_le, nat_lt, List, [], ◌∷◌, length, map, get_or, slice_get, Option, Some, None, All, arith, refl, sym, ◌∙◌, ap, subst}
+use Rattle.std.proofs.Common.{◌≡◌, ◌≤◌, ◌<◌, ℕ, zero, suc, ◌+◌, ◌*◌, ◌%◌, ◌^◌, ◌==◌, Bool, true, false, cond, nat_le, nat_lt, List, [], ◌∷◌, length, map, get_or, slice_get, Option, Some, None, All, arith, refl, sym, ◌∙◌, subst}
 use Rattle.std.proofs.lemmas.Bool.Decides.{nat_tests}
 use Rattle.std.proofs.lemmas.Bool.{and_parts}
-use Rattle.std.proofs.lemmas.List.Elements.{All-get_or, All-head, All-tail}
+use Rattle.std.proofs.lemmas.List.Elements.{All-head, All-tail}
 use native.Mathlib.Nat.{le-mul_of_pos_right}
 use Rattle.blossom_match.specs.declared.matching.Pair.{Pair}
 use Rattle.line_graph.specs.declared.edge.Edge.{Edge}
 use Rattle.line_graph.specs.declared.pass.Pass.{Pass}
 use Rattle.line_graph.specs.KeptPieces.{KeepsPiece, all_cost}
 use Rattle.line_graph.specs.PieceGraphs.{PieceValue, bit}
-use Rattle.line_graph.specs.PieceWalks.{above, after_edge, after_pass, cost_of, edge_of, end_of, of_edge, pass_sum, rises, start_of, walk_cost, walk_on}
+use Rattle.line_graph.specs.PieceWalks.{above, after_edge, cost_of, edge_of, end_of, of_edge, pass_sum, rises, start_of, walk_on}
 use Rattle.odd_paths.specs.LeastRows.{IsPath, RowsValue, cost_at, lines_at, terminal_of}
-use Rattle.route_core.specs.Copies.{AddsPairs, AddsPlaces, add_up, copies_sum, ends_at, pair_costs, pair_ends, place_sum}
+use Rattle.route_core.specs.Copies.{AddsPairs, AddsPlaces, add_up, copies_sum, ends_at, pair_ends, place_sum}
 
 above_at : (n : ℕ) (ns : List ℕ) (i : ℕ) → above n ns ≡ true → i < length ns → n < get_or ns i 0
 above_at n [] i up below = absurd (omega arith)

@@ -1,8 +1,8 @@
 -- What is put together for a piece proves its walk least, and can be spelled.
-use Rattle.std.proofs.Common.{◌≡◌, ◌≢◌, ◌≤◌, ◌<◌, ℕ, zero, suc, ◌+◌, ◌*◌, ◌%◌, ◌^◌, ◌==◌, Bool, true, false, cond, ◌&&◌, nat_lt, List, [], ◌∷◌, length, filter, get_or, Option, Some, None, All, AllPairs, arith, refl, sym, ◌∙◌, ap, subst}
+use Rattle.std.proofs.Common.{◌≡◌, ◌≢◌, ◌≤◌, ◌<◌, ℕ, ◌+◌, ◌*◌, ◌^◌, ◌==◌, Bool, true, false, cond, nat_lt, List, [], ◌∷◌, length, get_or, Option, Some, None, All, arith, refl, sym, ◌∙◌, ap, subst}
 use Rattle.std.proofs.lemmas.Bool.Decides.{nat_tests}
 use Rattle.std.proofs.lemmas.Bool.{and_parts}
-use Rattle.std.proofs.lemmas.List.Elements.{All-cons, All-filter, All-from_get_or, All-get_or, All-head, All-tail}
+use Rattle.std.proofs.lemmas.List.Elements.{All-cons, All-filter, All-from_get_or, All-get_or}
 use Rattle.std.proofs.lemmas.List.FromFn.{get_or-range_with_len, length-range_with_len}
 use Rattle.std.proofs.lemmas.List.Kept.{AllPairs-filter}
 use Rattle.std.specs.List.{range_with_len}
@@ -12,7 +12,7 @@ use Rattle.blossom_match.specs.Matchings.{width_of}
 use Rattle.cut_certificate.specs.declared.certificate.PieceCert.{PieceCert}
 use Rattle.cut_certificate.specs.declared.cut.Cut.{Cut}
 use Rattle.cut_certificate.specs.Bounds.{KeepsTotal, ProvesLeast}
-use Rattle.cut_certificate.specs.CertificateTexts.{CanBeSpelled}
+use Rattle.cut_certificate.specs.Certificates.{CanBeSpelled}
 use Rattle.cut_certificate.specs.Cuts.{total_of}
 use Rattle.cut_certificate.specs.Lifts.{IsLifted}
 use Rattle.cut_certificate.specs.Packings.{IsOddCut}
@@ -21,9 +21,9 @@ use Rattle.line_graph.specs.declared.limits.TheConstants.{MAX_COST, MAX_LINES}
 use Rattle.line_graph.specs.declared.pass.Pass.{Pass}
 use Rattle.line_graph.specs.KeptPieces.{KeepsPiece, all_below}
 use Rattle.line_graph.specs.PieceGraphs.{PieceValue, is_odd_junction, odd_junctions}
-use Rattle.line_graph.specs.PieceWalks.{after_edge, after_pass, are_one, begin_of, covers, edge_of, finish_of, fits, leads, piece_cost, walk_cost, walk_on}
+use Rattle.line_graph.specs.PieceWalks.{after_edge, are_one, begin_of, covers, edge_of, finish_of, leads, piece_cost, walk_cost, walk_on}
 use Rattle.odd_paths.specs.LeastRows.{AreTerminals, RowsValue}
-use Rattle.route_core.specs.Copies.{IsPairOf, pair_costs}
+use Rattle.route_core.specs.Copies.{pair_costs}
 use Rattle.route_core.specs.Matched.{IsMatched, IsWalkBy}
 use Rattle.route_core.specs.PieceRoutes.{Proves}
 

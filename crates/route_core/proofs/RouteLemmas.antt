@@ -1,18 +1,15 @@
 -- The route of a drawing, from the certificates of its pieces.
-use Rattle.std.proofs.Common.{◌≡◌, ◌≢◌, ◌≤◌, ◌<◌, ℕ, zero, suc, ◌+◌, ◌-◌, ◌*◌, true, List, [], ◌∷◌, ◌++◌, length, map, replicate, get_or, All, Contains, sum_by, arith, refl, sym, ◌∙◌, ap, subst}
+use Rattle.std.proofs.Common.{◌≡◌, ◌≢◌, ◌≤◌, ◌<◌, ℕ, suc, ◌+◌, ◌-◌, ◌*◌, List, [], ◌∷◌, ◌++◌, length, map, replicate, All, Contains, sum_by, arith, refl, sym, ◌∙◌, ap, subst}
 use Rattle.std.proofs.lemmas.List.{append-nil, append_assoc, length-append, length-map, length-replicate}
-use Rattle.std.proofs.lemmas.List.Elements.{All-append, All-cons, All-contains, All-head, All-nil, All-tail}
+use Rattle.std.proofs.lemmas.List.Elements.{All-cons, All-contains, All-head, All-nil, All-tail}
 use Rattle.std.proofs.lemmas.List.Sums.{sum_by-cons}
 use Rattle.std.specs.List.{AllZip, concat}
 use Rattle.cut_certificate.specs.declared.certificate.PieceCert.{PieceCert}
 use Rattle.cut_certificate.specs.Bounds.{KeepsTotal}
-use Rattle.cut_certificate.specs.CertificateTexts.{CanBeSpelled}
+use Rattle.cut_certificate.specs.Certificates.{CanBeSpelled}
 use Rattle.cut_certificate.specs.Cuts.{total_of}
-use Rattle.design_model.specs.declared.command.Command.{Command}
 use Rattle.design_model.specs.declared.command.Command.TheVariants.{Stitch, Stop, Trim}
 use Rattle.design_model.specs.declared.point.Point.{Point}
-use Rattle.design_model.specs.Designs.{DesignValue}
-use Rattle.line_graph.specs.declared.limits.TheConstants.{MAX_LINES}
 use Rattle.line_graph.specs.declared.pass.Pass.{Pass}
 use Rattle.line_graph.specs.declared.piece.Piece.{Piece}
 use Rattle.line_graph.specs.CutPieces.{AreCutFrom, graph_of, lines_of_pieces}

@@ -1,5 +1,5 @@
 -- Walks sewn one after another.
-use Rattle.std.proofs.Common.{◌≡◌, ◌≤◌, ◌<◌, ℕ, ◌+◌, ◌-◌, Bool, true, false, cond, List, [], ◌∷◌, ◌++◌, length, map, drop, replicate, reverse, All, arith, refl, sym, ◌∙◌, ap, subst}
+use Rattle.std.proofs.Common.{◌≡◌, ◌≤◌, ◌<◌, ℕ, ◌+◌, ◌-◌, Bool, true, false, cond, List, [], ◌∷◌, ◌++◌, length, map, drop, replicate, reverse, All, arith, sym, ◌∙◌, ap, subst}
 use mathlib.Core.List.{reverse_aux}
 use Rattle.std.proofs.lemmas.List.{append-nil, append_assoc, length-append}
 use Rattle.std.proofs.lemmas.List.Concat.{flat_map-cons}

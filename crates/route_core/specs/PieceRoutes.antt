@@ -1,6 +1,6 @@
 -- What a certificate says of a piece, where it is right and proves the walk least. Weights of cuts count halves
 -- of a step, costs count steps.
-use Rattle.std.specs.Prelude.{◌≡◌, ℕ, ◌+◌, ◌*◌, true, None}
+use Rattle.std.specs.Prelude.{◌≡◌, ◌+◌, ◌*◌, true, None}
 use Rattle.cut_certificate.specs.declared.certificate.PieceCert.{PieceCert}
 use Rattle.cut_certificate.specs.Cuts.{total_of}
 use Rattle.cut_certificate.specs.Packings.{IsPacking}

@@ -2,7 +2,7 @@
 use Rattle.std.specs.Prelude.{List}
 use Rattle.std.specs.List.{AllZip}
 use Rattle.cut_certificate.specs.declared.certificate.PieceCert.{PieceCert}
-use Rattle.cut_certificate.specs.CertificateTexts.{CanBeSpelled}
+use Rattle.cut_certificate.specs.Certificates.{CanBeSpelled}
 use Rattle.line_graph.specs.declared.piece.Piece.{Piece}
 use Rattle.line_graph.specs.CutPieces.{graph_of}
 use Rattle.route_core.specs.PieceRoutes.{Proves}

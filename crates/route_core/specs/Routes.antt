@@ -2,9 +2,8 @@
 -- count halves of a step, costs count steps.
 use Rattle.std.specs.Prelude.{◌≡◌, ℕ, ◌+◌, List, length, map, All}
 use Rattle.std.specs.List.{AllZip}
-use Rattle.cut_certificate.specs.declared.certificate.Cert.{Cert}
 use Rattle.cut_certificate.specs.declared.certificate.PieceCert.{PieceCert}
-use Rattle.cut_certificate.specs.CertificateTexts.{CanBeSpelled}
+use Rattle.cut_certificate.specs.Certificates.{CanBeSpelled}
 use Rattle.line_graph.specs.declared.pass.Pass.{Pass}
 use Rattle.line_graph.specs.Drawings.{DrawingValue}
 use Rattle.line_graph.specs.PieceGraphs.{piece_of}

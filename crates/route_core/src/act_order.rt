@@ -63,14 +63,8 @@ fn pass_run(acts: &[NumberedAct], at: u32, stops: u32, points: &[Point]) -> Resu
     requires there { at ≤ length acts.now }
     ensures { Passes acts.now at (run_acts stops points.now) result }
 {
-    let at = match pass_stops(acts, at, stops) {
-        Ok(next) => next,
-        Err(number) => return Err(number),
-    };
-    let at = match pass_needles(acts, at, points) {
-        Ok(next) => next,
-        Err(number) => return Err(number),
-    };
+    let at = pass_stops(acts, at, stops)?;
+    let at = pass_needles(acts, at, points)?;
     pass(acts, at, Act::Trim)
 }
 
@@ -82,10 +76,7 @@ fn pass_stops(acts: &[NumberedAct], at: u32, count: u32) -> Result<u32, u32>
     let mut next = at;
     let mut left = count;
     while left > 0 {
-        match pass(acts, next, Act::Stop) {
-            Ok(behind) => next = behind,
-            Err(number) => return Err(number),
-        }
+        next = pass(acts, next, Act::Stop)?;
         left -= 1;
     }
     Ok(next)
@@ -99,17 +90,14 @@ fn pass_needles(acts: &[NumberedAct], at: u32, points: &[Point]) -> Result<u32, 
     let mut next = at;
     let mut rest = points;
     while let Some((point, after)) = first_of(rest) {
-        match pass(
+        next = pass(
             acts,
             next,
             Act::Needle {
                 at: point,
                 float: false,
             },
-        ) {
-            Ok(behind) => next = behind,
-            Err(number) => return Err(number),
-        }
+        )?;
         rest = after;
     }
     Ok(next)

@@ -80,13 +80,11 @@ fn first_reason(
     walk_faults_are_exact();
     fitting_walks_are_sewable();
     pieces_keep_limits();
-    match wrong_count(certs, pieces) {
-        Some(reason) => return Ok(Some(reason)),
-        None => {}
+    if let Some(reason) = wrong_count(certs, pieces) {
+        return Ok(Some(reason));
     }
-    match wrong_piece(pieces, certs) {
-        Some(reason) => return Ok(Some(reason)),
-        None => {}
+    if let Some(reason) = wrong_piece(pieces, certs) {
+        return Ok(Some(reason));
     }
     let reason = wrong_act(alloc, d, design, certs)?;
     Ok(reason)

@@ -1,13 +1,13 @@
 ghost use Rattle.std.specs.Prelude.{◌≡◌, ◌+◌, ◌-◌, ◌<◌, ◌≤◌, ◌^◌, All, length, map};
 ghost use Rattle.line_graph.specs.CutPieces.{graph_of};
-ghost use Rattle.line_graph.specs.PieceWalks.{cost_of, edge_sum, piece_cost};
+ghost use Rattle.line_graph.specs.PieceWalks.{piece_cost};
 ghost use Rattle.route_core.specs.Verdicts.{IsShort, count_reason, piece_reason, pieces_reason};
 ghost use Rattle.line_graph.specs.declared.limits.TheConstants.{MAX_COST, MAX_LINES};
 
-use crate::slices::{first_lent, first_of};
+use crate::slices::first_lent;
 use crate::verdict::Reason;
 use cut_certificate::{PieceCert, check_cuts, check_walk};
-use line_graph::{Edge, Piece};
+use line_graph::Piece;
 
 /// Another number of pieces than is drawn.
 pub(crate) fn wrong_count(certs: &[PieceCert], pieces: &[Piece]) -> Option<Reason>
@@ -37,9 +37,8 @@ pub(crate) fn wrong_piece(pieces: &[Piece], certs: &[PieceCert]) -> Option<Reaso
         first_lent(left),
         first_lent(said),
     ) {
-        match wrong_with(piece, number, cert) {
-            Some(reason) => return Some(reason),
-            None => {}
+        if let Some(reason) = wrong_with(piece, number, cert) {
+            return Some(reason);
         }
         number += 1;
         left = pieces_after;
@@ -60,7 +59,7 @@ fn wrong_with(p: &Piece, number: u32, cert: &PieceCert) -> Option<Reason>
             fault,
         }),
     };
-    let found = cost.saturating_sub(lines_cost(p));
+    let found = cost.saturating_sub(u64::from(p.cost()));
     if u64::from(cert.retraced) != found {
         return Some(Reason::Retraced {
             piece: number,
@@ -75,24 +74,4 @@ fn wrong_with(p: &Piece, number: u32, cert: &PieceCert) -> Option<Reason>
             fault,
         }),
     }
-}
-
-/// What the lines of a piece cost, each once.
-fn lines_cost(p: &Piece) -> u64
-    ensures { result ≡ piece_cost (graph_of p.now) }
-{
-    sum_of_costs(p.edges.as_slice())
-}
-
-fn sum_of_costs(edges: &[Edge]) -> u64
-    requires { edge_sum cost_of edges.now ≤ MAX_COST }
-    ensures { result ≡ edge_sum cost_of edges.now }
-{
-    let mut sum: u64 = 0;
-    let mut rest = edges;
-    while let Some((e, after)) = first_of(rest) {
-        sum += u64::from(e.cost);
-        rest = after;
-    }
-    sum
 }

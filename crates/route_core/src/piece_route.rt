@@ -1,5 +1,5 @@
 ghost use Rattle.std.specs.Prelude.{◌≡◌, ◌%◌, ◌<◌, ◌≤◌, ◌∷◌, ◌^◌, All, IfOk, []};
-ghost use Rattle.cut_certificate.specs.CertificateTexts.{CanBeSpelled};
+ghost use Rattle.cut_certificate.specs.Certificates.{CanBeSpelled};
 ghost use Rattle.line_graph.specs.declared.limits.TheConstants.{MAX_COST, MAX_LINES};
 ghost use Rattle.line_graph.specs.CutPieces.{graph_of};
 ghost use Rattle.odd_paths.specs.LeastRows.{AreRows};

@@ -2,7 +2,7 @@
 use Rattle.std.proofs.Common.{◌≡◌, ◌++◌, ◌∷◌, [], ℕ, Bool, true, false, List, Option, Some, None, Ok, Err, Result, refl, sym, ap, subst}
 use Rattle.std.specs.Prelude.{nat_lt}
 use Rattle.cut_certificate.specs.declared.certificate.PieceCert.{PieceCert}
-use Rattle.cut_certificate.specs.ReadCertificates.{cert_of}
+use Rattle.certificate_text.specs.ReadCertificates.{cert_of}
 use Rattle.design_model.specs.Designs.{DesignValue}
 use Rattle.drawing_text.specs.declared.draw_fault.DrawFault.{DrawFault}
 use Rattle.drawing_text.specs.DrawingText.{drawing_of}

@@ -15,3 +15,5 @@ mod OrderFacts
 mod ShowFacts
 mod RouteFacts
 mod TextFacts
+mod ReasonFacts
+mod SampleFacts

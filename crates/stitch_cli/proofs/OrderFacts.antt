@@ -8,7 +8,7 @@ use Rattle.design_model.specs.Designs.{DesignValue, empty_design}
 use Rattle.format_traits.specs.Meanings.{Meaning}
 use Rattle.stitch_cli.specs.declared.changing.ChangeFault.TheVariants as reason
 use Rattle.stitch_cli.specs.ChangedDesigns.{shifted_unless, threaded}
-use Rattle.stitch_cli.specs.Orders.{hooping, order_of, rewriting, routing, showing}
+use Rattle.stitch_cli.specs.Orders.{checking, hooping, order_of, outputs_of, rewriting, routing, sampling, showing}
 
 -- a format with another ending
 abbrev ending_as : Meaning → List ℕ → Meaning
@@ -90,6 +90,42 @@ pub known_hoop : (m : Meaning) → order_of (dst_and_exp m) (codes "hoop" ∷ co
       height = 30;
     }))
 known_hoop m = refl
+
+-- a check reads by the format of the design, and its names need not differ
+pub known_check : (m : Meaning) → order_of (dst_and_exp m) (codes "check" ∷ codes "a" ∷ codes "b.exp" ∷ codes "c.dst" ∷ [])
+    ≡ Some (checking (record {
+      drawing = codes "a";
+      file = codes "b.exp";
+      cert = codes "c.dst";
+      format = ending_as m (codes "exp");
+    }))
+known_check m = refl
+
+pub known_check_of_no_format : (m : Meaning)
+    → order_of (dst_and_exp m) (codes "check" ∷ codes "a" ∷ codes "b.jef" ∷ codes "c.dst" ∷ []) ≡ None
+known_check_of_no_format m = refl
+
+-- a sample needs no format; zeros before its number say nothing
+pub known_sample : (m : Meaning) → order_of (dst_and_exp m) (codes "sample" ∷ codes "0075" ∷ codes "a.rw" ∷ [])
+    ≡ Some (sampling (record { number = 75; drawing = codes "a.rw" }))
+known_sample m = refl
+
+pub known_sample_of_nothing : (m : Meaning) → order_of (dst_and_exp m) (codes "sample" ∷ codes "0" ∷ codes "a.rw" ∷ []) ≡ None
+known_sample_of_nothing m = refl
+
+-- the certificate of a route is written before its design; a sample writes its drawing
+pub known_route_outputs : (m : Meaning)
+    → outputs_of (routing (record { drawing = codes "a"; out = codes "b"; cert = codes "c"; format = m }))
+    ≡ codes "c" ∷ codes "b" ∷ []
+known_route_outputs m = refl
+
+pub known_sample_outputs : outputs_of (sampling (record { number = 75; drawing = codes "a" })) ≡ codes "a" ∷ []
+known_sample_outputs = refl
+
+-- a check writes nothing
+pub known_check_outputs : (m : Meaning)
+    → outputs_of (checking (record { drawing = codes "a"; file = codes "b"; cert = codes "c"; format = m })) ≡ []
+known_check_outputs m = refl
 
 abbrev place : ℤ → ℤ → Point
 place x y = record { x = x; y = y }

@@ -7,7 +7,7 @@ use Rattle.design_model.specs.declared.point.Point.{Point}
 use Rattle.design_model.specs.Counts.{counts_of}
 use Rattle.design_model.specs.Designs.{DesignValue, empty_design}
 use Rattle.hoop_check.specs.declared.fitting.Fit.TheVariants as fit
-use Rattle.cut_certificate.specs.CertificateTexts.{line_end}
+use Rattle.certificate_text.specs.CertificateTexts.{line_end}
 use Rattle.stitch_cli.specs.Hoops.{hoop_fitted}
 use Rattle.stitch_cli.specs.Plans.{Makes, Refuses}
 use Rattle.stitch_cli.specs.Products.{only_report}

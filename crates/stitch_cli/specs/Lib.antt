@@ -1,7 +1,7 @@
 -- words of the crates below that public clauses cite
 pub use Rattle.command_words.specs.Changes
 pub use Rattle.command_words.specs.Requests
-pub use Rattle.cut_certificate.specs.CertificateTexts
+pub use Rattle.certificate_text.specs.CertificateTexts
 pub mod Refusals
 pub mod Products
 pub mod Puts

@@ -5,7 +5,7 @@ use Rattle.cut_certificate.specs.declared.faults.CutFault.{CutFault}
 use Rattle.cut_certificate.specs.declared.faults.CutFault.TheVariants as cut
 use Rattle.cut_certificate.specs.declared.faults.WalkFault.{WalkFault}
 use Rattle.cut_certificate.specs.declared.faults.WalkFault.TheVariants as walk
-use Rattle.cut_certificate.specs.CertificateTexts.{line_end}
+use Rattle.certificate_text.specs.CertificateTexts.{line_end}
 use Rattle.route_core.specs.declared.verdict.Reason.{Reason}
 use Rattle.route_core.specs.declared.verdict.Reason.TheVariants as reason
 

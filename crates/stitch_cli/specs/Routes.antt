@@ -2,7 +2,7 @@
 use Rattle.std.specs.Prelude.{◌≡◌, ℕ, ◌+◌, nat_lt, Bool, true, false, List, [], ◌∷◌, length, Result, Ok, Err, IsOkAnd}
 use Rattle.std.specs.List.{AllZip}
 use Rattle.cut_certificate.specs.declared.certificate.PieceCert.{PieceCert}
-use Rattle.cut_certificate.specs.CertificateTexts.{certificate_text}
+use Rattle.certificate_text.specs.CertificateTexts.{certificate_text}
 use Rattle.design_model.specs.Acts.{acts_of}
 use Rattle.format_traits.specs.Laws.{MovesWithin}
 use Rattle.format_traits.specs.Meanings.{Meaning}

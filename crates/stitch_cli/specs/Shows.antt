@@ -10,7 +10,7 @@ use Rattle.design_model.specs.Designs.{DesignValue, thread_of}
 use Rattle.design_model.specs.Extents.{extent_of}
 use Rattle.format_traits.specs.declared.fault.ReadFault.{ReadFault}
 use Rattle.format_traits.specs.declared.loaded.Loaded.{Loaded}
-use Rattle.cut_certificate.specs.CertificateTexts.{line_end}
+use Rattle.certificate_text.specs.CertificateTexts.{line_end}
 use Rattle.stitch_cli.specs.Orders.{ShowOrder}
 use Rattle.stitch_cli.specs.Plans.{Plan, accepts, reads, refuses}
 use Rattle.stitch_cli.specs.Products.{only_report}

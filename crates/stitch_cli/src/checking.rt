@@ -1,6 +1,6 @@
 ghost use Rattle.std.specs.Prelude.{◌<◌, ◌-◌, ◌≤◌, ◌^◌, All, Ok, length};
 ghost use Rattle.command_words.specs.Requests.{AreCheckNames};
-ghost use Rattle.cut_certificate.specs.ReadCertificates.{cert_of};
+ghost use Rattle.certificate_text.specs.ReadCertificates.{cert_of};
 ghost use Rattle.drawing_text.specs.DrawingText.{drawing_of};
 ghost use Rattle.outside_io.specs.declared.limits.TheConstants.{MAX_FILE};
 ghost use Rattle.route_core.specs.Verdicts.{IsShort};
@@ -13,8 +13,9 @@ use crate::halt::{Halt, Refusal};
 use crate::product::{Product, only_report};
 use crate::reading::read_input;
 use crate::reports::bytes_of;
+use certificate_text::{CertFault, read_cert};
 use command_words::CheckNames;
-use cut_certificate::{Cert, CertFault, read_cert};
+use cut_certificate::Cert;
 use design_model::Design;
 use drawing_text::{DrawFault, read_drawing};
 use format_traits::{Format, Loaded, ReadFault, decode_by};

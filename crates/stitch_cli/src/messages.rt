@@ -1,5 +1,5 @@
 ghost use Rattle.std.specs.Prelude.{◌≡◌, ◌++◌, codes, decimal};
-ghost use Rattle.cut_certificate.specs.CertificateTexts.{line_end};
+ghost use Rattle.certificate_text.specs.CertificateTexts.{line_end};
 ghost use Rattle.stitch_cli.specs.declared.status.Status.TheVariants as status;
 ghost use Rattle.stitch_cli.specs.Endings.{Tells, status_of};
 ghost use Rattle.stitch_cli.specs.Refusals.{refusal_of};

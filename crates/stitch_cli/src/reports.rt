@@ -1,14 +1,13 @@
 ghost use Rattle.std.specs.Prelude.{◌≡◌, ◌<◌, ◌≤◌, ◌+◌, ◌∷◌, ◌^◌, [], All, IfNone, IfOk, IfSome, length, string_bytes, sum_by};
-ghost use Rattle.line_graph.specs.declared.limits.TheConstants.{MAX_BLOCKS, MAX_COST, MAX_LINES};
+ghost use Rattle.line_graph.specs.declared.limits.TheConstants.{MAX_BLOCKS, MAX_LINES};
 ghost use Rattle.line_graph.specs.CutPieces.{graph_of};
-ghost use Rattle.line_graph.specs.PieceWalks.{cost_of, edge_sum};
 ghost use Rattle.stitch_cli.specs.RouteSteps.{reports_from};
 ghost use Rattle.stitch_cli.specs.Routes.{piece_report};
 ghost use Rattle.stitch_cli.specs.Texts.{cost_text, penetrations_of, piece_place as piece_place_text, route_report, totals_line as totals_text};
 
 use cut_certificate::PieceCert;
 use design_model::{Bytes, Items, Memory};
-use line_graph::{Edge, Piece};
+use line_graph::Piece;
 use std::alloc::Global;
 
 /// What the report says of a routed piece: the numbers of its block and its own, both from 1, how
@@ -83,21 +82,9 @@ fn report_of(p: &Piece, number: u32, cert: &PieceCert) -> PieceReport
         block: p.block + 1,
         piece: number,
         lines: p.lines.len() as u32,
-        cost: cost_of_edges(p.edges.as_slice()),
+        cost: p.cost(),
         retraced: cert.retraced,
     }
-}
-
-/// What edges cost, each once.
-fn cost_of_edges(edges: &[Edge]) -> u32
-    requires { edge_sum cost_of edges.now ≤ MAX_COST }
-    ensures { result ≡ edge_sum cost_of edges.now }
-{
-    let mut cost = 0;
-    for edge in edges {
-        cost += edge.cost;
-    }
-    cost
 }
 
 /// The report of a route: a line for each piece, and the sums.

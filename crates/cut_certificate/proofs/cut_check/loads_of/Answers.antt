@@ -25,7 +25,7 @@ pub loop-cut-preserved : goal.loop-cut-preserved
 loop-cut-preserved c = record {
   count = cuts_next _ _ _ _ _ c.in-Some.ensures.some c.loop-cut.invariant.count;
   numbered = (next_numbered _ _ _ c.in-Some.ensures.some c.loop-cut.invariant.numbered).1;
-  faults = faults_next (graph_of c.args.p.now) _ _ _ _ _ c.in-Some.ensures.some c.loop-cut.invariant.faults c.in-Ok.ensures.0;
+  faults = faults_next (graph_of c.args.p.now) _ _ _ _ _ c.in-Some.ensures.some c.loop-cut.invariant.faults c.in_ok-held.ensures.0;
   loads = loads_next _ _ _ c.args.p.now.edges _ _ (λ e. load_on c.args.cuts.now e) c.in-Some.ensures.some
       (rw (← c.as_slice-in-Some.ensures) c.add_shares.ensures.shares) c.loop-cut.invariant.loads;
   most = λ i. omega (arith, c.add_shares.ensures.most (4294967295 * c.loop-cut.number) c.loop-cut.invariant.most i);

@@ -1,4 +1,4 @@
-use Rattle.std.proofs.Common.{◌≡◌, ◌<◌, ◌+◌, ◌^◌, All, List, ℕ, length}
+use Rattle.std.proofs.Common.{◌<◌, ◌+◌, ◌^◌, All, List, ℕ, length}
 use Rattle.route_core.specs.Copies.{AddsPlaces, add_up}
 use Rattle.route_core.proofs.copies.add_places.Given as goal
 

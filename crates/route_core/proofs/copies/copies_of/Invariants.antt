@@ -1,4 +1,4 @@
-use Rattle.std.proofs.Common.{ℕ, length}
+use Rattle.std.proofs.Common.{length}
 use Rattle.line_graph.specs.CutPieces.{graph_of}
 use Rattle.route_core.proofs.PairLemmas.{LeftPairs}
 use Rattle.route_core.proofs.copies.copies_of.Given as goal

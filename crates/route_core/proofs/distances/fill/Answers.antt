@@ -1,4 +1,4 @@
-use Rattle.std.proofs.Common.{◌∙◌, ap, arith, sym}
+use Rattle.std.proofs.Common.{◌∙◌, ap, arith}
 use Rattle.odd_paths.specs.LeastRows.{cost_at}
 use Rattle.route_core.proofs.DistanceLemmas.{filled_more, filled_none}
 use Rattle.route_core.proofs.distances.fill.Goals as goal

@@ -13,4 +13,4 @@ wrong_piece-requires-clause-few c =
 pub wrong_act-requires : goal.wrong_act-requires
 wrong_act-requires c =
     drawn_right c.args.d.now c.args.pieces.now c.args.certs.now c.step-step.ensures.limits c.fitting_walks_are_sewable.ensures
-    c.walk_faults_are_exact.ensures c.requires.pieces (sym c.in-None.ensures) (sym c.in-None-wrong_piece.ensures)
+    c.walk_faults_are_exact.ensures c.requires.pieces (sym c.in_default.ensures) (sym c.in_default-wrong_piece.ensures)

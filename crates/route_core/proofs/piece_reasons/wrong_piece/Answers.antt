@@ -8,5 +8,5 @@ loop-piece-preserved c = record {
   count = omega (arith, c.loop-piece.invariant.count, ap (λ (ps : List Piece). length ps) c.in-Some-Some.ensures.some);
   short = short_rest _ _ _ c.in-Some-Some.ensures'.some c.loop-piece.invariant.short;
   reasons = reasons_next _ _ _ _ _ _ _ _ c.in-Some-Some.ensures.some c.in-Some-Some.ensures'.some c.loop-piece.invariant.reasons
-      (sym c.in-None.ensures);
+      (sym c.in_default-wrong_with.ensures);
 }

@@ -1,4 +1,4 @@
-use Rattle.std.proofs.Common.{◌≡◌, ◌+◌, All, ℕ, length}
+use Rattle.std.proofs.Common.{◌≡◌, ◌+◌, All, length}
 use Rattle.route_core.specs.Copies.{IsPairOf, pair_costs}
 use Rattle.route_core.proofs.piece_route.cost_of_pairs.Given as goal
 

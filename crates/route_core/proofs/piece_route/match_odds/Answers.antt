@@ -1,4 +1,4 @@
-use Rattle.std.proofs.Common.{◌∙◌, ◌%◌, ap, subst, sym, ℕ, ◌≡◌, length}
+use Rattle.std.proofs.Common.{◌%◌, subst, sym, ℕ, ◌≡◌}
 use Rattle.blossom_match.specs.Tables.{IsTable}
 use Rattle.line_graph.specs.CutPieces.{graph_of}
 use Rattle.route_core.proofs.LeastLemmas.{triangles}

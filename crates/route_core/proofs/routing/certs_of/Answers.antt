@@ -1,4 +1,4 @@
-use Rattle.route_core.proofs.RouteLemmas.{routed_all, routes_on}
+use Rattle.route_core.proofs.RouteLemmas.{routed_all}
 use Rattle.route_core.proofs.routing.certs_of.Goals as goal
 
 pub returns : goal.returns

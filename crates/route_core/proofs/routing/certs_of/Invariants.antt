@@ -1,4 +1,4 @@
-use Rattle.std.proofs.Common.{ℕ, length}
+use Rattle.std.proofs.Common.{length}
 use Rattle.route_core.proofs.RouteLemmas.{LeftPieces}
 use Rattle.route_core.proofs.routing.certs_of.Given as goal
 

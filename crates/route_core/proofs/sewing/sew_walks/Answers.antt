@@ -1,5 +1,4 @@
-use Rattle.std.proofs.Common.{◌≡◌, ◌+◌, ◌≤◌, ◌∙◌, List, ap, length, subst, sym}
-use Rattle.design_model.specs.Designs.{DesignValue}
+use Rattle.std.proofs.Common.{◌+◌, ◌≤◌, ◌∙◌, List, ap, length, subst, sym}
 use Rattle.line_graph.specs.declared.pass.Pass.{Pass}
 use Rattle.line_graph.specs.Runs.{block_of_walk}
 use Rattle.line_graph.specs.Walks.{needles_of_walk}

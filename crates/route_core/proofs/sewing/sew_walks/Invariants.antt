@@ -1,4 +1,4 @@
-use Rattle.std.proofs.Common.{ℕ, length}
+use Rattle.std.proofs.Common.{length}
 use Rattle.route_core.proofs.SewLemmas.{Left}
 use Rattle.route_core.proofs.sewing.sew_walks.Given as goal
 

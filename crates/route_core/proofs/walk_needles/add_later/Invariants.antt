@@ -1,4 +1,4 @@
-use Rattle.std.proofs.Common.{◌≡◌, ◌++◌, ℕ, length}
+use Rattle.std.proofs.Common.{◌≡◌, ◌++◌, length}
 use Rattle.route_core.specs.SewingSteps.{AreDrawn, later_needles}
 use Rattle.route_core.proofs.walk_needles.add_later.Given as goal
 

@@ -1,0 +1,218 @@
+-- The line that is told is the first one that doesn't fit.
+use Rattle.std.proofs.Common.{◌≡◌, ◌≢◌, ℕ, suc, ◌+◌, ◌-◌, ◌<◌, ◌==◌, Bool, true, false, List, [], ◌∷◌, ◌++◌, Option, None, Some, Result, Ok, Err, All, length, get_or, take, subst, ap, sym, refl, ◌∙◌, append_assoc, arith}
+use Rattle.std.proofs.lemmas.List.{flat_map_more, take_more}
+use Rattle.std.proofs.lemmas.List.Elements.{All-cons, All-head, All-nil, All-tail, All-take}
+use Rattle.std.proofs.lemmas.Option.{same_Some}
+use Rattle.std.specs.List.{flat_map, onto_first}
+use Rattle.std.specs.Option.{option_and_then}
+use Rattle.line_graph.specs.declared.pass.Pass.{Pass}
+use Rattle.cut_certificate.specs.declared.certificate.PieceCert.{PieceCert}
+use Rattle.certificate_text.specs.declared.draft.Draft.{Draft}
+use Rattle.certificate_text.specs.declared.draft.Draft.TheVariants as draft
+use Rattle.certificate_text.specs.declared.lines.CertLine.{CertLine}
+use Rattle.certificate_text.specs.declared.lines.CertLine.TheVariants as line
+use Rattle.certificate_text.specs.CertificateLines.{parted}
+use Rattle.certificate_text.specs.ReadCertificates.{Begins, IsFirstUnfit, at_end, cert_of, drafted, first_lines, judged, said_after}
+use Rattle.certificate_text.proofs.ItemWords.{HasPass}
+use Rattle.certificate_text.proofs.LineTexts.{HasLine, line_bytes, some_item}
+use Rattle.certificate_text.proofs.NumberWords.{then_some}
+use Rattle.certificate_text.proofs.PartLemmas.{some_part}
+use Rattle.certificate_text.proofs.ReadTexts.{Lacks, SayOn, line_before, next_judged}
+use Rattle.certificate_text.proofs.ReadingLemmas.{goes_on}
+
+-- the parts of a text have no line end
+onto_lacks : (b : ℕ) (parts : List (List ℕ)) → (b == 10) ≡ false → All Lacks parts → All Lacks (onto_first b parts)
+onto_lacks b [] test lack =
+    All-cons Lacks (b ∷ []) [] (All-cons (λ (c : ℕ). (c == 10) ≡ false) b [] test (All-nil (λ (c : ℕ). (c == 10) ≡ false))) (All-nil Lacks)
+onto_lacks b (part ∷ parts) test lack =
+    All-cons Lacks (b ∷ part) parts
+    (All-cons (λ (c : ℕ). (c == 10) ≡ false) b part test (All-head Lacks part parts lack)) (All-tail Lacks part parts lack)
+
+-- by the test of the first byte
+next_lacks : (end : Bool) (b : ℕ) (text : List ℕ) → (b == 10) ≡ end → All Lacks (parted 10 text)
+    → All Lacks (parted 10 (b ∷ text))
+next_lacks true b text is lack =
+    rw is (All-cons Lacks [] (parted 10 text) (All-nil (λ (c : ℕ). (c == 10) ≡ false)) lack)
+next_lacks false b text is lack = rw is (onto_lacks b (parted 10 text) is lack)
+
+-- so none of them has one
+parts_lack : (text : List ℕ) → All Lacks (parted 10 text)
+parts_lack [] = All-cons Lacks [] [] (All-nil (λ (c : ℕ). (c == 10) ≡ false)) (All-nil Lacks)
+parts_lack (b ∷ text) = next_lacks (b == 10) b text refl (parts_lack text)
+
+-- lines with their ends
+abbrev ended : List (List ℕ) → List ℕ
+ended lines = flat_map (λ (bytes : List ℕ). bytes ++ 10 ∷ []) lines
+
+-- the draft that lines come to, if all of them fit
+abbrev runs : Draft → List (List ℕ) → Option Draft
+runs said [] = Some said
+runs said (bytes ∷ lines) = option_and_then (λ new. runs new lines) (drafted said bytes)
+
+-- lines that fit, before a text
+run_on : (lines : List (List ℕ)) (said new : Draft) (text : List ℕ) (number : ℕ) → All Lacks lines → runs said lines ≡ Some new
+    → said_after number said (parted 10 (ended lines ++ text)) ≡ said_after (number + length lines) new (parted 10 text)
+run_on [] said new text number lack fit =
+    ap (λ (one : Draft). said_after number one (parted 10 text)) (same_Some said new fit)
+    ∙ ap (λ (n : ℕ). said_after n new (parted 10 text)) (let none : number ≡ number + 0 = omega arith in none)
+run_on (bytes ∷ lines) said new text number lack fit =
+    then_some (λ one. runs one lines) (drafted said bytes) new fit (λ one first rest.
+    let behind : List ℕ = ended lines ++ text in
+    let parts : ended (bytes ∷ lines) ++ text ≡ bytes ++ 10 ∷ behind =
+    append_assoc (bytes ++ 10 ∷ []) (ended lines) text ∙ append_assoc bytes (10 ∷ []) behind in
+    let count : number + 1 + length lines ≡ number + length (bytes ∷ lines) = omega arith in
+    ap (λ (t : List ℕ). said_after number said (parted 10 t)) parts
+    ∙ (next_judged number said bytes behind (All-head Lacks bytes lines lack)
+    ∙ (ap (λ (answer : Option Draft). goes_on number answer (parted 10 behind)) first
+    ∙ (run_on lines one new text (number + 1) (All-tail Lacks bytes lines lack) rest
+    ∙ ap (λ (n : ℕ). said_after n new (parted 10 text)) count))))
+
+-- whatever was said can become a certificate
+record Completes (said : Draft) : Type 0 where
+  rest : List ℕ
+  pieces : List PieceCert
+  says : SayOn said rest pieces
+
+-- by one more line
+complete_by : (said new : Draft) (l : CertLine) → HasLine l → judged said l ≡ Some new → Completes new → Completes said
+complete_by said new l has fits by = record {
+  rest = line_bytes l ++ 10 ∷ by.rest;
+  pieces = by.pieces;
+  says = line_before said new l by.rest by.pieces has fits by.says;
+}
+
+-- nothing is left to say
+complete_ended : (pieces : List PieceCert) → Completes (draft.Ended pieces)
+complete_ended pieces = record { rest = []; pieces = pieces; says = λ number. refl }
+
+-- the end is left
+complete_headed : Completes draft.Headed
+complete_headed = complete_by draft.Headed (draft.Ended []) line.End tt refl (complete_ended [])
+
+-- the same behind a piece
+complete_within : (done : List PieceCert) (piece : PieceCert) → Completes (draft.Within done piece)
+complete_within done piece =
+    complete_by (draft.Within done piece) (draft.Ended (done ++ piece ∷ [])) line.End tt refl (complete_ended (done ++ piece ∷ []))
+
+-- a walk of one pass
+abbrev one_pass : List Pass
+one_pass = record { line = 0; back = false } ∷ []
+
+-- by cases on what was said
+complete : (said : Draft) → Completes said
+complete draft.Blank = complete_by draft.Blank draft.Headed line.Head tt refl complete_headed
+complete draft.Headed = complete_headed
+complete (draft.Opened done retraced) =
+    let piece : PieceCert = record { retraced = retraced; walk = one_pass; cuts = [] } in
+    complete_by (draft.Opened done retraced) (draft.Within done piece) (line.Walk one_pass)
+    (some_item _ _, All-cons HasPass _ [] (omega arith) (All-nil HasPass)) refl (complete_within done piece)
+complete (draft.Within done piece) = complete_within done piece
+complete (draft.Ended pieces) = complete_ended pieces
+
+-- so many lines fit, and the next one, if it is ended, doesn't
+record Stops (said : Draft) (parts : List (List ℕ)) (number told : ℕ) : Type 0 where
+  fit : ℕ
+  is : told ≡ number + fit
+  there : fit < length parts
+  new : Draft
+  run : runs said (take fit parts) ≡ Some new
+  unfit : fit + 1 < length parts → drafted new (get_or parts fit []) ≡ None
+
+-- refusals of one answer are the same
+same_err : {A : Type 0} (a b : ℕ) → (let first : Result A ℕ = Err a in first) ≡ Err b → b ≡ a
+same_err a b is = cc
+
+-- an answer is no refusal
+ok_err : {A : Type 0} (a : A) (n : ℕ) → Ok a ≡ Err n → ⊥
+ok_err a n is = cc
+
+-- what is refused behind the last line is told with the number of that place
+end_told : (number : ℕ) (said : Draft) (rest : List ℕ) (told : ℕ) → at_end number said rest ≡ Err told → told ≡ number
+end_told number (draft.Ended pieces) [] told says = absurd (ok_err pieces told says)
+end_told number said rest told says = same_err number told says
+
+-- the next line is the one
+stop_here : (said : Draft) (bytes next : List ℕ) (more : List (List ℕ)) (number told : ℕ) → drafted said bytes ≡ None
+    → told ≡ number → Stops said (bytes ∷ next ∷ more) number told
+stop_here said bytes next more number told none is =
+    record { fit = 0; is = omega (arith, is); there = omega arith; new = said; run = refl; unfit = λ ended. none }
+
+-- it is one behind the next line
+stop_later : (said one : Draft) (bytes next : List ℕ) (more : List (List ℕ)) (number told : ℕ) → drafted said bytes ≡ Some one
+    → Stops one (next ∷ more) (number + 1) told → Stops said (bytes ∷ next ∷ more) number told
+stop_later said one bytes next more number told first by = record {
+  fit = suc by.fit;
+  is = omega (arith, by.is);
+  there = omega (arith, by.there);
+  new = by.new;
+  run = ap (λ (answer : Option Draft). option_and_then (λ new. runs new (take by.fit (next ∷ more))) answer) first ∙ by.run;
+  unfit = λ ended. by.unfit (omega (arith, ended));
+}
+
+-- a refusal stops at a line
+stops : (parts : List (List ℕ)) (said : Draft) (number told : ℕ) → parts ≢ [] → said_after number said parts ≡ Err told
+    → Stops said parts number told
+stops [] said number told some says = absurd (some refl)
+stops (rest ∷ []) said number told some says = record {
+  fit = 0;
+  is = omega (arith, end_told number said rest told says);
+  there = omega arith;
+  new = said;
+  run = refl;
+  unfit = λ ended. absurd (omega (arith, ended));
+}
+stops (bytes ∷ next ∷ more) said number told some says =
+    by_answer (drafted said bytes) refl (λ one. stops (next ∷ more) one (number + 1) told (some_item next more)) where
+      by_answer : (answer : Option Draft) → drafted said bytes ≡ answer
+          → ((one : Draft) → said_after (number + 1) one (next ∷ more) ≡ Err told → Stops one (next ∷ more) (number + 1) told)
+          → Stops said (bytes ∷ next ∷ more) number told
+      by_answer None is later = stop_here said bytes next more number told is (same_err number told (rw is at says))
+      by_answer (Some one) is later = stop_later said one bytes next more number told is (later one (rw is at says))
+
+-- a certificate begins with lines that fit
+begins_with : (lines : List (List ℕ)) (new : Draft) → All Lacks lines → runs draft.Blank lines ≡ Some new → Begins (ended lines)
+begins_with lines new lack fit =
+    let by = complete new in
+    record {
+      rest = by.rest;
+      pieces = by.pieces;
+      says = run_on lines draft.Blank new by.rest 1 lack fit ∙ by.says (1 + length lines);
+    }
+
+-- and none with a line behind them that doesn't
+begins_no_more : (lines : List (List ℕ)) (bytes : List ℕ) (new : Draft) → All Lacks lines → Lacks bytes
+    → runs draft.Blank lines ≡ Some new → drafted new bytes ≡ None → Begins (ended lines ++ (bytes ++ 10 ∷ [])) → ⊥
+begins_no_more lines bytes new lack lacks fit unfit begins =
+    let parts : (ended lines ++ (bytes ++ 10 ∷ [])) ++ begins.rest ≡ ended lines ++ (bytes ++ 10 ∷ begins.rest) =
+    append_assoc (ended lines) (bytes ++ 10 ∷ []) begins.rest
+    ∙ ap (λ (t : List ℕ). ended lines ++ t) (append_assoc bytes (10 ∷ []) begins.rest) in
+    let says : cert_of ((ended lines ++ (bytes ++ 10 ∷ [])) ++ begins.rest) ≡ Err (1 + length lines) =
+    ap cert_of parts ∙ (run_on lines draft.Blank new (bytes ++ 10 ∷ begins.rest) 1 lack fit
+    ∙ (next_judged (1 + length lines) new bytes begins.rest lacks
+    ∙ ap (λ (answer : Option Draft). goes_on (1 + length lines) answer (parted 10 begins.rest)) unfit)) in
+    ok_err begins.pieces (1 + length lines) (sym begins.says ∙ says)
+
+-- one line more of the first ones
+one_more : (parts : List (List ℕ)) (i : ℕ) → i < length parts
+    → ended (take (i + 1) parts) ≡ ended (take i parts) ++ (get_or parts i [] ++ 10 ∷ [])
+one_more parts i there =
+    ap ended (take_more parts i [] there)
+    ∙ sym (flat_map_more (λ (bytes : List ℕ). bytes ++ 10 ∷ []) [] (take i parts) (get_or parts i []))
+
+-- the number that is told is that of the first line that doesn't fit
+pub told_is_first : (text : List ℕ) (number : ℕ) → cert_of text ≡ Err number → IsFirstUnfit text number
+told_is_first text number says =
+    let parts : List (List ℕ) = parted 10 text in
+    let lack : All Lacks parts = parts_lack text in
+    let by = stops parts draft.Blank 1 number (some_part 10 text) says in
+    let before : number - 1 ≡ by.fit = omega (arith, by.is) in
+    let here : number ≡ by.fit + 1 = omega (arith, by.is) in
+    let kept : All Lacks (take by.fit parts) = All-take Lacks by.fit parts lack in
+    record {
+      from = omega (arith, by.is);
+      to = omega (arith, by.is, by.there);
+      before = subst (λ (n : ℕ). Begins (first_lines n text)) (sym before) (begins_with (take by.fit parts) by.new kept by.run);
+      here = λ ends. λ begins. begins_no_more (take by.fit parts) (get_or parts by.fit []) by.new kept (lack by.fit [] by.there)
+          by.run (by.unfit (omega (arith, ends, here)))
+          (subst (λ (t : List ℕ). Begins t) (ap (λ (n : ℕ). first_lines n text) here ∙ one_more parts by.fit by.there) begins);
+    }

@@ -1,0 +1,13 @@
+mod NumeralLemmas
+mod PartLemmas
+mod WordsLemmas
+mod ReadingLemmas
+mod CertificateFacts
+mod NumberWords
+mod ItemWords
+mod LineTexts
+mod OneText
+mod ReadTexts
+mod ItemPuts
+mod TextLengths
+mod FirstUnfit

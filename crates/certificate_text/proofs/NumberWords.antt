@@ -1,0 +1,156 @@
+-- Numbers, passes and members as words: what a word says, and the text of what it says.
+use Rattle.std.proofs.Common.{◌≡◌, ℕ, ◌+◌, ◌-◌, ◌<◌, ◌^◌, ◌==◌, Bool, true, false, not, nat_lt, List, [], ◌∷◌, ◌++◌, Option, None, Some, option_map, length, get_or, codes, decimal, if◌then◌else◌, subst, ap, sym, refl, ◌∙◌, inl, inr, arith}
+use Rattle.std.proofs.lemmas.Bool.{and_from, and_parts, cases_order}
+use Rattle.std.proofs.lemmas.Bool.Decides.{nat_tests}
+use Rattle.std.proofs.lemmas.Fmt.{decimal-digits_value, decimal_digit, decimal_nonempty, digits_decimal, digits_value-decimal, first_decimal}
+use Rattle.std.proofs.lemmas.Option.{cond_some, none-some, same_Some}
+use Rattle.std.proofs.lemmas.Str.Parse.{IsNumeralModel, numerals_by_value, tells_all_ascii_digits}
+use Rattle.std.specs.Char.{is_ascii_digit}
+use Rattle.std.specs.List.{flat_map}
+use Rattle.std.specs.Option.{option_and_then}
+use Rattle.std.specs.Str.{all_ascii_digits}
+use Rattle.std.specs.Str.Parse.{digits_value}
+use Rattle.line_graph.specs.declared.pass.Pass.{Pass}
+use Rattle.certificate_text.specs.CertificateLines.{is_plain_numeral, number_above, number_in, pass_along, pass_in, small_number}
+use Rattle.certificate_text.specs.CertificateTexts.{pass_text}
+
+-- std's view of decimal digits
+pub own : IsNumeralModel (λ ds. all_ascii_digits ds ≡ true) (digits_value 10)
+own = numerals_by_value (λ ds. all_ascii_digits ds ≡ true) tells_all_ascii_digits
+
+-- what an answer that is there stands on
+pub if_some : {A : Type 0} (test : Bool) (o : Option A) (a : A) → (if test then o else None) ≡ Some a
+    → (test ≡ true) × (o ≡ Some a)
+if_some true o a is = (refl, is)
+if_some false o a is = absurd (none-some a is)
+
+-- the same of a mapped answer
+pub map_some : {A B P : Type 0} (f : A → B) (o : Option A) (b : B) → option_map f o ≡ Some b
+    → ((a : A) → o ≡ Some a → f a ≡ b → P) → P
+map_some f None b is next = absurd (none-some b is)
+map_some f (Some a) b is next = next a refl (same_Some (f a) b is)
+
+-- and of one after another
+pub then_some : {A B P : Type 0} (f : A → Option B) (o : Option A) (b : B) → option_and_then f o ≡ Some b
+    → ((a : A) → o ≡ Some a → f a ≡ Some b → P) → P
+then_some f None b is next = absurd (none-some b is)
+then_some f (Some a) b is next = next a refl is
+
+-- a numeral without leading zeros
+record IsPlain (word : List ℕ) : Type 0 where
+  digits : all_ascii_digits word ≡ true
+  some : 0 < length word
+  lead : get_or word 0 0 ≡ 48 → length word ≡ 1
+
+-- false is not true
+false_true : false ≡ true → ⊥
+false_true is = cc
+
+-- what the test of a numeral tells
+plain_is : (word : List ℕ) → is_plain_numeral word ≡ true → IsPlain word
+plain_is [] is = absurd (false_true is)
+plain_is (b ∷ []) is = record { digits = and_from (is_ascii_digit b) true is refl; some = omega arith; lead = λ zero. refl }
+plain_is (b ∷ c ∷ rest) is =
+    let both = and_parts (not (b == 48)) (all_ascii_digits (b ∷ c ∷ rest)) is in
+    record { digits = both.1; some = omega arith; lead = λ zero. absurd (grind (arith, nat_tests, both.0, zero)) }
+
+-- digits behind one that is no zero are such a numeral
+plain_from : (word : List ℕ) → all_ascii_digits word ≡ true → 0 < length word → 48 < get_or word 0 0
+    → is_plain_numeral word ≡ true
+plain_from [] digits some lead = absurd (omega arith)
+plain_from (b ∷ []) digits some lead = (and_parts (is_ascii_digit b) true digits).0
+plain_from (b ∷ c ∷ rest) digits some lead =
+    and_from (not (b == 48)) (all_ascii_digits (b ∷ c ∷ rest)) (grind (arith, nat_tests, lead)) digits
+
+-- the spelling of a number has no leading zero
+decimal_plain : (n : ℕ) → n < 2 ^ 64 → is_plain_numeral (decimal n) ≡ true
+decimal_plain n small = elim (cases_order n 0) [
+  | inl none ↦ rw (none, decimal_digit 0 (omega arith)) refl
+  | inr (inl less) ↦ absurd (omega (arith, less))
+  | inr (inr more) ↦
+      plain_from (decimal n) (digits_decimal own n small) (decimal_nonempty n small) (first_decimal n more small)
+]
+
+-- a number is read from its spelling
+pub number_read : (n : ℕ) → n < 2 ^ 32 → number_in (decimal n) ≡ Some n
+number_read n small =
+    let fits : n < 2 ^ 64 = omega (arith, small) in
+    let test : nat_lt n (2 ^ 32) ≡ true = grind (arith, nat_tests, small) in
+    rw (decimal_plain n fits, digits_value-decimal own n fits, test) refl
+
+-- a word that spells this number
+pub record Spells (word : List ℕ) (n : ℕ) : Type 0 where
+  pub is : decimal n ≡ word
+  pub small : n < 2 ^ 32
+
+-- the number that is read from a word is the one that it spells
+pub number_is : (word : List ℕ) (n : ℕ) → number_in word ≡ Some n → Spells word n
+number_is word n says =
+    let plain = if_some (is_plain_numeral word) (small_number (digits_value 10 word)) n says in
+    let value = cond_some (nat_lt (digits_value 10 word) (2 ^ 32)) (digits_value 10 word) n plain.1 in
+    let small : digits_value 10 word < 2 ^ 32 = grind (arith, nat_tests, value.0) in
+    let parts = plain_is word plain.0 in
+    record {
+      is = ap decimal (sym value.1)
+          ∙ decimal-digits_value own word parts.digits parts.some parts.lead (omega (arith, small));
+      small = omega (arith, small, value.1);
+    }
+
+-- the same of numbers above one
+pub above_read : (least n : ℕ) → least < n → n < 2 ^ 32 → number_above least (decimal n) ≡ Some n
+above_read least n more small =
+    let test : nat_lt least n ≡ true = grind (arith, nat_tests, more) in
+    rw (number_read n small, test) refl
+
+-- and so is one above another
+pub above_is : (least : ℕ) (word : List ℕ) (n : ℕ) → number_above least word ≡ Some n → (least < n) × Spells word n
+above_is least word n says =
+    then_some (λ number. if nat_lt least number then Some number else None) (number_in word) n says (λ number read found.
+    let both = cond_some (nat_lt least number) number n found in (
+      grind (arith, nat_tests, both.0, both.1),
+      number_is word n (read ∙ ap (λ one. Some one) both.1),
+    ))
+
+-- further words of a line, each after a space
+abbrev pub spaced : List (List ℕ) → List ℕ
+spaced words = flat_map (λ (word : List ℕ). 32 ∷ word) words
+
+-- a pass, and the word that spells it
+abbrev pub pass_word : Pass → List ℕ
+pass_word pass = (if pass.back then 45 ∷ [] else []) ++ decimal (pass.line + 1)
+
+-- the text of a pass is its word after a space
+pub pass_spaced : (pass : Pass) → pass_text pass ≡ 32 ∷ pass_word pass
+pass_spaced pass = by_sign pass.back where
+  by_sign : (back : Bool) → (if back then codes " -" else codes " ") ++ decimal (pass.line + 1)
+      ≡ 32 ∷ ((if back then 45 ∷ [] else []) ++ decimal (pass.line + 1))
+  by_sign true = refl
+  by_sign false = refl
+
+-- what a word says of a pass
+pub record SaysPass (word : List ℕ) (pass : Pass) : Type 0 where
+  pub is : pass_word pass ≡ word
+  pub fits : pass.line + 1 < 2 ^ 32
+
+-- a pass that is read from a number
+along_is : (back : Bool) (word : List ℕ) (pass : Pass) → pass_along back word ≡ Some pass
+    → SaysPass ((if back then 45 ∷ [] else []) ++ word) pass
+along_is back word pass says =
+    map_some (λ (number : ℕ). record { line = number - 1; back = back }) (number_above 0 word) pass says (λ number read made.
+    let spells = above_is 0 word number read in
+    let next : number - 1 + 1 ≡ number = omega (arith, spells.0) in
+    subst (λ (one : Pass). SaysPass ((if back then 45 ∷ [] else []) ++ word) one) made (record {
+      is = ap (λ (n : ℕ). (if back then 45 ∷ [] else []) ++ decimal n) next
+          ∙ ap (λ (w : List ℕ). (if back then 45 ∷ [] else []) ++ w) spells.1.is;
+      fits = omega (arith, next, spells.1.small);
+    }))
+
+-- a pass that is read from a word
+pub pass_is : (word : List ℕ) (pass : Pass) → pass_in word ≡ Some pass → SaysPass word pass
+pass_is [] pass says = absurd (none-some pass says)
+pass_is (b ∷ rest) pass says = by_sign (b == 45) refl where
+  by_sign : (minus : Bool) → (b == 45) ≡ minus → SaysPass (b ∷ rest) pass
+  by_sign true is =
+      let first : b ≡ 45 = grind (arith, nat_tests, is) in
+      subst (λ (one : ℕ). SaysPass (one ∷ rest) pass) (sym first) (along_is true rest pass (rw is at says))
+  by_sign false is = along_is false (b ∷ rest) pass (rw is at says)

@@ -1,0 +1,309 @@
+-- The text of a certificate says that certificate.
+use Rattle.std.proofs.Common.{◌≡◌, ◌≢◌, ℕ, ◌+◌, ◌<◌, ◌^◌, ◌==◌, ◌&&◌, Bool, true, false, not, List, [], ◌∷◌, ◌++◌, Option, Some, option_map, Ok, All, bytes_eq, codes, decimal, map, subst, ap, sym, refl, ◌∙◌, append_assoc, append-nil, arith}
+use Rattle.std.proofs.lemmas.Bool.{and_from, and_parts, not-true}
+use Rattle.std.proofs.lemmas.Bool.Decides.{nat_tests}
+use Rattle.std.proofs.lemmas.Fmt.{digits_decimal}
+use Rattle.std.proofs.lemmas.List.Elements.{All-head, All-tail, All-weaker}
+use Rattle.std.proofs.lemmas.List.Folds.{list_all-append}
+use Rattle.std.proofs.lemmas.List.Splits.{slice_split_at, slice_split_none}
+use Rattle.std.proofs.lemmas.List.Sums.{AllPass-from_list_all}
+use Rattle.std.specs.Char.{is_ascii_digit}
+use Rattle.std.specs.List.{flat_map, list_all}
+use Rattle.std.specs.Option.{option_and_then}
+use Rattle.std.specs.Str.{all_ascii_digits}
+use Rattle.line_graph.specs.declared.pass.Pass.{Pass}
+use Rattle.cut_certificate.specs.declared.certificate.PieceCert.{PieceCert}
+use Rattle.certificate_text.specs.declared.draft.Draft.{Draft}
+use Rattle.certificate_text.specs.declared.draft.Draft.TheVariants as draft
+use Rattle.certificate_text.specs.declared.lines.CertLine.{CertLine}
+use Rattle.certificate_text.specs.declared.lines.CertLine.TheVariants as line
+use Rattle.cut_certificate.specs.declared.cut.Cut.{Cut}
+use Rattle.certificate_text.specs.CertificateLines.{cut_in, line_said, parted, walk_in, words_in, words_said}
+use Rattle.cut_certificate.specs.Certificates.{CanBeSpelled}
+use Rattle.certificate_text.specs.CertificateTexts.{certificate_text, cut_text, line_end, member_text, passes_text, piece_text}
+use Rattle.cut_certificate.specs.Packings.{IsPlainCut}
+use Rattle.certificate_text.specs.ReadCertificates.{HasSmallNumbers, cert_of, drafted, judged, said_after, with_cut}
+use Rattle.certificate_text.proofs.ItemWords.{HasMember, HasPass, member_word, members_read, members_spaced, passes_read, passes_spaced, reach_all}
+use Rattle.certificate_text.proofs.LineTexts.{HasCut, HasLine, line_bytes}
+use Rattle.certificate_text.proofs.NumberWords.{above_read, number_read, own, pass_word, spaced}
+use Rattle.certificate_text.proofs.OneText.{HasText}
+use Rattle.certificate_text.proofs.ReadingLemmas.{goes_on, line_judged}
+
+-- a byte that ends neither a word nor a line
+abbrev is_inner : ℕ → Bool
+is_inner b = not (b == 32) && not (b == 10)
+
+-- words of such bytes
+abbrev AreWords : List (List ℕ) → Type 0
+AreWords [] = Unit {0}
+AreWords (word ∷ words) = (list_all is_inner word ≡ true) × AreWords words
+
+-- numbers are words
+digits_inner : (ds : List ℕ) → all_ascii_digits ds ≡ true → list_all is_inner ds ≡ true
+digits_inner [] digits = refl
+digits_inner (b ∷ ds) digits =
+    let both = and_parts (is_ascii_digit b) (all_ascii_digits ds) digits in
+    and_from (is_inner b) (list_all is_inner ds) (grind (arith, nat_tests, both.0)) (digits_inner ds both.1)
+
+-- a spelled number is one
+number_word : (n : ℕ) → n < 2 ^ 32 → list_all is_inner (decimal n) ≡ true
+number_word n small = digits_inner (decimal n) (digits_decimal own n (omega (arith, small)))
+
+-- a spelled pass is one
+pass_inner : (pass : Pass) → HasPass pass → list_all is_inner (pass_word pass) ≡ true
+pass_inner pass has = by_sign pass.back refl where
+  by_sign : (back : Bool) → pass.back ≡ back → list_all is_inner (pass_word pass) ≡ true
+  by_sign true is = rw is (number_word (pass.line + 1) has)
+  by_sign false is = rw is (number_word (pass.line + 1) has)
+
+-- so are those of a walk
+passes_inner : (walk : List Pass) → All HasPass walk → AreWords (map pass_word walk)
+passes_inner [] have = tt
+passes_inner (pass ∷ walk) have =
+    (pass_inner pass (All-head HasPass pass walk have), passes_inner walk (All-tail HasPass pass walk have))
+
+-- and those of members
+members_inner : (members : List ℕ) → All HasMember members → AreWords (map member_word members)
+members_inner [] have = tt
+members_inner (j ∷ members) have =
+    (number_word (j + 1) (All-head HasMember j members have), members_inner members (All-tail HasMember j members have))
+
+-- a word has no space
+no_space : (word : List ℕ) → list_all is_inner word ≡ true → All (λ b. (b == 32) ≡ false) word
+no_space word inner = All-weaker (λ (b : ℕ). is_inner b ≡ true) (λ (b : ℕ). (b == 32) ≡ false)
+    (λ b test. not-true (b == 32) (and_parts (not (b == 32)) (not (b == 10)) test).0) word
+    (AllPass-from_list_all is_inner word inner)
+
+-- words that stand one space apart are read
+words_read : (word : List ℕ) (words : List (List ℕ)) → list_all is_inner word ≡ true → AreWords words
+    → words_in (word ++ spaced words) ≡ word ∷ words
+words_read word [] is are =
+    ap words_in (append-nil word) ∙ slice_split_none (λ (b : ℕ). b == 32) word (no_space word is)
+words_read word (next ∷ words) is are =
+    slice_split_at (λ (b : ℕ). b == 32) word 32 (next ++ spaced words) (no_space word is) refl
+    ∙ ap (λ (more : List (List ℕ)). word ∷ more) (words_read next words are.0 are.1)
+
+-- no byte of them ends a line
+abbrev is_kept : ℕ → Bool
+is_kept b = not (b == 10)
+
+-- a word ends no line
+inner_kept : (word : List ℕ) → list_all is_inner word ≡ true → list_all is_kept word ≡ true
+inner_kept [] inner = refl
+inner_kept (b ∷ word) inner =
+    let both = and_parts (is_inner b) (list_all is_inner word) inner in
+    and_from (is_kept b) (list_all is_kept word) (and_parts (not (b == 32)) (is_kept b) both.0).1 (inner_kept word both.1)
+
+-- nor do words after spaces
+spaced_kept : (words : List (List ℕ)) → AreWords words → list_all is_kept (spaced words) ≡ true
+spaced_kept [] are = refl
+spaced_kept (word ∷ words) are = list_all-append is_kept word (spaced words)
+    ∙ and_from (list_all is_kept word) (list_all is_kept (spaced words)) (inner_kept word are.0) (spaced_kept words are.1)
+
+-- the words of a line
+abbrev line_words : CertLine → List (List ℕ)
+line_words line.Head = codes "redwork-certificate" ∷ codes "1" ∷ []
+line_words (line.Piece retraced) = codes "piece" ∷ decimal retraced ∷ []
+line_words (line.Walk walk) = codes "walk" ∷ map pass_word walk
+line_words (line.Cut cut) = codes "cut" ∷ decimal cut.weight ∷ map member_word cut.members
+line_words line.End = codes "end" ∷ []
+
+-- its bytes are its words, one space apart
+record AreOf (bytes : List ℕ) (words : List (List ℕ)) : Type 0 where
+  first : List ℕ
+  rest : List (List ℕ)
+  split : words ≡ first ∷ rest
+  bytes_are : bytes ≡ first ++ spaced rest
+
+-- the words of each kind of line
+words_of : (l : CertLine) → AreOf (line_bytes l) (line_words l)
+words_of line.Head = record { first = codes "redwork-certificate"; rest = codes "1" ∷ []; split = refl; bytes_are = refl }
+words_of (line.Piece retraced) = record {
+  first = codes "piece";
+  rest = decimal retraced ∷ [];
+  split = refl;
+  bytes_are = ap (λ (text : List ℕ). codes "piece " ++ text) (sym (append-nil (decimal retraced)));
+}
+words_of (line.Walk walk) = record {
+  first = codes "walk";
+  rest = map pass_word walk;
+  split = refl;
+  bytes_are = ap (λ (text : List ℕ). codes "walk" ++ text) (passes_spaced walk);
+}
+words_of (line.Cut cut) = record {
+  first = codes "cut";
+  rest = decimal cut.weight ∷ map member_word cut.members;
+  split = refl;
+  bytes_are = ap (λ (text : List ℕ). codes "cut " ++ (decimal cut.weight ++ text)) (members_spaced cut.members);
+}
+words_of line.End = record { first = codes "end"; rest = []; split = refl; bytes_are = refl }
+
+-- they are words
+line_inner : (l : CertLine) → HasLine l → AreWords (line_words l)
+line_inner line.Head has = (refl, (refl, tt))
+line_inner (line.Piece retraced) has = (refl, (number_word retraced has, tt))
+line_inner (line.Walk walk) has = (refl, passes_inner walk has.1)
+line_inner (line.Cut cut) has = (refl, (number_word cut.weight has.small, members_inner cut.members has.members))
+line_inner line.End has = (refl, tt)
+
+-- so it is one line, of these words
+record IsLine (l : CertLine) : Type 0 where
+  words : words_in (line_bytes l) ≡ line_words l
+  kept : list_all is_kept (line_bytes l) ≡ true
+
+-- each line that can be spelled is such a line
+is_line : (l : CertLine) → HasLine l → IsLine l
+is_line l has =
+    let of = words_of l in
+    let inner = subst (λ (words : List (List ℕ)). AreWords words) of.split (line_inner l has) in
+    record {
+      words = ap words_in of.bytes_are ∙ (words_read of.first of.rest inner.0 inner.1 ∙ sym of.split);
+      kept = ap (list_all is_kept) of.bytes_are ∙ (list_all-append is_kept of.first (spaced of.rest)
+          ∙ and_from (list_all is_kept of.first) (list_all is_kept (spaced of.rest)) (inner_kept of.first inner.0)
+          (spaced_kept of.rest inner.1));
+    }
+
+-- a walk with a pass is read
+walk_read : (walk : List Pass) → walk ≢ [] → All HasPass walk → walk_in (map pass_word walk) ≡ Some walk
+walk_read [] some have = absurd (some refl)
+walk_read (pass ∷ walk) some have = passes_read (pass ∷ walk) have
+
+-- and a plain cut
+cut_read : (cut : Cut) → HasCut cut → cut_in (decimal cut.weight ∷ map member_word cut.members) ≡ Some cut
+cut_read cut has =
+    rw (above_read 0 cut.weight has.plain.heavy has.small, members_read 0 cut.members (reach_all cut.members) has.plain.rising has.members)
+    refl
+
+-- a line that is neither the first one nor the last one is read by its words
+by_words : (bytes : List ℕ) → bytes_eq bytes (codes "redwork-certificate 1") ≡ false → bytes_eq bytes (codes "end") ≡ false
+    → line_said bytes ≡ words_said (words_in bytes)
+by_words bytes head end = rw (head, end) refl
+
+-- the text of a line says it
+line_read : (l : CertLine) → HasLine l → line_said (line_bytes l) ≡ Some l
+line_read line.Head has = refl
+line_read (line.Piece retraced) has =
+    by_words (line_bytes (line.Piece retraced)) refl refl ∙ (ap words_said (is_line (line.Piece retraced) has).words
+    ∙ ap (λ number. option_map line.Piece number) (number_read retraced has))
+line_read (line.Walk walk) has =
+    by_words (line_bytes (line.Walk walk)) refl refl ∙ (ap words_said (is_line (line.Walk walk) has).words
+    ∙ ap (λ passes. option_map line.Walk passes) (walk_read walk has.0 has.1))
+line_read (line.Cut cut) has =
+    by_words (line_bytes (line.Cut cut)) refl refl ∙ (ap words_said (is_line (line.Cut cut) has).words
+    ∙ ap (λ one. option_map line.Cut one) (cut_read cut has))
+line_read line.End has = refl
+
+-- no byte of a line ends a line
+abbrev pub Lacks : List ℕ → Type 0
+Lacks bytes = All (λ b. (b == 10) ≡ false) bytes
+
+-- the lines behind a draft say these pieces, whatever their numbers
+abbrev pub SayOn : Draft → List ℕ → List PieceCert → Type 0
+SayOn said text pieces = (number : ℕ) → said_after number said (parted 10 text) ≡ Ok pieces
+
+-- one line before others
+pub next_judged : (number : ℕ) (said : Draft) (bytes text : List ℕ) → Lacks bytes
+    → said_after number said (parted 10 (bytes ++ 10 ∷ text)) ≡ goes_on number (drafted said bytes) (parted 10 text)
+next_judged number said bytes text lacks =
+    line_judged number said (bytes ++ 10 ∷ text) bytes text (slice_split_at (λ (b : ℕ). b == 10) bytes 10 text lacks refl)
+
+-- the same of a line by what it says
+pub line_before : (said new : Draft) (l : CertLine) (text : List ℕ) (pieces : List PieceCert) → HasLine l
+    → judged said l ≡ Some new → SayOn new text pieces → SayOn said (line_bytes l ++ 10 ∷ text) pieces
+line_before said new l text pieces has fits rest number =
+    let kept : Lacks (line_bytes l) =
+    All-weaker (λ (b : ℕ). is_kept b ≡ true) (λ (b : ℕ). (b == 10) ≡ false) (λ b test. not-true (b == 10) test)
+    (line_bytes l) (AllPass-from_list_all is_kept (line_bytes l) (is_line l has).kept) in
+    let next : drafted said (line_bytes l) ≡ Some new =
+    ap (λ one. option_and_then (judged said) one) (line_read l has) ∙ fits in
+    next_judged number said (line_bytes l) text kept
+    ∙ (ap (λ (one : Option Draft). goes_on number one (parted 10 text)) next ∙ rest (number + 1))
+
+-- the cuts of a piece before them
+cut_before : (cut : Cut) (text : List ℕ) → cut_text cut ++ text ≡ line_bytes (line.Cut cut) ++ 10 ∷ text
+cut_before cut text = ap (λ (more : List ℕ). codes "cut " ++ more)
+    (append_assoc (decimal cut.weight) (flat_map member_text cut.members ++ line_end) text
+    ∙ (ap (λ (more : List ℕ). decimal cut.weight ++ more) (append_assoc (flat_map member_text cut.members) line_end text)
+    ∙ sym (append_assoc (decimal cut.weight) (flat_map member_text cut.members) (10 ∷ text))))
+
+-- a piece with these cuts more
+abbrev with_cuts : PieceCert → List Cut → PieceCert
+with_cuts piece cuts = record piece { cuts = piece.cuts ++ cuts }
+
+-- the cuts are added one after another
+cuts_before : (cuts : List Cut) (done : List PieceCert) (piece : PieceCert) (text : List ℕ) (pieces : List PieceCert)
+    → All HasCut cuts → SayOn (draft.Within done (with_cuts piece cuts)) text pieces
+    → SayOn (draft.Within done piece) (flat_map cut_text cuts ++ text) pieces
+cuts_before [] done piece text pieces have rest =
+    subst (λ (one : List Cut). SayOn (draft.Within done (record piece { cuts = one })) text pieces) (append-nil piece.cuts) rest
+cuts_before (cut ∷ cuts) done piece text pieces have rest =
+    let behind : List ℕ = flat_map cut_text cuts ++ text in
+    let parts : flat_map cut_text (cut ∷ cuts) ++ text ≡ line_bytes (line.Cut cut) ++ 10 ∷ behind =
+    append_assoc (cut_text cut) (flat_map cut_text cuts) text ∙ cut_before cut behind in
+    let same : piece.cuts ++ cut ∷ cuts ≡ (with_cut piece cut).cuts ++ cuts = sym (append_assoc piece.cuts (cut ∷ []) cuts) in
+    let others : SayOn (draft.Within done (with_cut piece cut)) behind pieces =
+    cuts_before cuts done (with_cut piece cut) text pieces (All-tail HasCut cut cuts have)
+    (subst (λ (one : List Cut). SayOn (draft.Within done (record piece { cuts = one })) text pieces) same rest) in
+    subst (λ (bytes : List ℕ). SayOn (draft.Within done piece) bytes pieces) (sym parts)
+    (line_before (draft.Within done piece) (draft.Within done (with_cut piece cut)) (line.Cut cut) behind pieces
+    (All-head HasCut cut cuts have) refl others)
+
+-- behind a draft a piece may begin, or the certificate may end, with these pieces done
+record Awaits (said : Draft) (done : List PieceCert) : Type 0 where
+  opens : (retraced : ℕ) → judged said (line.Piece retraced) ≡ Some (draft.Opened done retraced)
+  ends : judged said line.End ≡ Some (draft.Ended done)
+
+-- the cuts of a piece that can be spelled
+cuts_have : (cuts : List Cut) → All IsPlainCut cuts → All (λ (cut : Cut). All HasMember cut.members) cuts
+    → All (λ (cut : Cut). cut.weight < 2 ^ 32) cuts → All HasCut cuts
+cuts_have cuts plain members small = λ k d there. record { plain = plain k d there; small = small k d there; members = members k d there }
+
+-- a piece before them
+piece_before : (said : Draft) (done : List PieceCert) (piece : PieceCert) (text : List ℕ) (pieces : List PieceCert)
+    → Awaits said done → HasText piece → SayOn (draft.Within done piece) text pieces
+    → SayOn said (piece_text piece ++ text) pieces
+piece_before said done piece text pieces awaits has rest =
+    let cost : List ℕ = decimal piece.retraced in
+    let passes : List ℕ = passes_text piece.walk in
+    let cuts : List ℕ = flat_map cut_text piece.cuts in
+    let begun : PieceCert = record { retraced = piece.retraced; walk = piece.walk; cuts = [] } in
+    let have : All HasCut piece.cuts =
+    cuts_have piece.cuts has.spelled.plain has.spelled.members has.small.weights in
+    let parts : piece_text piece ++ text
+    ≡ line_bytes (line.Piece piece.retraced) ++ 10 ∷ (line_bytes (line.Walk piece.walk) ++ 10 ∷ (cuts ++ text)) =
+    ap (λ (more : List ℕ). codes "piece " ++ more) (append_assoc cost (10 ∷ (codes "walk" ++ (passes ++ 10 ∷ cuts))) text
+    ∙ ap (λ (more : List ℕ). cost ++ 10 ∷ (codes "walk" ++ more)) (append_assoc passes (10 ∷ cuts) text)) in
+    let behind : SayOn (draft.Within done begun) (cuts ++ text) pieces =
+    cuts_before piece.cuts done begun text pieces have rest in
+    let walked : SayOn (draft.Opened done piece.retraced) (line_bytes (line.Walk piece.walk) ++ 10 ∷ (cuts ++ text)) pieces =
+    line_before (draft.Opened done piece.retraced) (draft.Within done begun) (line.Walk piece.walk) (cuts ++ text) pieces
+    (has.spelled.some, has.spelled.passes) refl behind in
+    subst (λ (bytes : List ℕ). SayOn said bytes pieces) (sym parts)
+    (line_before said (draft.Opened done piece.retraced) (line.Piece piece.retraced) _ pieces
+    has.small.retraced (awaits.opens piece.retraced) walked)
+
+-- the pieces and the end
+pieces_say : (pieces : List PieceCert) (said : Draft) (done : List PieceCert) → Awaits said done → All HasText pieces
+    → SayOn said (flat_map piece_text pieces ++ (codes "end" ++ line_end)) (done ++ pieces)
+pieces_say [] said done awaits have =
+    subst (λ (all : List PieceCert). SayOn said (codes "end" ++ line_end) all) (sym (append-nil done))
+    (line_before said (draft.Ended done) line.End [] done tt awaits.ends (λ number. refl))
+pieces_say (piece ∷ pieces) said done awaits have =
+    let rest : List ℕ = flat_map piece_text pieces ++ (codes "end" ++ line_end) in
+    let next : Awaits (draft.Within done piece) (done ++ piece ∷ []) = record { opens = λ retraced. refl; ends = refl } in
+    let others : SayOn (draft.Within done piece) rest ((done ++ piece ∷ []) ++ pieces) =
+    pieces_say pieces (draft.Within done piece) (done ++ piece ∷ []) next (All-tail HasText piece pieces have) in
+    let whole : SayOn (draft.Within done piece) rest (done ++ piece ∷ pieces) =
+    subst (λ (all : List PieceCert). SayOn (draft.Within done piece) rest all) (append_assoc done (piece ∷ []) pieces) others in
+    subst (λ (bytes : List ℕ). SayOn said bytes (done ++ piece ∷ pieces))
+    (sym (append_assoc (piece_text piece) (flat_map piece_text pieces) (codes "end" ++ line_end)))
+    (piece_before said done piece rest (done ++ piece ∷ pieces) awaits (All-head HasText piece pieces have) whole)
+
+-- the whole text
+pub text_says : (pieces : List PieceCert) → All CanBeSpelled pieces → All HasSmallNumbers pieces
+    → cert_of (certificate_text pieces) ≡ Ok pieces
+text_says pieces spelled small =
+    let rest : List ℕ = flat_map piece_text pieces ++ (codes "end" ++ line_end) in
+    let next : Awaits draft.Headed [] = record { opens = λ retraced. refl; ends = refl } in
+    let have : All HasText pieces = λ k d there. record { spelled = spelled k d there; small = small k d there } in
+    line_before draft.Blank draft.Headed line.Head rest pieces tt refl (pieces_say pieces draft.Headed [] next have) 1

@@ -1,0 +1,37 @@
+-- The certificate of a route: for each piece its retraced cost, its walk and its cuts. Own text: every line
+-- ends with the byte 10, words are separated by one space, and numbers are decimal without leading zeros.
+use Rattle.std.specs.Prelude.{ℕ, ◌+◌, List, [], ◌∷◌, ◌++◌, codes, decimal, if◌then◌else◌}
+use Rattle.std.specs.List.{flat_map}
+use Rattle.cut_certificate.specs.declared.certificate.PieceCert.{PieceCert}
+use Rattle.cut_certificate.specs.declared.cut.Cut.{Cut}
+use Rattle.line_graph.specs.declared.pass.Pass.{Pass}
+
+-- the end of a line of text
+abbrev pub line_end : List ℕ
+line_end = 10 ∷ []
+
+-- a pass: its line by number from 1, with a minus where it goes backwards
+abbrev pub pass_text : Pass → List ℕ
+pass_text pass = (if pass.back then codes " -" else codes " ") ++ decimal (pass.line + 1)
+
+-- the passes of a walk, each after a space
+abbrev pub passes_text : List Pass → List ℕ
+passes_text walk = flat_map pass_text walk
+
+-- a junction by number from 1, after a space
+abbrev pub member_text : ℕ → List ℕ
+member_text j = codes " " ++ decimal (j + 1)
+
+-- a cut: its weight in halves, and its members
+abbrev pub cut_text : Cut → List ℕ
+cut_text cut = codes "cut " ++ (decimal cut.weight ++ (flat_map member_text cut.members ++ line_end))
+
+-- the lines of a piece
+abbrev pub piece_text : PieceCert → List ℕ
+piece_text piece = codes "piece " ++ (decimal piece.retraced ++ (line_end
+    ++ (codes "walk" ++ (passes_text piece.walk ++ (line_end ++ flat_map cut_text piece.cuts)))))
+
+-- the whole text
+abbrev pub certificate_text : List PieceCert → List ℕ
+certificate_text pieces = codes "redwork-certificate 1" ++ (line_end ++ (flat_map piece_text pieces
+    ++ (codes "end" ++ line_end)))

@@ -1,0 +1,117 @@
+-- The certificate that a text says, or the number of its first line that doesn't fit. Own text:
+-- lines, each ended by the byte 10 and judged by those before it. Lines of the text count from 1.
+use Rattle.std.specs.Prelude.{◌≡◌, ℕ, ◌+◌, ◌-◌, ◌<◌, ◌≤◌, ◌^◌, List, [], ◌∷◌, ◌++◌, Option, Some, None, Result, Ok, Err, All, length, take}
+use Rattle.std.specs.List.{flat_map}
+use Rattle.std.specs.Option.{ok_or, option_and_then}
+use Rattle.cut_certificate.specs.declared.certificate.Cert.{Cert}
+use Rattle.cut_certificate.specs.declared.certificate.PieceCert.{PieceCert}
+use Rattle.certificate_text.specs.declared.draft.Draft.{Draft}
+use Rattle.certificate_text.specs.declared.draft.Draft.TheVariants as draft
+use Rattle.certificate_text.specs.declared.lines.CertLine.{CertLine}
+use Rattle.certificate_text.specs.declared.lines.CertLine.TheVariants as line
+use Rattle.certificate_text.specs.declared.reading.CertFault.{CertFault}
+use Rattle.certificate_text.specs.declared.reading.CertFault.TheVariants as fault
+use Rattle.cut_certificate.specs.declared.cut.Cut.{Cut}
+use Rattle.certificate_text.specs.CertificateLines.{line_said, parted}
+use Rattle.cut_certificate.specs.Certificates.{CanBeSpelled}
+use Rattle.certificate_text.specs.CertificateTexts.{certificate_text}
+use Rattle.line_graph.specs.Growing.{and_then}
+
+-- a piece with one cut more
+abbrev pub with_cut : PieceCert → Cut → PieceCert
+with_cut piece cut = record piece { cuts = piece.cuts ++ cut ∷ [] }
+
+-- what the lines say with one more of that meaning, where it may stand there
+abbrev pub judged : Draft → CertLine → Option Draft
+judged draft.Blank line.Head = Some draft.Headed
+judged draft.Headed (line.Piece retraced) = Some (draft.Opened [] retraced)
+judged draft.Headed line.End = Some (draft.Ended [])
+judged (draft.Opened done retraced) (line.Walk walk) =
+    Some (draft.Within done (record { retraced = retraced; walk = walk; cuts = [] }))
+judged (draft.Within done piece) (line.Cut cut) = Some (draft.Within done (with_cut piece cut))
+judged (draft.Within done piece) (line.Piece retraced) =
+    Some (draft.Opened (done ++ piece ∷ []) retraced)
+judged (draft.Within done piece) line.End = Some (draft.Ended (done ++ piece ∷ []))
+judged said other = None
+
+-- the same for a line by its bytes
+abbrev pub drafted : Draft → List ℕ → Option Draft
+drafted said bytes = option_and_then (judged said) (line_said bytes)
+
+-- what is said where the text ends before the line of that number, with these bytes behind
+-- the last one
+abbrev pub at_end : ℕ → Draft → List ℕ → Result (List PieceCert) ℕ
+at_end number (draft.Ended pieces) [] = Ok pieces
+at_end number said rest = Err number
+
+-- what the lines from that number on say, after those that say the draft; the last part is what
+-- stands behind the last line
+abbrev pub said_after : ℕ → Draft → List (List ℕ) → Result (List PieceCert) ℕ
+said_after number said [] = Err number
+said_after number said (rest ∷ []) = at_end number said rest
+said_after number said (bytes ∷ next ∷ more) =
+    and_then (ok_or (drafted said bytes) number) (λ new. said_after (number + 1) new (next ∷ more))
+
+-- the certificate that a text says, or the number of its first line that doesn't fit
+abbrev pub cert_of : List ℕ → Result (List PieceCert) ℕ
+cert_of text = said_after 1 draft.Blank (parted 10 text)
+
+-- what each answer of a reader means
+abbrev pub ReadsCert : Result (List PieceCert) ℕ → Result Cert CertFault → Type 0
+ReadsCert said (Ok cert) = said ≡ Ok cert.pieces
+ReadsCert said (Err (fault.BadLine number)) = said ≡ Err number
+ReadsCert said (Err fault.Memory) = Unit {0}
+
+-- the numbers of a piece that have no place in a list are below 2 ^ 32 too
+pub record HasSmallNumbers (piece : PieceCert) : Type 0 where
+  pub retraced : piece.retraced < 2 ^ 32
+  pub weights : All (λ (cut : Cut). cut.weight < 2 ^ 32) piece.cuts
+
+-- no list of a piece has as many items as the greatest number below 2 ^ 32
+pub record HasFewItems (piece : PieceCert) : Type 0 where
+  pub passes : length piece.walk < 2 ^ 32 - 1
+  pub cuts : length piece.cuts < 2 ^ 32 - 1
+  pub members : All (λ (cut : Cut). length cut.members < 2 ^ 32 - 1) piece.cuts
+
+-- nor are there as many pieces
+pub record AreFew (pieces : List PieceCert) : Type 0 where
+  pub few : length pieces < 2 ^ 32 - 1
+  pub each : All HasFewItems pieces
+
+-- the text of pieces says these pieces
+abbrev pub TextSays : Type 0
+TextSays = (pieces : List PieceCert) → All CanBeSpelled pieces → All HasSmallNumbers pieces
+    → cert_of (certificate_text pieces) ≡ Ok pieces
+
+-- a text that says pieces is their text, so that they have no other
+abbrev pub SaysInOneText : Type 0
+SaysInOneText = (text : List ℕ) (pieces : List PieceCert) → cert_of text ≡ Ok pieces
+    → text ≡ certificate_text pieces
+
+-- pieces that a text says can be spelled, and their numbers are small
+abbrev pub SaidCanBeSpelled : Type 0
+SaidCanBeSpelled = (text : List ℕ) (pieces : List PieceCert) → cert_of text ≡ Ok pieces
+    → All CanBeSpelled pieces × All HasSmallNumbers pieces
+
+-- the first lines of a text, so many of them, with their ends
+abbrev pub first_lines : ℕ → List ℕ → List ℕ
+first_lines count text =
+    flat_map (λ (bytes : List ℕ). bytes ++ 10 ∷ []) (take count (parted 10 text))
+
+-- bytes with which a text begins that says pieces
+pub record Begins (bytes : List ℕ) : Type 0 where
+  pub rest : List ℕ
+  pub pieces : List PieceCert
+  pub says : cert_of (bytes ++ rest) ≡ Ok pieces
+
+-- the line of that number is the first one that doesn't fit: a certificate begins with the lines
+-- before it, and, unless the text ends within that line, none begins with these and that line
+pub record IsFirstUnfit (text : List ℕ) (number : ℕ) : Type 0 where
+  pub from : 1 ≤ number
+  pub to : number ≤ length (parted 10 text)
+  pub before : Begins (first_lines (number - 1) text)
+  pub here : number < length (parted 10 text) → Begins (first_lines number text) → ⊥
+
+-- the number that is told is that of the first line that doesn't fit
+abbrev pub TellsTheFirst : Type 0
+TellsTheFirst = (text : List ℕ) (number : ℕ) → cert_of text ≡ Err number → IsFirstUnfit text number

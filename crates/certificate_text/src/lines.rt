@@ -1,0 +1,158 @@
+ghost use Rattle.std.specs.Prelude.{◌≡◌, ◌∷◌, ◌<◌, IfOk, IfSome, option_map};
+ghost use Rattle.certificate_text.specs.declared.lines.CertLine.TheVariants as line;
+ghost use Rattle.certificate_text.specs.CertificateLines.{cut_in, line_said, members_after, number_above as above, only_number, pass_along as along, pass_in, passes_in, walk_in, words_in, words_said};
+
+use crate::words::{number_in, spells, split_first};
+use cut_certificate::Cut;
+use design_model::{Memory, Numbers};
+use line_graph::{Pass, Walk};
+use std::alloc::Global;
+
+/// What one line of a certificate says.
+#[derive(Debug, Drop)]
+pub enum CertLine {
+    /// A certificate begins.
+    Head,
+    /// A piece begins, whose walk costs so many steps above its lines.
+    Piece(u32),
+    /// The walk of the piece.
+    Walk(Walk),
+    /// A cut of the piece.
+    Cut(Cut),
+    /// The certificate ends.
+    End,
+}
+
+/// What the bytes of a line say, if they say anything.
+pub(crate) fn line_of(alloc: Global, line: &[u8]) -> Result<Option<CertLine>, Memory>
+    ensures { IfOk result (λ said. said ≡ line_said line.now) }
+{
+    if spells(line, "redwork-certificate 1") {
+        return Ok(Some(CertLine::Head));
+    }
+    if spells(line, "end") {
+        return Ok(Some(CertLine::End));
+    }
+    let Some((word, rest)) = split_first(line, b' ') else {
+        return Ok(None);
+    };
+    line_of_words(alloc, word, rest)
+}
+
+fn line_of_words(alloc: Global, word: &[u8], rest: &[u8]) -> Result<Option<CertLine>, Memory>
+    ensures { IfOk result (λ said. said ≡ words_said (word.now ∷ words_in rest.now)) }
+{
+    if spells(word, "piece") {
+        return Ok(piece_line(rest));
+    }
+    if spells(word, "walk") {
+        return walk_line(alloc, rest);
+    }
+    if spells(word, "cut") {
+        return cut_line(alloc, rest);
+    }
+    Ok(None)
+}
+
+fn piece_line(words: &[u8]) -> Option<CertLine>
+    ensures { result ≡ option_map line.Piece (only_number (words_in words.now)) }
+{
+    match split_first(words, b' ') {
+        Some(_) => None,
+        None => Some(CertLine::Piece(number_in(words)?)),
+    }
+}
+
+fn walk_line(alloc: Global, words: &[u8]) -> Result<Option<CertLine>, Memory>
+    ensures { IfOk result (λ said. said ≡ option_map line.Walk (walk_in (words_in words.now))) }
+{
+    match passes_of(alloc, words)? {
+        Some(walk) => Ok(Some(CertLine::Walk(walk))),
+        None => Ok(None),
+    }
+}
+
+fn passes_of(alloc: Global, words: &[u8]) -> Result<Option<Walk>, Memory>
+    ensures { IfOk result (λ walk. walk ≡ passes_in (words_in words.now)) }
+{
+    let mut walk = Walk::new(alloc);
+    let mut rest = words;
+    while let Some((word, after)) = split_first(rest, b' ') {
+        let Some(pass) = pass_of(word) else {
+            return Ok(None);
+        };
+        walk.push(pass)?;
+        rest = after;
+    }
+    let Some(pass) = pass_of(rest) else {
+        return Ok(None);
+    };
+    walk.push(pass)?;
+    Ok(Some(walk))
+}
+
+fn pass_of(word: &[u8]) -> Option<Pass>
+    ensures { result ≡ pass_in word.now }
+{
+    match word {
+        [first, number @ ..] if *first == b'-' => pass_along(true, number),
+        _ => pass_along(false, word),
+    }
+}
+
+fn pass_along(back: bool, word: &[u8]) -> Option<Pass>
+    ensures { result ≡ along back word.now }
+{
+    let line = number_above(0, word)? - 1;
+    Some(Pass { line, back })
+}
+
+fn cut_line(alloc: Global, words: &[u8]) -> Result<Option<CertLine>, Memory>
+    ensures { IfOk result (λ said. said ≡ option_map line.Cut (cut_in (words_in words.now))) }
+{
+    let (word, rest) = match split_first(words, b' ') {
+        Some((word, rest)) => (word, Some(rest)),
+        None => (words, None),
+    };
+    let Some(weight) = number_above(0, word) else {
+        return Ok(None);
+    };
+    let members = match rest {
+        Some(rest) => members_of(alloc, rest)?,
+        None => Some(Numbers::new(alloc)),
+    };
+    match members {
+        Some(members) => Ok(Some(CertLine::Cut(Cut { weight, members }))),
+        None => Ok(None),
+    }
+}
+
+fn members_of(alloc: Global, words: &[u8]) -> Result<Option<Numbers>, Memory>
+    ensures { IfOk result (λ members. members ≡ members_after 0 (words_in words.now)) }
+{
+    let mut members = Numbers::new(alloc);
+    let mut before: u32 = 0;
+    let mut rest = words;
+    while let Some((word, after)) = split_first(rest, b' ') {
+        let Some(number) = number_above(before, word) else {
+            return Ok(None);
+        };
+        members.push(number - 1)?;
+        before = number;
+        rest = after;
+    }
+    let Some(number) = number_above(before, rest) else {
+        return Ok(None);
+    };
+    members.push(number - 1)?;
+    Ok(Some(members))
+}
+
+/// The number that a word spells, where it is greater than that one.
+fn number_above(least: u32, word: &[u8]) -> Option<u32>
+    ensures value { result ≡ above least word.now }
+    ensures more { IfSome result (λ number. least < number) }
+{
+    let number = number_in(word)?;
+    if least < number { Some(number) } else { None }
+}

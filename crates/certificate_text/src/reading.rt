@@ -1,0 +1,65 @@
+ghost use Rattle.std.specs.Prelude.{◌≡◌, ◌≤◌, All, IfOk, length};
+ghost use Rattle.cut_certificate.specs.Certificates.{CanBeSpelled};
+ghost use Rattle.certificate_text.specs.CertificateTexts.{certificate_text};
+ghost use Rattle.certificate_text.specs.ReadCertificates.{AreFew, ReadsCert, cert_of};
+
+use crate::draft::Draft;
+use crate::words::split_first;
+use cut_certificate::Cert;
+use design_model::Memory;
+use std::alloc::Global;
+
+/// The most bytes of a certificate's text.
+pub const MAX_CERT: usize = 67_108_864;
+
+/// Why a text is no certificate. Lines of a text count from 1.
+#[derive(Clone, Copy, Debug, PartialEq, Eq)]
+pub enum CertFault {
+    /// The first line that doesn't fit, or the one that is missing where the text ends too early.
+    BadLine { number: u32 },
+    /// Memory was wanted and not found.
+    Memory,
+}
+
+impl From<Memory> for CertFault {
+    ghost use Rattle.certificate_text.specs.declared.reading.CertFault.TheVariants as fault;
+
+    ghost from_gives = { λ _ e. e ≡ fault.Memory };
+
+    fn from(_memory: Memory) -> CertFault {
+        CertFault::Memory
+    }
+}
+
+/// The certificate that a text says.
+pub fn read_cert(alloc: Global, bytes: &[u8]) -> Result<Cert, CertFault>
+    requires { length bytes.now ≤ MAX_CERT }
+    ensures value { ReadsCert (cert_of bytes.now) result }
+    ensures text { IfOk result (λ cert. bytes.now ≡ certificate_text cert.pieces) }
+    ensures spelled { IfOk result (λ cert. All CanBeSpelled cert.pieces) }
+    ensures few { IfOk result (λ cert. AreFew cert.pieces) }
+{
+    let cert = read_lines(alloc, bytes)?;
+    Ok(cert)
+}
+
+fn read_lines(alloc: Global, bytes: &[u8]) -> Result<Cert, CertFault>
+    requires { length bytes.now ≤ MAX_CERT }
+    ensures { ReadsCert (cert_of bytes.now) result }
+{
+    let mut draft = Draft::Blank;
+    let mut number: u32 = 1;
+    let mut rest = bytes;
+    while let Some((line, after)) = split_first(rest, b'\n') {
+        match draft.with_line(alloc, line)? {
+            Some(next) => draft = next,
+            None => return Err(CertFault::BadLine { number }),
+        }
+        number += 1;
+        rest = after;
+    }
+    match draft {
+        Draft::Ended { pieces } if rest.is_empty() => Ok(Cert { pieces }),
+        _ => Err(CertFault::BadLine { number }),
+    }
+}

@@ -1,0 +1,92 @@
+ghost use Rattle.std.specs.Prelude.{◌≡◌, ◌≤◌, ◌<◌, ◌∷◌, ◌+◌, ◌*◌, ◌==◌, ◌^◌, [], None, bytes_eq, length, min, true, IfNone, IfSome};
+ghost use Rattle.std.specs.Char.{digit_value, is_ascii_digit};
+ghost use Rattle.std.specs.List.{position_or_len};
+ghost use Rattle.std.specs.Str.{all_ascii_digits};
+ghost use Rattle.std.specs.Str.Parse.{digits_value};
+ghost use Rattle.certificate_text.specs.CertificateLines.{is_plain_numeral as is_plain, number_in as number_spelled, parted};
+
+/// What stands before the first byte that is the mark and what stands behind it, where there is one.
+pub(crate) fn split_first(bytes: &[u8], mark: u8) -> Option<(&[u8], &[u8])>
+    ensures some { IfSome result (λ r. parted mark bytes.now ≡ r.0.now ∷ parted mark r.1.now) }
+    ensures shorter { IfSome result (λ r. length r.1.now < length bytes.now) }
+    ensures none { IfNone result (parted mark bytes.now ≡ bytes.now ∷ []) }
+{
+    let (before, from) = bytes.split_at(first_place(bytes, mark));
+    if from.is_empty() {
+        return None;
+    }
+    let (_, behind) = from.split_at(1);
+    Some((before, behind))
+}
+
+fn first_place(bytes: &[u8], mark: u8) -> usize
+    ensures value { result ≡ position_or_len (λ b. b == mark) bytes.now }
+    ensures within { result ≤ length bytes.now }
+{
+    for (index, byte) in bytes.iter().enumerate() {
+        if *byte == mark {
+            return index;
+        }
+    }
+    bytes.len()
+}
+
+/// The number below 2 ^ 32 that a word of any length spells without leading zeros.
+pub(crate) fn number_in(word: &[u8]) -> Option<u32>
+    ensures { result ≡ number_spelled word.now }
+{
+    if !is_plain_numeral(word) {
+        return None;
+    }
+    u32::try_from(capped_value(word)).ok()
+}
+
+fn is_plain_numeral(word: &[u8]) -> bool
+    ensures { result ≡ is_plain word.now }
+{
+    match word {
+        [] => false,
+        [digit] => digit.is_ascii_digit(),
+        [first, ..] => *first != b'0' && are_digits(word),
+    }
+}
+
+fn are_digits(bytes: &[u8]) -> bool
+    ensures { result ≡ all_ascii_digits bytes.now }
+{
+    for byte in bytes {
+        if !byte.is_ascii_digit() {
+            return false;
+        }
+    }
+    true
+}
+
+/// What the digits write, or 2 ^ 32 where that is less.
+#[tactic(auto, using(crate::proofs::NumeralLemmas::capped_more, crate::proofs::NumeralLemmas::digit_among))]
+fn capped_value(digits: &[u8]) -> u64
+    requires { all_ascii_digits digits.now ≡ true }
+    ensures { result ≡ min (digits_value 10 digits.now) (2 ^ 32) }
+{
+    let mut value: u64 = 0;
+    for digit in digits {
+        value = capped_with(value, *digit);
+    }
+    value
+}
+
+/// The same with one digit more at the end.
+fn capped_with(value: u64, digit: u8) -> u64
+    requires digit { is_ascii_digit digit ≡ true }
+    requires value { value ≤ 2 ^ 32 }
+    ensures { result ≡ min (value * 10 + digit_value digit) (2 ^ 32) }
+{
+    (value * 10 + u64::from(digit - b'0')).min(1 << 32)
+}
+
+/// Says whether a word is this text.
+pub(crate) fn spells(word: &[u8], text: &str) -> bool
+    ensures { result ≡ bytes_eq word.now text.now }
+{
+    word == text.as_bytes()
+}

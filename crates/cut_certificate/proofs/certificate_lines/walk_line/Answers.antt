@@ -1,8 +1,0 @@
-use Rattle.std.proofs.Common.{ap, sym, ◌∙◌, option_map}
-use Rattle.cut_certificate.specs.declared.certificate_lines.CertLine.TheVariants as line
-use Rattle.cut_certificate.proofs.WordsLemmas.{walk_of_words}
-use Rattle.cut_certificate.proofs.certificate_lines.walk_line.Goals as goal
-
-pub returns-in-Some : goal.returns-in-Some
-returns-in-Some c =
-    ap (λ walk. option_map line.Walk walk) (sym c.in-Some.is ∙ (c.in_ok-walk.ensures ∙ sym (walk_of_words c.args.words.now)))

@@ -1,8 +1,0 @@
-use Rattle.std.proofs.Common.{◌≡◌, ◌++◌, drop}
-use Rattle.std.specs.List.{flat_map}
-use Rattle.cut_certificate.specs.CertificateTexts.{member_text}
-use Rattle.cut_certificate.proofs.certificate_text.put_members.Given as goal
-
--- the text so far, and that of the members that are left
-abbrev pub invariant-loop-member : goal.invariant-loop-member
-invariant-loop-member l = l.text ++ flat_map member_text (drop l.member-index l.members) ≡ l.fn.text ++ flat_map member_text l.members

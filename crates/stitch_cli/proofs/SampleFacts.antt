@@ -1,0 +1,46 @@
+-- Worked values of what a sample tells.
+use Rattle.std.proofs.Common.{◌≡◌, ℕ, ℤ, pos, negsuc, [], ◌∷◌, ◌++◌, refl}
+use Rattle.std.specs.Fmt.{digits}
+use Rattle.std.specs.Prelude.{codes}
+use Rattle.cut_certificate.specs.declared.certificate.PieceCert.{PieceCert}
+use Rattle.certificate_text.specs.CertificateTexts.{line_end}
+use Rattle.design_model.specs.declared.point.Point.{Point}
+use Rattle.line_graph.specs.Drawings.{DrawingValue}
+use Rattle.stitch_cli.specs.Samples.{summary_of}
+use Rattle.stitch_cli.specs.Texts.{summary_text}
+
+abbrev at : ℤ → ℤ → Point
+at x y = record { x = x; y = y }
+
+-- three ways of 1, 3 and 5 steps between two junctions, and a line of 4 steps from the second to a third
+abbrev kite : DrawingValue
+kite = record {
+  label = [];
+  step = 10;
+  threads = 1 ∷ [];
+  lines = record { block = 0; points = at (pos 0) (pos 0) ∷ at (pos 10) (pos 0) ∷ [] }
+      ∷ record { block = 0; points = at (pos 0) (pos 0) ∷ at (pos 0) (pos 10) ∷ at (pos 10) (pos 10) ∷ at (pos 10) (pos 0) ∷ [] }
+      ∷ record {
+        block = 0;
+        points = at (pos 0) (pos 0) ∷ at (pos 0) (negsuc 19) ∷ at (pos 10) (negsuc 19) ∷ at (pos 10) (pos 0) ∷ [];
+      }
+      ∷ record { block = 0; points = at (pos 10) (pos 0) ∷ at (pos 50) (pos 0) ∷ [] } ∷ [];
+}
+
+-- the shortest way and the line to the third junction are sewn again, and cuts of 2 and 8 halves say so
+abbrev again : PieceCert
+again = record {
+  retraced = 5;
+  walk = [];
+  cuts = record { weight = 2; members = 0 ∷ [] } ∷ record { weight = 8; members = 2 ∷ [] } ∷ [];
+}
+
+-- no two of the numbers are equal, so that none stands for another
+pub known_summary : summary_text (summary_of 7 kite ((0 ∷ 1 ∷ 2 ∷ 3 ∷ []) ∷ []) (again ∷ []))
+    ≡ codes "sample 7" ++ (line_end
+    ++ (codes "lines 4" ++ (line_end ++ (codes "junctions 3" ++ (line_end
+    ++ (codes "odd 2" ++ (line_end ++ (codes "pieces 1" ++ (line_end
+    ++ (codes "cost 13" ++ (line_end ++ (codes "retraced 5" ++ (line_end
+    ++ (codes "penetrations 19" ++ (line_end ++ (codes "cuts 10" ++ line_end))))))))))))))))
+unfolding digits
+known_summary = refl
