@@ -1,13 +1,30 @@
-# make install PREFIX=/usr/local: puts the one built file into PREFIX/bin, from where it runs alone.
+# make install PREFIX=/usr/local: the one built file, which runs alone, its manual page and completions.
+VERSION = 0.2.0
 PREFIX ?= /usr/local
+BIN = $(DESTDIR)$(PREFIX)/bin
+SHARE = $(DESTDIR)$(PREFIX)/share
+MAN = $(SHARE)/man/man1
+BASH = $(SHARE)/bash-completion/completions
+ZSH = $(SHARE)/zsh/site-functions
+FISH = $(SHARE)/fish/vendor_completions.d
 
-.PHONY: build install test
+.PHONY: build install uninstall test version
 build:
 	./build
 
 install: build
-	install -d $(DESTDIR)$(PREFIX)/bin
-	install -m 755 crates/stitch/out/stitch $(DESTDIR)$(PREFIX)/bin/stitch
+	install -d $(BIN) $(MAN) $(BASH) $(ZSH) $(FISH)
+	install -m 755 crates/stitch/out/stitch $(BIN)/stitch
+	install -m 644 man/stitch.1 $(MAN)/stitch.1
+	install -m 644 completions/stitch.bash $(BASH)/stitch
+	install -m 644 completions/_stitch $(ZSH)/_stitch
+	install -m 644 completions/stitch.fish $(FISH)/stitch.fish
+
+uninstall:
+	rm -f $(BIN)/stitch $(MAN)/stitch.1 $(BASH)/stitch $(ZSH)/_stitch $(FISH)/stitch.fish
 
 test:
 	.ci/run
+
+version:
+	@echo $(VERSION)
