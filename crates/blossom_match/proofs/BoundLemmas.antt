@@ -1,16 +1,15 @@
 -- Loads between sets as heights, and the room between places.
-use Rattle.std.proofs.Common.{◌≡◌, ◌≢◌, ℕ, ◌+◌, ◌*◌, ◌≤◌, ◌<◌, ◌⊎◌, inl, inr, suc, zero, List, [], ◌∷◌, ◌++◌, Bool, true, false, cond, ltb, arith, refl, sym, ap, subst}
-use Rattle.std.proofs.lemmas.Bool.{lt-ltb, ltb-true}
+use Rattle.std.proofs.Common.{◌≡◌, ◌≢◌, ℕ, ◌+◌, ◌*◌, ◌≤◌, ◌⊎◌, inl, inr, suc, zero, List, [], ◌∷◌, ◌++◌, arith, refl, sym, ap, subst}
 use Rattle.blossom_match.specs.Lists.{Each}
-use Rattle.blossom_match.specs.Bands.{NestValue, Kept, NoneHold, bands, count, height, load}
+use Rattle.blossom_match.specs.Bands.{NestValue, Kept, bands, count, height, load}
 use Rattle.blossom_match.specs.Couples.{couple_members, couple_bands}
 use Rattle.blossom_match.specs.Sound.{IsFirm, IsFirmCouple}
 use Rattle.blossom_match.specs.Trees.{around, both, branch_bands, inner_members, outer_members}
-use Rattle.blossom_match.specs.Searches.{holding_both, is_place, outers, IsSearch}
+use Rattle.blossom_match.specs.Searches.{height_of, holding_both, outers, IsSearch}
 use Rattle.blossom_match.specs.Heights.{HeightsAre}
 use Rattle.blossom_match.specs.TableValue.{TableValue}
 use Rattle.blossom_match.specs.Tables.{entry, IsTable}
-use Rattle.blossom_match.specs.Bounds.{Bounds, CanCross, CanOffer, CanSearch, Crossed, Crosses, FitHeights, Found, IsDue, Narrows, RingIsDue, Scans}
+use Rattle.blossom_match.specs.Bounds.{Bounds, CanCross, CanOffer, Crossed, Crosses, Found, IsDue, Narrows, RingIsDue, Scans}
 use Rattle.blossom_match.specs.declared.table.TheConstants.{MAX_DISTANCE}
 use Rattle.blossom_match.specs.declared.couples.Couple.{Couple}
 use Rattle.blossom_match.specs.declared.branches.Branch.{Branch}
@@ -18,9 +17,10 @@ use Rattle.blossom_match.specs.declared.search.Search.{Search}
 use Rattle.blossom_match.specs.declared.search.Step.{Step}
 use Rattle.blossom_match.specs.declared.least.Change.{Change}
 use Rattle.blossom_match.specs.declared.least.Kind.TheVariants as kind
-use Rattle.blossom_match.proofs.SumLemmas.{count-append, height-append, load-append, load_across, load_along, load_alone, low, none_hold, some_member, NoneHold-append}
+use Rattle.blossom_match.proofs.SumLemmas.{count-append, height-append, load-append, load_across, load_along, low, some_member}
 use Rattle.blossom_match.proofs.ScanLemmas.{around_none}
-use Rattle.blossom_match.proofs.SearchLemmas.{is_one, low_branches, low_couples}
+use Rattle.blossom_match.proofs.SearchLemmas.{is_one, place_in, low_branches, low_couples}
+use Rattle.blossom_match.proofs.FreeLemmas.{load_of}
 use Rattle.blossom_match.proofs.ShrinkLemmas.{two_even}
 use Rattle.blossom_match.proofs.TreeLemmas.{base_in}
 
@@ -69,22 +69,20 @@ load_couples d h a b (c ∷ cs) f none =
       height-append b (bands c.second) (couple_bands cs),
     )
 
--- all widths between two places
-abbrev pub load_of : Search → ℕ → ℕ → ℕ
-load_of s a b = load a b (bands s.root) + load a b (branch_bands s.tree.items) + load a b (couple_bands s.rest.items)
-
 -- between an outer place and a place that no set holds with it, the heights are the load
-pub loads_apart : (t : TableValue) (h : ℕ → ℕ) (s : Search) (a b : ℕ) → IsSearch t h s → 1 ≤ count a (outers s) → holding_both a b s ≡ 0 → load_of s a b ≡ h a + h b
+pub loads_apart : (t : TableValue) (h : ℕ → ℕ) (s : Search) (a b : ℕ) → IsSearch t h s → 1 ≤ count a (outers s) → holding_both a b s ≡ 0 → load_of s a b ≡ height_of s a + height_of s b
 loads_apart t h s a b i ha apart =
     let one = is_one t a in
     omega (
       arith,
-      i.tall a,
-      i.tall b,
       load_either a b s.root i.root.kept (omega (arith, apart)),
       load_branches (entry t) h a b s.tree.items i.tree (omega (arith, i.places a, one, ha)) (omega (arith, apart)),
       load_couples (entry t) h a b s.rest.items i.rest (omega (arith, i.places a, one, ha)),
     )
+
+-- a place that is not free
+tall_set : (t : TableValue) (h : ℕ → ℕ) (s : Search) (x : ℕ) → IsSearch t h s → 1 ≤ count x (outers s) + count x (couple_members s.rest.items) → h x ≡ height_of s x
+tall_set t h s x i here = i.tall x (omega (arith, i.places x, is_one t x, here))
 
 pub not_both : (s : Search) (a b : ℕ) → count b (outers s) ≡ 0 → holding_both a b s ≡ 0
 not_both s a b none = omega (arith, around_none a b s.root.members s.tree.items none, base_in b s.root.members s.tree.items, none)
@@ -93,31 +91,19 @@ around_same : (a : ℕ) (base : List ℕ) (tree : List Branch) → count a base 
 around_same a base [] = omega arith
 around_same a base (c ∷ cs) = omega (arith, around_same a base cs, count-append a c.outer.members (outer_members base cs))
 
-place_case : (b : Bool) (x n : ℕ) → ltb x n ≡ b → 1 ≤ cond b 1 0 → x < n
-place_case true x n e some = ltb-true x n e
-place_case false x n e some = absurd (omega (arith, some))
-
-pub place_in : (t : TableValue) (x : ℕ) → 1 ≤ is_place t x → x < t.places
-place_in t x some = place_case (ltb x t.places) x t.places refl some
-
-pub in_place : (t : TableValue) (x : ℕ) → x < t.places → is_place t x ≡ 1
-in_place t x low = rw (lt-ltb x t.places low) refl
-
 differ_in : (a b : ℕ) (xs ys : List ℕ) → ((x : ℕ) → count x xs + count x ys ≤ 1) → 1 ≤ count a xs → 1 ≤ count b ys → a ≢ b
 differ_in a b xs ys once ha hb e = omega (arith, once b, hb, ha, ap (λ (x : ℕ). count x xs) e)
 
 -- an outer place and a free one
 pub free_room : (t : TableValue) (h : ℕ → ℕ) (s : Search) (a b : ℕ) → IsSearch t h s → 1 ≤ count a (outers s) → 1 ≤ count b s.free.items → h a + h b ≤ 2 * entry t a b
 free_room t h s a b i ha hb =
-    let ne = differ_in a b (outers s) s.free.items (λ x. omega (arith, i.places x, is_one t x)) ha hb in
-    let l = i.loads a b (place_in t a (omega (arith, i.places a, ha))) (place_in t b (omega (arith, i.places b, hb))) ne in
-    omega (arith, l, loads_apart t h s a b i ha (not_both s a b (omega (arith, i.places b, is_one t b, hb))))
+    i.room a b (place_in t a (omega (arith, i.places a, ha))) hb (differ_in a b (outers s) s.free.items (λ x. omega (arith, i.places x, is_one t x)) ha hb)
 
 coupled_room : (t : TableValue) (h : ℕ → ℕ) (s : Search) (a b : ℕ) → IsSearch t h s → 1 ≤ count a (outers s) → 1 ≤ count b (couple_members s.rest.items) → h a + h b ≤ 2 * entry t a b
 coupled_room t h s a b i ha hb =
     let ne = differ_in a b (outers s) (couple_members s.rest.items) (λ x. omega (arith, i.places x, is_one t x)) ha hb in
     let l = i.loads a b (place_in t a (omega (arith, i.places a, ha))) (place_in t b (omega (arith, i.places b, hb))) ne in
-    omega (arith, l, loads_apart t h s a b i ha (not_both s a b (omega (arith, i.places b, is_one t b, hb))))
+    omega (arith, l, loads_apart t h s a b i ha (not_both s a b (omega (arith, i.places b, is_one t b, hb))), tall_set t h s a i (omega (arith, ha)), tall_set t h s b i (omega (arith, hb)))
 
 pub apart_differ : (s : Search) (a b : ℕ) → 1 ≤ count a (outers s) → holding_both a b s ≡ 0 → a ≢ b
 apart_differ s a b ha apart e =
@@ -127,7 +113,7 @@ apart_differ s a b ha apart e =
 outer_room : (t : TableValue) (h : ℕ → ℕ) (s : Search) (a b : ℕ) → IsSearch t h s → 1 ≤ count a (outers s) → 1 ≤ count b (outers s) → holding_both a b s ≡ 0 → h a + h b ≤ 2 * entry t a b
 outer_room t h s a b i ha hb apart =
     let l = i.loads a b (place_in t a (omega (arith, i.places a, ha))) (place_in t b (omega (arith, i.places b, hb))) (apart_differ s a b ha apart) in
-    omega (arith, l, loads_apart t h s a b i ha apart)
+    omega (arith, l, loads_apart t h s a b i ha apart, tall_set t h s a i (omega (arith, ha)), tall_set t h s b i (omega (arith, hb)))
 
 either_room : (P : Type 0) (n m : ℕ) → (1 ≤ n → P) → (1 ≤ m → P) → 1 ≤ n + m → P
 either_room P zero m p q some = q (omega arith)
@@ -160,64 +146,37 @@ can_cross t h s hs i at = record {
   once = λ x. omega (arith, i.places x, is_one t x);
 }
 
-none_branches : (d : ℕ → ℕ → ℕ) (h : ℕ → ℕ) (x : ℕ) (base : List ℕ) (tree : List Branch) → Each (IsFirm d h) tree → count x (outer_members base tree) ≡ 0 → count x (inner_members tree) ≡ 0 → NoneHold x (branch_bands tree)
-none_branches d h x base [] f none empty = tt
-none_branches d h x base (b ∷ bs) f none empty =
-    let o = count-append x b.outer.members (outer_members base bs) in
-    let i = count-append x b.inner.members (inner_members bs) in
-    NoneHold-append x (bands b.inner) (bands b.outer ++ branch_bands bs) (none_hold x b.inner f.0.inner.kept (omega (arith, i, empty)))
-    (NoneHold-append x (bands b.outer) (branch_bands bs) (none_hold x b.outer f.0.outer.kept (omega (arith, o, none)))
-    (none_branches d h x base bs f.1 (omega (arith, o, none)) (omega (arith, i, empty))))
+set_in_root : (s : Search) (r : ℕ) → 1 ≤ count r s.root.members → 1 ≤ count r (outers s)
+set_in_root s r here = omega (arith, here, base_in r s.root.members s.tree.items)
 
-none_couples : (d : ℕ → ℕ → ℕ) (h : ℕ → ℕ) (x : ℕ) (cs : List Couple) → Each (IsFirmCouple d h) cs → count x (couple_members cs) ≡ 0 → NoneHold x (couple_bands cs)
-none_couples d h x [] f none = tt
-none_couples d h x (c ∷ cs) f none =
-    let o = count-append x c.first.members (c.second.members ++ couple_members cs) in
-    let i = count-append x c.second.members (couple_members cs) in
-    NoneHold-append x (bands c.first) (bands c.second ++ couple_bands cs) (none_hold x c.first f.0.first.kept (omega (arith, o, none)))
-    (NoneHold-append x (bands c.second) (couple_bands cs) (none_hold x c.second f.0.second.kept (omega (arith, o, i, none))) (none_couples d h x cs f.1 (omega (arith, o, i, none))))
-
--- to a free place the load is the height
-load_free : (t : TableValue) (h : ℕ → ℕ) (s : Search) (x f : ℕ) → IsSearch t h s → 1 ≤ count f s.free.items → load_of s x f ≡ h x
-load_free t h s x f i hf =
-    let one = is_one t f in
-    let o : count f (outers s) ≡ 0 = omega (arith, i.places f, one, hf) in
+free_limit : (m : ℕ) (t : TableValue) (h : ℕ → ℕ) (s : Search) (x : ℕ) → IsTable t → IsSearch t h s → count x (outers s) + count x (inner_members s.tree.items) + count x (couple_members s.rest.items) ≡ 0 →
+    count x s.free.items ≡ m → h x ≤ 2 * MAX_DISTANCE
+free_limit zero t h s x is i e none =
     omega (
       arith,
-      i.tall x,
-      load_alone x f (bands s.root) (none_hold f s.root i.root.kept (omega (arith, base_in f s.root.members s.tree.items, o))),
-      load_alone x f (branch_bands s.tree.items) (none_branches (entry t) h f s.root.members s.tree.items i.tree o (omega (arith, i.places f, one, hf))),
-      load_alone x f (couple_bands s.rest.items) (none_couples (entry t) h f s.rest.items i.rest (omega (arith, i.places f, one, hf))),
-    )
-
--- a number that is no place has no height
-high_case : (n : ℕ) (t : TableValue) (h : ℕ → ℕ) (s : Search) (x f : ℕ) → IsTable t → IsSearch t h s → 1 ≤ count f s.free.items → count x (outers s) + count x (inner_members s.tree.items) + count x (couple_members s.rest.items) ≡ n →
-    h x ≤ 2 * MAX_DISTANCE
-high_case zero t h s x f is i hf e =
-    omega (
-      arith,
-      i.tall x,
+      i.tall x none,
       low x s.root i.root.kept (omega (arith, base_in x s.root.members s.tree.items, e)),
       low_branches (entry t) h x s.root.members s.tree.items i.tree (omega (arith, e)) (omega (arith, e)),
       low_couples (entry t) h x s.rest.items i.rest (omega (arith, e)),
     )
+free_limit (suc m) t h s x is i e some =
+    let r = some_member s.root.members (omega (arith, i.root.kept.odd)) in
+    let ho = set_in_root s r.0 r.1 in
+    let lr = place_in t r.0 (omega (arith, i.places r.0, ho)) in
+    omega (arith, free_room t h s r.0 x i ho (omega (arith, some)), is.short r.0 x lr (place_in t x (omega (arith, i.places x, some))))
+
+high_case : (n : ℕ) (t : TableValue) (h : ℕ → ℕ) (s : Search) (x f : ℕ) → IsTable t → IsSearch t h s → 1 ≤ count f s.free.items → count x (outers s) + count x (inner_members s.tree.items) + count x (couple_members s.rest.items) ≡ n →
+    h x ≤ 2 * MAX_DISTANCE
+high_case zero t h s x f is i hf e = free_limit (count x s.free.items) t h s x is i e refl
 high_case (suc n) t h s x f is i hf e =
     let lx = place_in t x (omega (arith, i.places x, e)) in
     let lf = place_in t f (omega (arith, i.places f, hf)) in
     let ne : x ≢ f = λ g. omega (arith, i.places f, is_one t f, hf, e, ap (λ (y : ℕ). count y (outers s) + count y (inner_members s.tree.items) + count y (couple_members s.rest.items)) g) in
-    omega (arith, i.loads x f lx lf ne, load_free t h s x f i hf, is.short x f lx lf)
+    omega (arith, i.room x f lx hf ne, is.short x f lx lf)
 
 -- while a place is free, no height is more than twice the largest distance
 pub height_limit : (t : TableValue) (h : ℕ → ℕ) (s : Search) (x f : ℕ) → IsTable t → IsSearch t h s → 1 ≤ count f s.free.items → h x ≤ 2 * MAX_DISTANCE
 height_limit t h s x f is i hf = high_case (count x (outers s) + count x (inner_members s.tree.items) + count x (couple_members s.rest.items)) t h s x f is i hf refl
-
-pub fit_heights : (t : TableValue) (s : Search) → IsTable t → CanSearch t s → FitHeights t.places s
-fit_heights t s is can =
-    let f = some_member s.free.items can.some in
-    record {
-      within = λ x some. place_in t x (omega (arith, can.search.places x, some));
-      fits = λ x. omega (arith, can.search.tall x, height_limit t can.h s x f.0 is can.search f.1);
-    }
 
 due_found : (t : TableValue) (h : ℕ → ℕ) (s : Search) (hs xs : List ℕ) (c : Change) → HeightsAre hs h → ((x : ℕ) → count x xs ≤ count x (outers s)) → Found t hs kind.Meet xs s.free.items c → IsDue t h s c.by c.step
 due_found t h s hs xs c at within f = subst (λ (st : Step). IsDue t h s c.by st) (sym f.step) (omega (arith, f.in_xs, within f.a), f.in_ys, omega (arith, f.exact, at f.a, at f.b))

@@ -1,5 +1,5 @@
 -- Searches one after another, and the matching at their end.
-use Rattle.std.proofs.Common.{◌≡◌, ◌≢◌, ℕ, ◌+◌, ◌*◌, ◌≤◌, ◌<◌, List, [], ◌∷◌, ◌++◌, length, Bool, true, false, cond, eqb, ltb, arith, refl, sym, ap, subst, ◌∙◌}
+use Rattle.std.proofs.Common.{◌≡◌, ◌≢◌, ℕ, ◌+◌, ◌*◌, ◌≤◌, ◌<◌, List, [], ◌∷◌, ◌++◌, length, get_or, Bool, true, false, cond, eqb, ltb, arith, refl, sym, ap, subst, ◌∙◌}
 use Rattle.std.specs.List.{All, AllPairs}
 use Rattle.std.proofs.lemmas.Bool.{eqb-true, eqb-false, ltb-true, ltb-false}
 use Rattle.std.proofs.lemmas.List.Elements.{All-nil, All-cons}
@@ -8,10 +8,11 @@ use Rattle.blossom_match.specs.Lists.{Each, EachPair}
 use Rattle.blossom_match.specs.Bands.{Band, apart, count, hit, load}
 use Rattle.blossom_match.specs.Couples.{couple_members, couple_bands, IsJoined, IsSettled}
 use Rattle.blossom_match.specs.Sound.{IsFirmCouple}
-use Rattle.blossom_match.specs.Searches.{is_place, CanStep, IsSearch, IsStanding}
+use Rattle.blossom_match.specs.Searches.{height_at, CanStep, IsSearch, IsStanding}
 use Rattle.blossom_match.specs.Bounds.{Bounds, CanSearch}
-use Rattle.blossom_match.specs.Widths.{CanWiden, StepsOn, Widens}
-use Rattle.blossom_match.specs.Phases.{Begins, Goes, Leads, Stands}
+use Rattle.blossom_match.specs.Rings.{single_of}
+use Rattle.blossom_match.specs.Widths.{CanWiden, Widens}
+use Rattle.blossom_match.specs.Phases.{Begins, Goes, IsMatched, Leads, Stands}
 use Rattle.blossom_match.specs.Taken.{IsOddIn, LieIn, TakesCouples}
 use Rattle.blossom_match.specs.Matchings.{AreLaminar, IsMatching, IsOddMoat}
 use Rattle.blossom_match.specs.TableValue.{TableValue}
@@ -24,8 +25,8 @@ use Rattle.blossom_match.specs.declared.search.Search.{Search}
 use Rattle.blossom_match.specs.declared.phase.Stepped.{Stepped}
 use Rattle.blossom_match.specs.declared.phase.Stepped.TheVariants.{More, Done}
 use Rattle.blossom_match.proofs.SumLemmas.{count-append, hit_same}
-use Rattle.blossom_match.proofs.SearchLemmas.{begun, is_one}
-use Rattle.blossom_match.proofs.BoundLemmas.{place_in}
+use Rattle.blossom_match.proofs.FreeLemmas.{begun}
+use Rattle.blossom_match.proofs.SearchLemmas.{is_one, place_in}
 
 below_case : (p q r : Bool) (x n : ℕ) → ltb x n ≡ p → eqb x n ≡ q → ltb x (n + 1) ≡ r → cond p 1 0 + (cond q 1 0 + 0) ≡ cond r 1 0
 below_case true true r x n e f g = absurd (omega (arith, ltb-true x n e, eqb-true x n f))
@@ -41,48 +42,41 @@ pub places_more : (x n : ℕ) (xs new : List ℕ) → new ≡ xs ++ n ∷ [] →
 places_more x n xs new e f =
     ap (λ (ys : List ℕ). count x ys) e ∙ count-append x xs (n ∷ []) ∙ ap (λ (k : ℕ). k + (hit x n + 0)) f ∙ below_case (ltb x n) (eqb x n) (ltb x (n + 1)) x n refl refl refl
 
-pub begins : (t : TableValue) (place : ℕ) (couples : List Couple) (free : List ℕ) (s : Search) → Stands t couples (free ++ place ∷ []) → 1 ≤ length free → Begins place couples free s → CanSearch t s
-begins t place couples free s st some b =
-    let at = subst (λ (cs : List Couple). IsStanding t st.h cs (s.free.items ++ place ∷ [])) (sym b.rest)
-    (subst (λ (xs : List ℕ). IsStanding t st.h couples (xs ++ place ∷ [])) (sym b.free) st.standing) in
+-- a free place has a cell
+pub place_there : (t : TableValue) (place : ℕ) (couples : List Couple) (free heights : List ℕ) → Stands t couples (free ++ place ∷ []) heights → place < length heights
+place_there t place couples free heights st =
+    omega (arith, st.size, place_in t place (omega (arith, st.standing.places place, count-append place free (place ∷ []), hit_same place)))
+
+pub begins : (t : TableValue) (place : ℕ) (couples : List Couple) (free heights : List ℕ) (s : Search) → Stands t couples (free ++ place ∷ []) heights → 1 ≤ length free → Begins place couples free heights s → CanSearch t s
+begins t place couples free heights s st some b =
+    let high = λ (hs : List ℕ) (x : ℕ). get_or hs x 0 in
+    let at = subst (λ (hs : List ℕ). IsStanding t (high hs) s.rest.items (s.free.items ++ place ∷ [])) (sym b.heights)
+    (subst (λ (cs : List Couple). IsStanding t (high heights) cs (s.free.items ++ place ∷ [])) (sym b.rest)
+    (subst (λ (xs : List ℕ). IsStanding t (high heights) couples (xs ++ place ∷ [])) (sym b.free) st.standing)) in
     record {
-      h = st.h;
-      search = begun t st.h place s at b.root b.tree;
+      search = begun t (height_at s) place s at (subst (λ (hs : List ℕ). s.root ≡ single_of place (high hs place)) (sym b.heights) b.root) b.tree;
+      size = ap (λ (hs : List ℕ). length hs) b.heights ∙ st.size;
       some = omega (arith, some, ap (λ (xs : List ℕ). length xs) b.free);
     }
 
-steps_of : (t : TableValue) (s wide : Search) (c : Change) → IsMetric t → (can : CanSearch t s) → ((h : ℕ → ℕ) → IsSearch t h s → Bounds t h s c) → Widens s c wide → StepsOn t c wide
-steps_of t s wide c m can bounds w = w.search t can.h m.table m.triangles can.search (bounds can.h can.search) can.some
-
-pub can_step : (t : TableValue) (s wide : Search) (c : Change) → IsMetric t → CanSearch t s → ((h : ℕ → ℕ) → IsSearch t h s → Bounds t h s c) → Widens s c wide → CanStep wide c.step
+pub can_step : (t : TableValue) (s wide : Search) (c : Change) → IsMetric t → CanSearch t s → Bounds t (height_at s) s c → Widens s c wide → CanStep wide c.step
 can_step t s wide c m can bounds w =
-    let on = steps_of t s wide c m can bounds w in
-    record { t = t; h = on.h; search = on.search; ready = on.ready }
+    let on = w.search t m can bounds in
+    record { t = t; search = on.search; ready = on.ready; size = on.size }
 
-pub can_widen_now : (t : TableValue) (s : Search) (c : Change) → IsMetric t → CanSearch t s → ((h : ℕ → ℕ) → IsSearch t h s → Bounds t h s c) → CanWiden s c
-can_widen_now t s c m can bounds = record { t = t; h = can.h; table = m.table; triangles = m.triangles; search = can.search; bounds = bounds can.h can.search; some = can.some }
+pub can_widen_now : (t : TableValue) (s : Search) (c : Change) → IsMetric t → CanSearch t s → Bounds t (height_at s) s c → CanWiden s c
+can_widen_now t s c m can bounds = record { t = t; metric = m; can = can; bounds = bounds }
 
-pub goes : (t : TableValue) (s wide : Search) (c : Change) (next : Stepped) → IsMetric t → CanSearch t s → ((h : ℕ → ℕ) → IsSearch t h s → Bounds t h s c) → Widens s c wide → Leads wide c.step next → Goes t s next
+pub goes : (t : TableValue) (s wide : Search) (c : Change) (next : Stepped) → IsMetric t → CanSearch t s → Bounds t (height_at s) s c → Widens s c wide → Leads wide c.step next → Goes t s next
 goes t s wide c (More r) m can bounds w l =
-    let on = steps_of t s wide c m can bounds w in
+    let on = w.search t m can bounds in
     let free = l.free ∙ w.free in
-    (record { h = on.h; search = l.search t on.h on.search on.ready; some = omega (arith, can.some, ap (λ (xs : List ℕ). length xs) free) }, omega (arith, l.fewer, w.size), free)
+    let same = subst (λ (hs : List ℕ). IsSearch t (λ (x : ℕ). get_or hs x 0) r) (sym l.heights) (l.search t (height_at wide) on.search on.ready) in
+    (record { search = same; size = ap (λ (hs : List ℕ). length hs) l.heights ∙ on.size; some = omega (arith, can.some, ap (λ (xs : List ℕ). length xs) free) }, omega (arith, l.fewer, w.size), free)
 goes t s wide c (Done r) m can bounds w l =
-    let on = steps_of t s wide c m can bounds w in
-    (record { h = on.h; standing = l.standing t on.h on.search on.ready }, omega (arith, l.fewer, ap (λ (xs : List ℕ). length xs) w.free))
-
--- no couple yet, and all places free
-pub all_free : (t : TableValue) (free : List ℕ) → ((x : ℕ) → count x free ≡ is_place t x) → Stands t [] free
-all_free t free places = record {
-  h = λ x. 0;
-  standing = record {
-    tall = λ x. refl;
-    places = λ x. omega (arith, places x);
-    joined = tt;
-    firm = tt;
-    loads = λ a b la lb ne. omega arith;
-  };
-}
+    let on = w.search t m can bounds in
+    let same = subst (λ (hs : List ℕ). IsStanding t (λ (x : ℕ). get_or hs x 0) r.couples.items r.free.items) (sym l.heights) (l.standing t on.search on.ready) in
+    (record { standing = same; size = ap (λ (hs : List ℕ). length hs) l.heights ∙ on.size }, omega (arith, l.fewer, ap (λ (xs : List ℕ). length xs) w.free))
 
 -- each couple's links are paid
 settled : (d : ℕ → ℕ → ℕ) (h : ℕ → ℕ) (cs : List Couple) → Each IsJoined cs → Each (IsFirmCouple d h) cs → Each (IsSettled d) cs
@@ -142,18 +136,18 @@ load_case true t h cs a b e st la lb =
 load_case false t h cs a b e st la lb = st.loads a b la lb (eqb-false a b e)
 
 -- what is taken out of couples that hold all places is a matching with moats
-pub matched : (t : TableValue) (cs : List Couple) (pairs : List Pair) (moats : List Moat) → Stands t cs [] → TakesCouples cs [] pairs [] moats → IsMatching t pairs moats
+pub matched : (t : TableValue) (cs : List Couple) (pairs : List Pair) (moats : List Moat) → IsMatched t cs → TakesCouples cs [] pairs [] moats → IsMatching t pairs moats
 matched t cs pairs moats s k =
-    let st = s.standing in
+    let st = s.stands.standing in
     let places = λ (x : ℕ). st.places x in
     let lie = subst (λ (ms : List Moat). LieIn (couple_members cs) ms) (sym k.is) k.lie in
     record {
       paired = λ x. omega (arith, k.places x, places x);
       odd = odd_moats t.places (couple_members cs) moats (λ x. omega (arith, places x, is_one t x)) (λ x some. place_in t x (omega (arith, places x, some))) lie.each;
       laminar = pairs_all AreLaminar moats lie.apart;
-      loads = λ a b la lb. omega (arith, k.loads a b, load_case (eqb a b) t s.h cs a b refl st la lb);
-      paid = omega (arith, k.widths, k.paid t (settled (entry t) s.h cs st.joined st.firm));
+      loads = λ a b la lb. omega (arith, k.loads a b, load_case (eqb a b) t (λ x. get_or s.heights x 0) cs a b refl st la lb);
+      paid = omega (arith, k.widths, k.paid t (settled (entry t) (λ x. get_or s.heights x 0) cs st.joined st.firm));
     }
 
-pub once_each : (t : TableValue) (cs : List Couple) → Stands t cs [] → (x : ℕ) → count x (couple_members cs) ≤ 1
-once_each t cs s x = omega (arith, s.standing.places x, is_one t x)
+pub once_each : (t : TableValue) (cs : List Couple) → IsMatched t cs → (x : ℕ) → count x (couple_members cs) ≤ 1
+once_each t cs s x = omega (arith, s.stands.standing.places x, is_one t x)

@@ -17,9 +17,11 @@ pub mod MirrorLemmas
 pub mod LayLemmas
 pub mod ExpandLemmas
 pub mod SearchLemmas
+pub mod FreeLemmas
 pub mod RaisedLemmas
 pub mod ScanLemmas
 pub mod BoundLemmas
 pub mod WidthLemmas
 pub mod EndLemmas
 pub mod WideningLemmas
+pub mod PriceLemmas

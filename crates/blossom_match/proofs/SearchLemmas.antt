@@ -1,37 +1,39 @@
 -- Each step leads from a search to a search.
 use Rattle.std.proofs.Common.{◌≡◌, ℕ, ◌+◌, ◌≤◌, ◌<◌, suc, List, [], ◌∷◌, ◌++◌, length, take, drop, Bool, true, false, cond, ltb, arith, refl, sym, ap, subst, ◌∙◌, drop-cons, get_or}
-use Rattle.std.proofs.lemmas.Bool.{ltb-true, ltb-false}
+use Rattle.std.proofs.lemmas.Bool.{lt-ltb, ltb-true, ltb-false}
 use Rattle.std.proofs.lemmas.List.{take-append-drop}
 use Rattle.blossom_match.specs.Lists.{Each}
 use Rattle.blossom_match.specs.Bands.{Adds, Band, NestValue, bands, count, height, hit, load}
-use Rattle.blossom_match.specs.Rings.{back_of, single_of}
+use Rattle.blossom_match.specs.Rings.{back_of}
 use Rattle.blossom_match.specs.Couples.{couple_members, couple_bands, IsJoined}
 use Rattle.blossom_match.specs.Sound.{IsFirm, IsFirmCouple, IsSound, IsSymmetric, IsTight}
-use Rattle.blossom_match.specs.Trees.{branch_bands, hung_by, inner_bands, inner_members, outer_members, IsGrown, Augments, TakesOut}
+use Rattle.blossom_match.specs.Trees.{branch_bands, hung_by, inner_bands, inner_members, outer_members, IsGrown, TakesOut}
 use Rattle.blossom_match.specs.Shrinks.{Shrinks}
 use Rattle.blossom_match.specs.Lays.{Expands}
-use Rattle.blossom_match.specs.Searches.{is_place, outers, Advances, Ends, IsSearch, IsStanding}
+use Rattle.blossom_match.specs.Searches.{is_place, outers, Advances, FreeHaveRoom}
 use Rattle.blossom_match.specs.TableValue.{TableValue}
 use Rattle.blossom_match.specs.Tables.{entry}
 use Rattle.blossom_match.specs.declared.nest.Link.{Link}
 use Rattle.blossom_match.specs.declared.couples.Couple.{Couple}
 use Rattle.blossom_match.specs.declared.branches.Branch.{Branch}
 use Rattle.blossom_match.specs.declared.search.Search.{Search}
-use Rattle.blossom_match.specs.declared.search.Standing.{Standing}
-use Rattle.blossom_match.specs.declared.search.Step.TheVariants.{Meet, Grow, Shrink, Expand}
+use Rattle.blossom_match.specs.declared.search.Step.TheVariants.{Grow, Shrink, Expand}
 use Rattle.blossom_match.proofs.ListLemmas.{each-append, each-left, each-right, each-push}
-use Rattle.blossom_match.proofs.SumLemmas.{count-append, height-append, hit_is, hit_same, load-append, low, size-append}
-use Rattle.blossom_match.proofs.RingLemmas.{made_kept}
+use Rattle.blossom_match.proofs.SumLemmas.{count-append, height-append, load-append, low, size-append}
 use Rattle.blossom_match.proofs.ShrinkLemmas.{tight_back}
 use Rattle.blossom_match.proofs.TableLemmas.{entry-comm}
-use Rattle.blossom_match.proofs.TreeLemmas.{base_in, branch_bands_push, couple_bands-append, couple_members-append, grown_push, inner_bands_push, inner_members_push, outer_members_push}
+use Rattle.blossom_match.proofs.TreeLemmas.{branch_bands_push, couple_bands-append, couple_members-append, grown_push, inner_bands_push, inner_members_push, outer_members_push}
 
-pub shrunk : (link : Link) (s r : Search) → Shrinks link s.root r.root s.tree.items r.tree.items → r.rest.items ≡ s.rest.items → r.free.items ≡ s.free.items → Advances s (Shrink link) r
-shrunk link s r sh e f = record {
+free_none : (x : ℕ) {xs ys : List ℕ} → xs ≡ ys → count x xs ≡ 0 → count x ys ≡ 0
+free_none x e none = omega (arith, none, ap (λ (zs : List ℕ). count x zs) e)
+
+pub shrunk : (link : Link) (s r : Search) → Shrinks link s.root r.root s.tree.items r.tree.items → r.rest.items ≡ s.rest.items → r.free.items ≡ s.free.items → r.heights.items ≡ s.heights.items → Advances s (Shrink link) r
+shrunk link s r sh e f g = record {
   search = λ t h i ready.
       let firm = sh.firm (entry t) h (entry-comm t) ready.3 i.root i.tree in
       record {
-        tall = λ x. omega (arith, i.tall x, sh.sums (height x) (height-append x), ap (λ (cs : List Couple). height x (couple_bands cs)) e);
+        tall = λ x none. omega (arith, i.tall x (free_none x f none), sh.sums (height x) (height-append x), ap (λ (cs : List Couple). height x (couple_bands cs)) e);
+        room = subst (λ (xs : List ℕ). FreeHaveRoom t h xs) (sym f) i.room;
         places = λ x. omega (arith, i.places x, sh.places x, ap (λ (cs : List Couple). count x (couple_members cs)) e, ap (λ (xs : List ℕ). count x xs) f);
         grown = sh.grown;
         joined = subst (λ (cs : List Couple). Each IsJoined cs) (sym e) i.joined;
@@ -42,14 +44,16 @@ shrunk link s r sh e f = record {
       };
   fewer = omega (arith, sh.fewer, ap (λ (cs : List Couple). length (couple_bands cs)) e);
   free = f;
+  heights = g;
 }
 
-pub came_apart : (at : ℕ) (s r : Search) → Expands s.root s.tree.items r.tree.items s.rest.items r.rest.items → r.root ≡ s.root → r.free.items ≡ s.free.items → Advances s (Expand at) r
-came_apart at s r ex e f = record {
+pub came_apart : (at : ℕ) (s r : Search) → Expands s.root s.tree.items r.tree.items s.rest.items r.rest.items → r.root ≡ s.root → r.free.items ≡ s.free.items → r.heights.items ≡ s.heights.items → Advances s (Expand at) r
+came_apart at s r ex e f g = record {
   search = λ t h i ready.
       let firm = ex.firm (entry t) h (entry-comm t) i.tree i.rest in
       record {
-        tall = λ x. omega (arith, i.tall x, ex.sums (height x) (height-append x), ap (λ (v : NestValue). height x (bands v)) e);
+        tall = λ x none. omega (arith, i.tall x (free_none x f none), ex.sums (height x) (height-append x), ap (λ (v : NestValue). height x (bands v)) e);
+        room = subst (λ (xs : List ℕ). FreeHaveRoom t h xs) (sym f) i.room;
         places = λ x. omega (arith, i.places x, ex.places x, ap (λ (v : NestValue). count x (outer_members v.members r.tree.items)) e, ap (λ (xs : List ℕ). count x xs) f);
         grown = subst (λ (v : NestValue). IsGrown v.members r.tree.items) (sym e) ex.grown;
         joined = ex.joined i.joined;
@@ -60,6 +64,7 @@ came_apart at s r ex e f = record {
       };
   fewer = ex.fewer;
   free = f;
+  heights = g;
 }
 
 -- what a couple's sets are as a branch
@@ -121,6 +126,17 @@ one_case false = omega arith
 pub is_one : (t : TableValue) (x : ℕ) → is_place t x ≤ 1
 is_one t x = one_case (ltb x t.places)
 
+-- x is a place
+place_case : (b : Bool) (x n : ℕ) → ltb x n ≡ b → 1 ≤ cond b 1 0 → x < n
+place_case true x n e some = ltb-true x n e
+place_case false x n e some = absurd (omega (arith, some))
+
+pub place_in : (t : TableValue) (x : ℕ) → 1 ≤ is_place t x → x < t.places
+place_in t x some = place_case (ltb x t.places) x t.places refl some
+
+pub in_place : (t : TableValue) (x : ℕ) → x < t.places → is_place t x ≡ 1
+in_place t x low = rw (lt-ltb x t.places low) refl
+
 -- the inner set of a couple's branch is fewer sets than the couple
 abbrev InnerIsFewer : Couple → Branch → Type 0
 InnerIsFewer c b = length (bands b.inner) < length (bands c.first) + length (bands c.second)
@@ -131,8 +147,8 @@ hung_fewer true up c = omega arith
 hung_fewer false up c = omega arith
 
 pub hung : (link : Link) (s r : Search) (c : Couple) → TakesOut link.to s.rest.items r.rest.items c → r.tree.items ≡ s.tree.items ++ hung_by link c ∷ [] → r.root ≡ s.root → r.free.items ≡ s.free.items →
-    Advances s (Grow link) r
-hung link s r c out g e f =
+    r.heights.items ≡ s.heights.items → Advances s (Grow link) r
+hung link s r c out g e f same =
     let b = hung_by link c in
     let sizes = λ (ks : List Band). length ks in
     let was = λ (F : List Band → ℕ) (add : Adds F). ap (λ (cs : List Couple). F (couple_bands cs)) out.was ∙ bands_split F add out.before out.after c in
@@ -148,7 +164,8 @@ hung link s r c out g e f =
           let firm = without (IsFirmCouple (entry t) h) out.before out.after c (subst (λ (cs : List Couple). Each (IsFirmCouple (entry t) h) cs) out.was i.rest) in
           let k = hung_is link c (omega (arith, out.here, held link.to, i.places link.to, is_one t link.to)) joined.0 in
           record {
-            tall = λ x. omega (arith, i.tall x, was (height x) (height-append x), now (height x), grew (height x) (height-append x), k.sums (height x), ap (λ (v : NestValue). height x (bands v)) e);
+            tall = λ x none. omega (arith, i.tall x (free_none x f none), was (height x) (height-append x), now (height x), grew (height x) (height-append x), k.sums (height x), ap (λ (v : NestValue). height x (bands v)) e);
+            room = subst (λ (xs : List ℕ). FreeHaveRoom t h xs) (sym f) i.room;
             places = λ x. omega (arith, i.places x, held x, kept x, outside x, inside x, k.counts x, ap (λ (xs : List ℕ). count x xs) f);
             grown = subst (λ (v : NestValue). IsGrown v.members r.tree.items) (sym e) (subst (λ (ks : List Branch). IsGrown s.root.members ks) (sym g)
                 (grown_push s.root.members s.tree.items b i.grown (subst (λ (l : Link). 1 ≤ count l.from (outers s)) (sym k.same) ready.0)
@@ -167,6 +184,7 @@ hung link s r c out g e f =
         now sizes,
       );
       free = f;
+      heights = same;
     }
 
 -- a place in no set has height 0
@@ -199,63 +217,8 @@ low_couples d h x (c ∷ cs) f none =
       height-append x (bands c.second) (couple_bands cs),
     )
 
-pub low_free : (t : TableValue) (h : ℕ → ℕ) (s : Search) (x : ℕ) → IsSearch t h s → 1 ≤ count x s.free.items → h x ≡ 0
-low_free t h s x i some =
-    let one = is_one t x in
-    omega (
-      arith,
-      i.tall x,
-      low x s.root i.root.kept (omega (arith, i.places x, one, base_in x s.root.members s.tree.items, some)),
-      low_branches (entry t) h x s.root.members s.tree.items i.tree (omega (arith, i.places x, one, some)) (omega (arith, i.places x, one, some)),
-      low_couples (entry t) h x s.rest.items i.rest (omega (arith, i.places x, one, some)),
-    )
-
--- one place of height 0 is a sound set
-pub single_sound : (d : ℕ → ℕ → ℕ) (h : ℕ → ℕ) (x : ℕ) → h x ≡ 0 → IsSound d h (single_of x)
-single_sound d h x none =
-    let at = λ (y : ℕ) (here : 1 ≤ hit y x + 0). ap h (hit_is y x (omega (arith, here))) ∙ none in
-    record {
-      kept = made_kept (x ∷ []) 0 [] refl;
-      paid = tt;
-      local = λ y here. omega (arith, at y here);
-      even = λ y z hy hz. omega (arith, at y hy, at z hz);
-    }
-
-pub met : (link : Link) (s : Search) (r : Standing) (m : NestValue) → Augments s.root m link s.tree.items s.rest.items r.couples.items → m ≡ single_of link.to →
-    ((x : ℕ) → count x r.free.items + hit x link.to ≡ count x s.free.items) → length r.free.items + 1 ≡ length s.free.items → Ends s (Meet link) r
-met link s r m aug e counts fewer =
-    let at = λ (F : List Band → ℕ). ap (λ (v : NestValue). F (bands v)) e in
-    record {
-      standing = λ t h i ready. record {
-        tall = λ x. omega (arith, i.tall x, aug.sums (height x) (height-append x), at (height x));
-        places = λ x. omega (arith, i.places x, aug.places x, ap (λ (v : NestValue). count x v.members) e, counts x);
-        joined = aug.joined i.joined;
-        firm = aug.firm (entry t) h ready.2 i.root (subst (λ (v : NestValue). IsSound (entry t) h v) (sym e) (single_sound (entry t) h link.to (low_free t h s link.to i ready.1))) i.tree i.rest;
-        loads = λ a b la lb ne. omega (arith, i.loads a b la lb ne, aug.sums (load a b) (load-append a b), at (load a b));
-      };
-      fewer = fewer;
-    }
-
 -- a place is taken from the free ones
 pub taken_place : (x : ℕ) (xs new : List ℕ) (i place : ℕ) → i < length xs → get_or xs i 0 ≡ place → new ≡ take i xs ++ drop (suc i) xs → count x new + hit x place ≡ count x xs
 taken_place x xs new i place low is e =
     let here : drop i xs ≡ place ∷ drop (suc i) xs = drop-cons xs i 0 low ∙ ap (λ (y : ℕ). y ∷ drop (suc i) xs) is in
     omega (arith, ap (λ (ys : List ℕ). count x ys) e, count-append x (take i xs) (drop (suc i) xs), ap (λ (ys : List ℕ). count x ys) (take-append-drop i xs), count-append x (take i xs) (drop i xs), ap (λ (ys : List ℕ). count x ys) here)
-
--- a search from a free place
-pub begun : (t : TableValue) (h : ℕ → ℕ) (place : ℕ) (s : Search) → IsStanding t h s.rest.items (s.free.items ++ place ∷ []) → s.root ≡ single_of place → s.tree.items ≡ [] → IsSearch t h s
-begun t h place s i e f =
-    let at = λ (x : ℕ). count-append x s.free.items (place ∷ []) in
-    let none = i.tall place ∙ low_couples (entry t) h place s.rest.items i.firm (omega (arith, i.places place, at place, is_one t place, hit_same place)) in
-    let sums = λ (F : List Band → ℕ). ap (λ (v : NestValue). F (bands v)) e in
-    let none_hung = λ (F : List Band → ℕ). ap (λ (bs : List Branch). F (branch_bands bs)) f in
-    record {
-      tall = λ x. omega (arith, i.tall x, sums (height x), none_hung (height x));
-      places = λ x. omega (arith, i.places x, at x, ap (λ (v : NestValue). count x (outer_members v.members s.tree.items)) e, ap (λ (bs : List Branch). count x (outer_members (place ∷ []) bs)) f, ap (λ (bs : List Branch). count x (inner_members bs)) f);
-      grown = subst (λ (bs : List Branch). IsGrown s.root.members bs) (sym f) tt;
-      joined = i.joined;
-      root = subst (λ (v : NestValue). IsSound (entry t) h v) (sym e) (single_sound (entry t) h place none);
-      tree = subst (λ (bs : List Branch). Each (IsFirm (entry t) h) bs) (sym f) tt;
-      rest = i.firm;
-      loads = λ a b la lb ne. omega (arith, i.loads a b la lb ne, sums (load a b), none_hung (load a b));
-    }

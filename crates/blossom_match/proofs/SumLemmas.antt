@@ -1,7 +1,7 @@
 -- Counts, heights and loads of joined lists.
-use Rattle.std.proofs.Common.{◌≡◌, ℕ, ◌+◌, ◌-◌, ◌*◌, ◌≤◌, List, [], ◌∷◌, ◌++◌, arith, refl, cond, eqb, length, length-append, Bool, true, false}
+use Rattle.std.proofs.Common.{◌≡◌, ℕ, ◌+◌, ◌-◌, ◌*◌, ◌≤◌, List, [], ◌∷◌, ◌++◌, arith, refl, cond, eqb, length, length-append, Bool, true, false, ap}
 use Rattle.std.proofs.lemmas.Bool.{eqb-true, eq-eqb}
-use Rattle.blossom_match.specs.Bands.{Band, NestValue, Adds, Toll, bands, count, height, hit, load, total, NoneHold, Kept, IsPaid}
+use Rattle.blossom_match.specs.Bands.{Band, NestValue, Adds, Toll, apart, bands, count, height, hit, load, total, NoneHold, Kept, IsPaid}
 
 pub count-append : (x : ℕ) (xs ys : List ℕ) → count x (xs ++ ys) ≡ count x xs + count x ys
 count-append x [] ys = omega arith
@@ -38,6 +38,12 @@ one_side w m = let e : (m - 0) + (0 - m) ≡ m = omega arith in rw e refl
 
 other_side : (w m : ℕ) → w * ((0 - m) + (m - 0)) ≡ w * m
 other_side w m = let e : (0 - m) + (m - 0) ≡ m = omega arith in rw e refl
+
+pub load-comm : (a b : ℕ) (bs : List Band) → load a b bs ≡ load b a bs
+load-comm a b [] = refl
+load-comm a b (s ∷ bs) =
+    let e : apart (count a s.members) (count b s.members) ≡ apart (count b s.members) (count a s.members) = omega arith in
+    omega (arith, load-comm a b bs, ap (λ (k : ℕ). s.width * k) e)
 
 -- where no set holds b, the load is the height of a
 pub load_alone : (a b : ℕ) (bs : List Band) → NoneHold b bs → load a b bs ≡ height a bs

@@ -6,11 +6,12 @@ use Rattle.blossom_match.specs.Couples.{couple_members, couple_bands, IsJoined}
 use Rattle.blossom_match.specs.Sound.{IsFirm, IsFirmCouple, IsSound, IsTight}
 use Rattle.blossom_match.specs.Trees.{around, both, branch_bands, inner_bands, inner_members, outer_members, IsGrown}
 use Rattle.blossom_match.specs.Lays.{FirstComesApart}
-use Rattle.blossom_match.specs.Searches.{holding_both, outers, IsReady, IsSearch}
-use Rattle.blossom_match.specs.Bounds.{height_of, Bounds, FirstIsDue, IsDue, RingIsWide}
-use Rattle.blossom_match.specs.Widths.{all_changed, CanChange, CanWiden, Changes, StepsOn, Widens}
+use Rattle.blossom_match.specs.Searches.{height_at, height_of, holding_both, outers, IsReady, IsSearch}
+use Rattle.blossom_match.specs.Bounds.{Bounds, CanSearch, FirstIsDue, IsDue, RingIsWide}
+use Rattle.blossom_match.specs.Widths.{all_changed, CanChange, CanChangeHeights, CanWiden, Changes, StepsOn, Widens}
 use Rattle.blossom_match.specs.TableValue.{TableValue}
-use Rattle.blossom_match.specs.Tables.{entry, IsTable, KeepsTriangles}
+use Rattle.blossom_match.specs.Tables.{entry, IsMetric, IsTable, KeepsTriangles}
+use Rattle.blossom_match.specs.declared.table.TheConstants.{MAX_DISTANCE}
 use Rattle.blossom_match.specs.declared.nest.Link.{Link}
 use Rattle.blossom_match.specs.declared.couples.Couple.{Couple}
 use Rattle.blossom_match.specs.declared.branches.Branch.{Branch}
@@ -23,10 +24,11 @@ use Rattle.blossom_match.proofs.SumLemmas.{count-append, some_member}
 use Rattle.blossom_match.proofs.TreeLemmas.{base_in, inner-append, outer-append}
 use Rattle.blossom_match.proofs.ExpandLemmas.{grown-right}
 use Rattle.blossom_match.proofs.ScanLemmas.{apart_from}
-use Rattle.blossom_match.proofs.SearchLemmas.{is_one}
-use Rattle.blossom_match.proofs.BoundLemmas.{in_place, load_of, loads_apart, place_in}
+use Rattle.blossom_match.proofs.SearchLemmas.{in_place, is_one, place_in}
+use Rattle.blossom_match.proofs.FreeLemmas.{load_of, load_of-comm, under}
+use Rattle.blossom_match.proofs.BoundLemmas.{height_limit, loads_apart}
 use Rattle.blossom_match.proofs.TableLemmas.{entry-comm}
-use Rattle.blossom_match.proofs.WidthLemmas.{around-comm, around_same_all, between_in, between_out, branches_load, branches_tall, counted_in, counted_out, couples_same, drop_changed, each_split, firm_changed, grown_same, inner_same, inside, load-comm, more_wide, one_place, outer_limit, outer_same, set_limit, sizes_same, sound_up, times_by, wide_tall, within}
+use Rattle.blossom_match.proofs.WidthLemmas.{around-comm, around_same_all, between_in, between_out, branches_load, branches_tall, counted_in, counted_out, couples_same, drop_changed, each_split, firm_changed, grown_same, inner_same, inside, more_wide, one_place, outer_limit, outer_same, set_limit, sizes_same, sound_up, times_by, wide_tall, within}
 
 -- the inner ring at which the step is due has no width after the change
 due_comes_apart : (by : ℕ) (bs : List Branch) → FirstIsDue by bs → FirstComesApart (all_changed by bs)
@@ -71,12 +73,44 @@ can_change t h s c is tri i b some =
           (b.two k.up.from k.pair.to from to apart);
     })
 
-pub can_widen : (s : Search) (c : Change) → CanWiden s c → (s.root.width + c.by < 2 ^ 32) × Each (CanChange c.by) s.tree.items
+rise_case : (n by w limit : ℕ) → (o : ℕ) → o ≡ n → o ≤ 1 → w ≤ limit → (1 ≤ o → w + by ≤ limit) → w + by * o ≤ limit
+rise_case zero by w limit o e few low up = omega (arith, low, ap (λ (k : ℕ). by * k) e)
+rise_case (suc n) by w limit o e few low up =
+    let one : o ≡ 1 = omega (arith, e, few) in
+    omega (arith, up (omega (arith, one)), ap (λ (k : ℕ). by * k) one)
+
+fall_case : (n by w : ℕ) → (i : ℕ) → i ≡ n → (1 ≤ i → by * i ≤ w) → by * i ≤ w
+fall_case zero by w i e down = omega (arith, ap (λ (k : ℕ). by * k) e)
+fall_case (suc n) by w i e down = down (omega (arith, e))
+
+-- the cells of the places of the tree
+can_change_heights : (t : TableValue) (s : Search) (c : Change) → IsMetric t → CanSearch t s → Bounds t (height_at s) s c → Each (CanChange c.by) s.tree.items → CanChangeHeights c.by s.root s.tree.items s.heights.items
+can_change_heights t s c m can b wide = record {
+  cells = λ x here. omega (arith, can.size, place_in t x (omega (arith, can.search.places x, here)));
+  rise = λ x.
+      let f = some_member s.free.items can.some in
+      let i = can.search in
+      omega (
+        arith,
+        rise_case (count x (outers s)) c.by (height_at s x) (2 * MAX_DISTANCE) (count x (outers s)) refl (omega (arith, i.places x, is_one t x)) (height_limit t (height_at s) s x f.0 m.table i f.1)
+            (λ here. outer_limit t (height_at s) s c x f.0 m.table i b f.1 here),
+      );
+  fall = λ x. fall_case (count x (inner_members s.tree.items)) c.by (height_at s x) (count x (inner_members s.tree.items)) refl (λ here.
+      let i = can.search in
+      let no : count x (outer_members [] s.tree.items) ≡ 0 = omega (arith, i.places x, is_one t x, here, outer-append x s.root.members [] s.tree.items) in
+      omega (arith, branches_tall x c.by s.tree.items wide, ap (λ (k : ℕ). c.by * k) no, i.tall x (omega (arith, i.places x, is_one t x, here))));
+}
+
+pub can_widen : (s : Search) (c : Change) → CanWiden s c →
+    (s.root.width + c.by < 2 ^ 32) × Each (CanChange c.by) s.tree.items × CanChangeHeights c.by s.root s.tree.items s.heights.items
 can_widen s c w =
-    let f = some_member s.free.items w.some in (
-      set_limit (entry w.t) w.h s.root c.by w.search.root (λ x. omega (arith, w.search.places x, is_one w.t x, base_in x s.root.members s.tree.items))
-          (λ x here. outer_limit w.t w.h s c x f.0 w.table w.search w.bounds f.1 (omega (arith, base_in x s.root.members s.tree.items, here))),
-      can_change w.t w.h s c w.table w.triangles w.search w.bounds w.some,
+    let i = w.can.search in
+    let f = some_member s.free.items w.can.some in
+    let wide = can_change w.t (height_at s) s c w.metric.table w.metric.triangles i w.bounds w.can.some in (
+      set_limit (entry w.t) (height_at s) s.root c.by i.root (λ x. omega (arith, i.places x, is_one w.t x, base_in x s.root.members s.tree.items))
+          (λ x here. outer_limit w.t (height_at s) s c x f.0 w.metric.table i w.bounds f.1 (omega (arith, base_in x s.root.members s.tree.items, here))),
+      wide,
+      can_change_heights w.t s c w.metric w.can w.bounds wide,
     )
 
 -- how the heights move
@@ -109,17 +143,14 @@ apart_of a b n = apart (count a n.members) (count b n.members)
 sum_all : (by r1 r2 r3 s1 s2 s3 c2 ao bo bi : ℕ) → r1 ≡ s1 + by * ao → r2 ≡ c2 → r3 ≡ s3 → c2 + by * bi ≡ s2 + by * bo → r1 + r2 + r3 + by * bi ≡ s1 + s2 + s3 + by * (ao + bo)
 sum_all by r1 r2 r3 s1 s2 s3 c2 ao bo bi e f g k = omega arith
 
-load_of-comm : (s : Search) (a b : ℕ) → load_of s a b ≡ load_of s b a
-load_of-comm s a b = omega (arith, load-comm a b (bands s.root), load-comm a b (branch_bands s.tree.items), load-comm a b (couple_bands s.rest.items))
-
 -- exactly one of the two places, or each, is in an outer set
 one_case : (n : ℕ) (t : TableValue) (h : ℕ → ℕ) (s : Search) (c : Change) (a b : ℕ) → IsSearch t h s → Bounds t h s c → a < t.places → b < t.places → count a (outers s) ≡ n → 1 ≤ count a (outers s) + count b (outers s) →
     count a (inner_members s.tree.items) + count b (inner_members s.tree.items) ≡ 0 → holding_both a b s ≡ 0 → load_of s a b + c.by ≤ 2 * entry t a b
 one_case (suc n) t h s c a b i bd la lb e some none apart =
-    omega (arith, loads_apart t h s a b i (omega (arith, e)) apart, one_room t h s c a b i bd lb (omega (arith, e)) (omega (arith, none)) apart)
+    omega (arith, loads_apart t h s a b i (omega (arith, e)) apart, under t h s a i, under t h s b i, one_room t h s c a b i bd lb (omega (arith, e)) (omega (arith, none)) apart)
 one_case zero t h s c a b i bd la lb e some none apart =
     let other : holding_both b a s ≡ 0 = omega (arith, apart, around-comm a b s.tree.items) in
-    omega (arith, load_of-comm s a b, loads_apart t h s b a i (omega (arith, some, e)) other, one_room t h s c b a i bd la (omega (arith, some, e)) (omega (arith, none)) other, entry-comm t a b)
+    omega (arith, load_of-comm s a b, loads_apart t h s b a i (omega (arith, some, e)) other, under t h s a i, under t h s b i, one_room t h s c b a i bd la (omega (arith, some, e)) (omega (arith, none)) other, entry-comm t a b)
 
 -- the load between two places stays within its bound
 loads_stay : (t : TableValue) (h : ℕ → ℕ) (s r : Search) (c : Change) → IsSearch t h s → Bounds t h s c → Changes c.by s r → Each (CanChange c.by) s.tree.items → (a b : ℕ) → a < t.places → b < t.places → a ≢ b →
@@ -141,61 +172,76 @@ loads_stay t h s r c i bd ch can a b la lb ne =
     (load a b (branch_bands (all_changed by tree))) (apart_of a b s.root) (between_out a b tree) (between_in a b tree) root branches rest (branches_load a b by tree can))
     (omega (arith, counted_out a b tree, oa, ob)) (counted_in a b tree) (omega (arith, pa, is_one t a)) (omega (arith, pb, is_one t b)) (i.loads a b la lb ne)
     (λ some none apart. one_case (count a (outers s)) t h s c a b i bd la lb refl some none apart)
-    (λ two apart. omega (arith, loads_apart t h s a b i (omega (arith, two, pb, is_one t b)) apart, bd.two a b (omega (arith, two, pb, is_one t b)) (omega (arith, two, pa, is_one t a)) apart))
+    (λ two apart. omega (arith, loads_apart t h s a b i (omega (arith, two, pb, is_one t b)) apart, under t h s a i, under t h s b i, bd.two a b (omega (arith, two, pb, is_one t b)) (omega (arith, two, pa, is_one t a)) apart))
 
 -- a tight link after the change
 tight_after : (d : ℕ → ℕ → ℕ) (k : ℕ → ℕ) (l : Link) → k l.from + k l.to ≡ 2 * d l.from l.to → IsTight d k l
 tight_after d k l e = sym e
 
-due_ready : (step : Step) (t : TableValue) (h : ℕ → ℕ) (s r : Search) (by : ℕ) → Changes by s r → ((x : ℕ) → 1 ≤ count x (outers s) → height_of r x ≡ h x + by) →
-    ((x : ℕ) → 1 ≤ count x (couple_members s.rest.items) + count x s.free.items → height_of r x ≡ h x) → ((x : ℕ) → count x (outers r) ≡ count x (outers s)) →
-    IsDue t h s by step → IsReady t (height_of r) r step
-due_ready (Meet l) t h s r by ch up same outer due =
-    (omega (arith, due.0, outer l.from), omega (arith, due.1, ap (λ (xs : List ℕ). count l.to xs) ch.free), tight_after (entry t) (height_of r) l (omega (arith, due.2, up l.from due.0, same l.to (omega (arith, due.1)))))
-due_ready (Grow l) t h s r by ch up same outer due = (
+due_ready : (step : Step) (t : TableValue) (h k : ℕ → ℕ) (s r : Search) (by : ℕ) → Changes by s r → ((x : ℕ) → 1 ≤ count x (outers s) → k x ≡ h x + by) →
+    ((x : ℕ) → 1 ≤ count x (couple_members s.rest.items) + count x s.free.items → k x ≡ h x) → ((x : ℕ) → count x (outers r) ≡ count x (outers s)) →
+    IsDue t h s by step → IsReady t k r step
+due_ready (Meet l) t h k s r by ch up same outer due =
+    (omega (arith, due.0, outer l.from), omega (arith, due.1, ap (λ (xs : List ℕ). count l.to xs) ch.free), tight_after (entry t) k l (omega (arith, due.2, up l.from due.0, same l.to (omega (arith, due.1)))))
+due_ready (Grow l) t h k s r by ch up same outer due = (
   omega (arith, due.0, outer l.from),
   omega (arith, due.1, ap (λ (cs : List Couple). count l.to (couple_members cs)) ch.rest),
-  tight_after (entry t) (height_of r) l (omega (arith, due.2, up l.from due.0, same l.to (omega (arith, due.1)))),
+  tight_after (entry t) k l (omega (arith, due.2, up l.from due.0, same l.to (omega (arith, due.1)))),
 )
-due_ready (Shrink l) t h s r by ch up same outer due = (
+due_ready (Shrink l) t h k s r by ch up same outer due = (
   omega (arith, due.0, outer l.from),
   omega (arith, due.1, outer l.to),
   omega (arith, due.2, ap (λ (v : NestValue). both l.from l.to v) ch.root, ap (λ (ks : List Branch). around l.from l.to ks) ch.tree, around_same_all by l.from l.to s.tree.items),
-  tight_after (entry t) (height_of r) l (omega (arith, due.3, up l.from due.0, up l.to due.1)),
+  tight_after (entry t) k l (omega (arith, due.3, up l.from due.0, up l.to due.1)),
 )
-due_ready (Expand at) t h s r by ch up same outer due =
+due_ready (Expand at) t h k s r by ch up same outer due =
     subst (λ (ks : List Branch). FirstComesApart (drop at ks)) (sym ch.tree) (subst FirstComesApart (sym (drop_changed by at s.tree.items)) (due_comes_apart by (drop at s.tree.items) due))
 
-rise : (by k s h i o : ℕ) → k + by * i ≡ s + by * o → h ≡ s → i ≡ 0 → o ≡ 1 → k ≡ h + by
-rise by k s h i o e f g j = omega (arith, ap (λ (x : ℕ). by * x) g, ap (λ (x : ℕ). by * x) j)
+rise : (by k h i o : ℕ) → k + by * i ≡ h + by * o → i ≡ 0 → o ≡ 1 → k ≡ h + by
+rise by k h i o e g j = omega (arith, e, ap (λ (x : ℕ). by * x) g, ap (λ (x : ℕ). by * x) j)
 
-fall : (by k s h i o : ℕ) → k + by * i ≡ s + by * o → h ≡ s → i ≡ 1 → o ≡ 0 → k + by ≡ h
-fall by k s h i o e f g j = omega (arith, ap (λ (x : ℕ). by * x) g, ap (λ (x : ℕ). by * x) j)
+fall : (by k h i o : ℕ) → k + by * i ≡ h + by * o → i ≡ 1 → o ≡ 0 → k + by ≡ h
+fall by k h i o e g j = omega (arith, e, ap (λ (x : ℕ). by * x) g, ap (λ (x : ℕ). by * x) j)
 
-stay : (by k s h i o : ℕ) → k + by * i ≡ s + by * o → h ≡ s → i ≡ 0 → o ≡ 0 → k ≡ h
-stay by k s h i o e f g j = omega (arith, ap (λ (x : ℕ). by * x) g, ap (λ (x : ℕ). by * x) j)
+stay : (by k h i o : ℕ) → k + by * i ≡ h + by * o → i ≡ 0 → o ≡ 0 → k ≡ h
+stay by k h i o e g j = omega (arith, e, ap (λ (x : ℕ). by * x) g, ap (λ (x : ℕ). by * x) j)
 
-steps_on : (t : TableValue) (h : ℕ → ℕ) (s r : Search) (c : Change) → Changes c.by s r → IsTable t → KeepsTriangles t → IsSearch t h s → Bounds t h s c → 1 ≤ length s.free.items → StepsOn t c r
-steps_on t h s r c ch is tri i b some =
+-- a place of an outer set, of an inner set, or of none of them
+at_most : (n m : ℕ) (P : Type 0) → n + m ≤ 1 → (n ≡ 1 → P) → (m ≡ 1 → P) → (n + m ≡ 0 → P) → P
+at_most zero zero P few out inn rest = rest refl
+at_most zero (suc m) P few out inn rest = inn (omega (arith, few))
+at_most (suc n) m P few out inn rest = out (omega (arith, few))
+
+steps_on : (t : TableValue) (s r : Search) (c : Change) → Changes c.by s r → IsMetric t → CanSearch t s → Bounds t (height_at s) s c → StepsOn t c r
+steps_on t s r c ch m cs b =
     let by = c.by in
-    let can = can_change t h s c is tri i b some in
-    let k = height_of r in
-    let move = λ (x : ℕ). moved by s r ch can x in
+    let h = height_at s in
+    let k = height_at r in
+    let i = cs.search in
+    let can = can_change t h s c m.table m.triangles i b cs.some in
+    let move = ch.heights in
     let one = λ (x : ℕ). is_one t x in
     let outer : (x : ℕ) → count x (outers r) ≡ count x (outers s) =
     λ x. ap (λ (v : NestValue). count x (outer_members v.members r.tree.items)) ch.root ∙ ap (λ (ks : List Branch). count x (outer_members s.root.members ks)) ch.tree ∙ ap (λ (xs : List ℕ). count x xs) (outer_same by s.root.members s.tree.items) in
     let inner : (x : ℕ) → count x (inner_members r.tree.items) ≡ count x (inner_members s.tree.items) =
     λ x. ap (λ (ks : List Branch). count x (inner_members ks)) ch.tree ∙ ap (λ (xs : List ℕ). count x xs) (inner_same by s.tree.items) in
     let up : (x : ℕ) → 1 ≤ count x (outers s) → k x ≡ h x + by =
-    λ x here. rise by (k x) (height_of s x) (h x) (count x (inner_members s.tree.items)) (count x (outers s)) (move x) (i.tall x) (omega (arith, i.places x, one x, here)) (omega (arith, i.places x, one x, here)) in
+    λ x here. rise by (k x) (h x) (count x (inner_members s.tree.items)) (count x (outers s)) (move x) (omega (arith, i.places x, one x, here)) (omega (arith, i.places x, one x, here)) in
     let down : (x : ℕ) → 1 ≤ count x (inner_members s.tree.items) → k x + by ≡ h x =
-    λ x here. fall by (k x) (height_of s x) (h x) (count x (inner_members s.tree.items)) (count x (outers s)) (move x) (i.tall x) (omega (arith, i.places x, one x, here)) (omega (arith, i.places x, one x, here)) in
+    λ x here. fall by (k x) (h x) (count x (inner_members s.tree.items)) (count x (outers s)) (move x) (omega (arith, i.places x, one x, here)) (omega (arith, i.places x, one x, here)) in
     let same : (x : ℕ) → 1 ≤ count x (couple_members s.rest.items) + count x s.free.items → k x ≡ h x =
-    λ x here. stay by (k x) (height_of s x) (h x) (count x (inner_members s.tree.items)) (count x (outers s)) (move x) (i.tall x) (omega (arith, i.places x, one x, here)) (omega (arith, i.places x, one x, here)) in
+    λ x here. stay by (k x) (h x) (count x (inner_members s.tree.items)) (count x (outers s)) (move x) (omega (arith, i.places x, one x, here)) (omega (arith, i.places x, one x, here)) in
     record {
-      h = k;
       search = record {
-        tall = λ x. refl;
+        tall = λ x none. omega (arith, move x, moved by s r ch can x, i.tall x (omega (arith, none, ap (λ (xs : List ℕ). count x xs) ch.free)));
+        room = λ a f la hf ne.
+            let hs : 1 ≤ count f s.free.items = omega (arith, hf, ap (λ (xs : List ℕ). count f xs) ch.free) in
+            let was = i.room a f la hs ne in
+            let still = same f (omega (arith, hs)) in
+            at_most (count a (outers s)) (count a (inner_members s.tree.items)) (k a + k f ≤ 2 * entry t a f) (omega (arith, i.places a, one a))
+            (λ out. omega (arith, still, up a (omega (arith, out)), b.one a f (omega (arith, out)) (omega (arith, hs))))
+            (λ inn. omega (arith, still, down a (omega (arith, inn)), was))
+            (λ none. omega (arith, still, same a (omega (arith, none, i.places a, in_place t a la)), was));
         places = λ x. omega (arith, i.places x, outer x, inner x, ap (λ (cs : List Couple). count x (couple_members cs)) ch.rest, ap (λ (xs : List ℕ). count x xs) ch.free);
         grown = subst (λ (v : NestValue). IsGrown v.members r.tree.items) (sym ch.root) (subst (λ (ks : List Branch). IsGrown s.root.members ks) (sym ch.tree) (grown_same by s.root.members s.tree.items i.grown));
         joined = subst (λ (cs : List Couple). Each IsJoined cs) (sym ch.rest) i.joined;
@@ -206,12 +252,13 @@ steps_on t h s r c ch is tri i b some =
         rest = subst (λ (cs : List Couple). Each (IsFirmCouple (entry t) k) cs) (sym ch.rest) (couples_same (entry t) h k s.rest.items i.joined i.rest (λ x here. same x (omega (arith, here))));
         loads = loads_stay t h s r c i b ch can;
       };
-      ready = due_ready c.step t h s r by ch up same outer b.due;
+      ready = due_ready c.step t h k s r by ch up same outer b.due;
+      size = ch.size ∙ cs.size;
     }
 
 pub widens : (s r : Search) (c : Change) → Changes c.by s r → Widens s c r
 widens s r c ch = record {
-  search = λ t h is tri i b some. steps_on t h s r c ch is tri i b some;
+  search = λ t m can b. steps_on t s r c ch m can b;
   size = omega (arith, ap (λ (ks : List Branch). length (inner_bands ks)) ch.tree, sizes_same c.by s.tree.items, ap (λ (cs : List Couple). length (couple_bands cs)) ch.rest);
   free = ch.free;
 }

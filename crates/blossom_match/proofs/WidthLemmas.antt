@@ -1,7 +1,7 @@
 -- A change of widths keeps what holds between two steps.
 use Rattle.std.proofs.Common.{◌≡◌, ℕ, ◌+◌, ◌-◌, ◌*◌, ◌^◌, ◌≤◌, ◌<◌, suc, zero, List, [], ◌∷◌, ◌++◌, length, drop, arith, refl, sym, ap, ◌∙◌, append_assoc}
 use Rattle.blossom_match.specs.Lists.{Each}
-use Rattle.blossom_match.specs.Bands.{Band, NestValue, apart, bands, count, height, load, with_width}
+use Rattle.blossom_match.specs.Bands.{NestValue, apart, bands, count, height, load, with_width}
 use Rattle.blossom_match.specs.Couples.{couple_members, IsJoined}
 use Rattle.blossom_match.specs.Sound.{IsFirm, IsFirmCouple, IsSound}
 use Rattle.blossom_match.specs.Trees.{around, both, branch_bands, inner_bands, inner_members, outer_members, IsGrown}
@@ -17,7 +17,7 @@ use Rattle.blossom_match.specs.declared.search.Search.{Search}
 use Rattle.blossom_match.specs.declared.least.Change.{Change}
 use Rattle.blossom_match.proofs.SumLemmas.{count-append, height-append, hit_is, load-append, size-append, some_member}
 use Rattle.blossom_match.proofs.TreeLemmas.{base_in, outer_members_base}
-use Rattle.blossom_match.proofs.BoundLemmas.{place_in}
+use Rattle.blossom_match.proofs.SearchLemmas.{place_in}
 
 -- members stay
 pub outer_same : (by : ℕ) (base : List ℕ) (bs : List Branch) → outer_members base (all_changed by bs) ≡ outer_members base bs
@@ -205,12 +205,6 @@ within top old new by (suc (suc zero)) zero oo ii oa ob ia ib e f g p q base one
     omega (arith, l)
 within top old new by (suc (suc zero)) (suc bi) oo ii oa ob ia ib e f g p q base one two = absurd (omega arith)
 within top old new by (suc (suc (suc bo))) bi oo ii oa ob ia ib e f g p q base one two = absurd (omega arith)
-
-pub load-comm : (a b : ℕ) (bs : List Band) → load a b bs ≡ load b a bs
-load-comm a b [] = refl
-load-comm a b (s ∷ bs) =
-    let e : apart (count a s.members) (count b s.members) ≡ apart (count b s.members) (count a s.members) = omega arith in
-    omega (arith, load-comm a b bs, ap (λ (k : ℕ). s.width * k) e)
 
 pub around-comm : (a b : ℕ) (bs : List Branch) → around a b bs ≡ around b a bs
 around-comm a b [] = refl

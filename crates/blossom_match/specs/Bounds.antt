@@ -1,10 +1,10 @@
 -- The least change of widths after which a step can be done.
-use Rattle.std.specs.Prelude.{◌≡◌, ℕ, ◌+◌, ◌*◌, ◌^◌, ◌%◌, ◌<◌, ◌≤◌, ◌⊎◌, List, [], ◌∷◌, drop, length, slice_index}
+use Rattle.std.specs.Prelude.{◌≡◌, ℕ, ◌+◌, ◌*◌, ◌%◌, ◌<◌, ◌≤◌, ◌⊎◌, List, [], ◌∷◌, drop, length, slice_index}
 use Rattle.blossom_match.specs.Lists.{Each}
-use Rattle.blossom_match.specs.Bands.{NestValue, bands, count, height}
-use Rattle.blossom_match.specs.Couples.{couple_members, couple_bands}
-use Rattle.blossom_match.specs.Trees.{around, both, branch_bands, inner_members, outer_members}
-use Rattle.blossom_match.specs.Searches.{holding_both, outers, IsSearch}
+use Rattle.blossom_match.specs.Bands.{NestValue, count}
+use Rattle.blossom_match.specs.Couples.{couple_members}
+use Rattle.blossom_match.specs.Trees.{around, both, outer_members}
+use Rattle.blossom_match.specs.Searches.{height_at, holding_both, outers, IsSearch}
 use Rattle.blossom_match.specs.TableValue.{TableValue}
 use Rattle.blossom_match.specs.Tables.{entry}
 use Rattle.blossom_match.specs.declared.nest.Link.{Link}
@@ -15,19 +15,6 @@ use Rattle.blossom_match.specs.declared.search.Step.TheVariants.{Meet, Grow, Shr
 use Rattle.blossom_match.specs.declared.least.Change.{Change}
 use Rattle.blossom_match.specs.declared.least.Kind.{Kind}
 use Rattle.blossom_match.specs.declared.least.Kind.TheVariants as kind
-
--- the widths of all sets of the search that hold the place
-abbrev pub height_of : Search → ℕ → ℕ
-height_of s x = height x (bands s.root) + height x (branch_bands s.tree.items) + height x (couple_bands s.rest.items)
-
--- how many outermost sets of the search hold the place
-abbrev pub times_of : Search → ℕ → ℕ
-times_of s x = count x (outers s) + count x (inner_members s.tree.items) + count x (couple_members s.rest.items)
-
--- all places of sets are below n, and all heights are small
-pub record FitHeights (n : ℕ) (s : Search) : Type 0 where
-  pub within : (x : ℕ) → 1 ≤ times_of s x → x < n
-  pub fits : (x : ℕ) → height_of s x < 2 ^ 32
 
 -- by how much the slack of a link of the kind falls when the widths change by one
 abbrev pub rounds : Kind → ℕ
@@ -152,6 +139,6 @@ pub record Bounds (t : TableValue) (h : ℕ → ℕ) (s : Search) (c : Change) :
 
 -- a search that is not over
 pub record CanSearch (t : TableValue) (s : Search) : Type 0 where
-  pub h : ℕ → ℕ
-  pub search : IsSearch t h s
+  pub search : IsSearch t (height_at s) s
+  pub size : length s.heights.items ≡ t.places
   pub some : 1 ≤ length s.free.items

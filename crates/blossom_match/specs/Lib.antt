@@ -19,4 +19,5 @@ pub mod Searches
 pub mod Bounds
 pub mod Widths
 pub mod Phases
+pub mod Prices
 pub mod Heights

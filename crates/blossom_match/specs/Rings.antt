@@ -73,9 +73,9 @@ IsMade members (p ∷ ps) = (members ≡ members_in (p ∷ ps)) × IsRing (p ∷
 abbrev pub nest_of : List ℕ → ℕ → List Part → NestValue
 nest_of members width parts = record { members = members; width = width; below = bands_in parts; tolls = ring_tolls parts ++ tolls_in parts }
 
--- one place without a width
-abbrev pub single_of : ℕ → NestValue
-single_of x = nest_of (x ∷ []) 0 []
+-- one place with a width
+abbrev pub single_of : ℕ → ℕ → NestValue
+single_of x w = nest_of (x ∷ []) w []
 
 -- the set is made of these parts
 pub record PartsAre (s : NestValue) (parts : List Part) : Type 0 where

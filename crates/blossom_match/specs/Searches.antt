@@ -1,5 +1,5 @@
 -- What holds between two steps of the search.
-use Rattle.std.specs.Prelude.{◌≡◌, ◌≢◌, ℕ, ◌+◌, ◌*◌, ◌<◌, ◌≤◌, List, drop, length, nat_lt, if◌then◌else◌}
+use Rattle.std.specs.Prelude.{◌≡◌, ◌≢◌, ℕ, ◌+◌, ◌*◌, ◌<◌, ◌≤◌, List, drop, length, nat_lt, slice_index, if◌then◌else◌}
 use Rattle.blossom_match.specs.Lists.{Each}
 use Rattle.blossom_match.specs.Bands.{bands, count, height, load}
 use Rattle.blossom_match.specs.Couples.{couple_members, couple_bands, IsJoined}
@@ -18,9 +18,14 @@ use Rattle.blossom_match.specs.declared.search.Step.TheVariants.{Meet, Grow, Shr
 abbrev pub is_place : TableValue → ℕ → ℕ
 is_place t x = if nat_lt x t.places then 1 else 0
 
--- all places that are in couples or free, with the heights h that the couples make
+-- between a free place and any other there is room for their heights
+abbrev pub FreeHaveRoom : TableValue → (ℕ → ℕ) → List ℕ → Type 0
+FreeHaveRoom t h free = (a f : ℕ) → a < t.places → 1 ≤ count f free → a ≢ f → h a + h f ≤ 2 * entry t a f
+
+-- all places that are in couples or free; h is the heights that the couples make, and the prices of the free places
 pub record IsStanding (t : TableValue) (h : ℕ → ℕ) (couples : List Couple) (free : List ℕ) : Type 0 where
-  pub tall : (x : ℕ) → h x ≡ height x (couple_bands couples)
+  pub tall : (x : ℕ) → count x free ≡ 0 → h x ≡ height x (couple_bands couples)
+  pub room : FreeHaveRoom t h free
   pub places : (x : ℕ) → count x (couple_members couples) + count x free ≡ is_place t x
   pub joined : Each IsJoined couples
   pub firm : Each (IsFirmCouple (entry t) h) couples
@@ -30,9 +35,18 @@ pub record IsStanding (t : TableValue) (h : ℕ → ℕ) (couples : List Couple)
 abbrev pub outers : Search → List ℕ
 outers s = outer_members s.root.members s.tree.items
 
--- the search tree, the couples beside it and the free places, with the heights h that all sets make
+-- the widths of all sets of the search that hold the place
+abbrev pub height_of : Search → ℕ → ℕ
+height_of s x = height x (bands s.root) + height x (branch_bands s.tree.items) + height x (couple_bands s.rest.items)
+
+-- the height of the place that the search keeps
+abbrev pub height_at : Search → ℕ → ℕ
+height_at s x = slice_index s.heights.items x
+
+-- the search tree, the couples beside it and the free places; h is the heights that all sets make, and the prices of the free places
 pub record IsSearch (t : TableValue) (h : ℕ → ℕ) (s : Search) : Type 0 where
-  pub tall : (x : ℕ) → h x ≡ height x (bands s.root) + height x (branch_bands s.tree.items) + height x (couple_bands s.rest.items)
+  pub tall : (x : ℕ) → count x s.free.items ≡ 0 → h x ≡ height_of s x
+  pub room : FreeHaveRoom t h s.free.items
   pub places : (x : ℕ) → count x (outers s) + count x (inner_members s.tree.items) + count x (couple_members s.rest.items) + count x s.free.items ≡ is_place t x
   pub grown : IsGrown s.root.members s.tree.items
   pub joined : Each IsJoined s.rest.items
@@ -57,9 +71,9 @@ IsReady t h s (Expand at) = FirstComesApart (drop at s.tree.items)
 -- a search at which the step can be done
 pub record CanStep (s : Search) (step : Step) : Type 0 where
   pub t : TableValue
-  pub h : ℕ → ℕ
-  pub search : IsSearch t h s
-  pub ready : IsReady t h s step
+  pub search : IsSearch t (height_at s) s
+  pub ready : IsReady t (height_at s) s step
+  pub size : length s.heights.items ≡ t.places
 
 -- the number that falls with each step: the sets that are in no outer set
 abbrev pub size_of : Search → ℕ
@@ -70,8 +84,10 @@ pub record Advances (s : Search) (step : Step) (r : Search) : Type 0 where
   pub search : (t : TableValue) (h : ℕ → ℕ) → IsSearch t h s → IsReady t h s step → IsSearch t h r
   pub fewer : size_of r < size_of s
   pub free : r.free.items ≡ s.free.items
+  pub heights : r.heights.items ≡ s.heights.items
 
 -- the step ends the search
 pub record Ends (s : Search) (step : Step) (r : Standing) : Type 0 where
-  pub standing : (t : TableValue) (h : ℕ → ℕ) → IsSearch t h s → IsReady t h s step → IsStanding t h r.couples.items r.free.items
+  pub standing : (t : TableValue) → IsSearch t (height_at s) s → IsReady t (height_at s) s step → IsStanding t (height_at s) r.couples.items r.free.items
   pub fewer : length r.free.items + 1 ≡ length s.free.items
+  pub heights : r.heights.items ≡ s.heights.items

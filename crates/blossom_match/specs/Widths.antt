@@ -1,10 +1,12 @@
 -- The widths of the outermost sets change: outer sets grow and inner sets shrink.
-use Rattle.std.specs.Prelude.{◌≡◌, ℕ, ◌+◌, ◌-◌, ◌^◌, ◌<◌, ◌≤◌, List, [], ◌∷◌, length}
-use Rattle.blossom_match.specs.Bands.{with_width}
-use Rattle.blossom_match.specs.Searches.{size_of, IsReady, IsSearch}
-use Rattle.blossom_match.specs.Bounds.{Bounds}
+use Rattle.std.specs.Prelude.{◌≡◌, ℕ, ◌+◌, ◌-◌, ◌*◌, ◌^◌, ◌<◌, ◌≤◌, List, [], ◌∷◌, length, slice_index}
+use Rattle.blossom_match.specs.Bands.{NestValue, count, with_width}
+use Rattle.blossom_match.specs.Trees.{inner_members, outer_members}
+use Rattle.blossom_match.specs.Heights.{CanFall, CanRise, HasCells}
+use Rattle.blossom_match.specs.Searches.{height_at, size_of, IsReady, IsSearch}
+use Rattle.blossom_match.specs.Bounds.{Bounds, CanSearch}
 use Rattle.blossom_match.specs.TableValue.{TableValue}
-use Rattle.blossom_match.specs.Tables.{IsTable, KeepsTriangles}
+use Rattle.blossom_match.specs.Tables.{IsMetric}
 use Rattle.blossom_match.specs.declared.branches.Branch.{Branch}
 use Rattle.blossom_match.specs.declared.search.Search.{Search}
 use Rattle.blossom_match.specs.declared.least.Change.{Change}
@@ -23,8 +25,21 @@ pub record CanChange (by : ℕ) (b : Branch) : Type 0 where
   pub room : b.outer.width + by < 2 ^ 32
   pub wide : by ≤ b.inner.width
 
+-- the heights of outer places rise, and those of inner places fall
+abbrev pub Moves : ℕ → NestValue → List Branch → List ℕ → List ℕ → Type 0
+Moves by root tree old new =
+    (x : ℕ) → slice_index new x + by * count x (inner_members tree) ≡ slice_index old x + by * count x (outer_members root.members tree)
+
+-- each place of the tree has a cell, that of an outer set has room for the change, and that of an inner set has its height
+pub record CanChangeHeights (by : ℕ) (root : NestValue) (tree : List Branch) (heights : List ℕ) : Type 0 where
+  pub cells : HasCells (λ x. count x (outer_members root.members tree) + count x (inner_members tree)) heights
+  pub rise : CanRise (λ x. by * count x (outer_members root.members tree)) heights
+  pub fall : CanFall (λ x. by * count x (inner_members tree)) heights
+
 -- the search with all its widths changed
 pub record Changes (by : ℕ) (s r : Search) : Type 0 where
+  pub heights : Moves by s.root s.tree.items s.heights.items r.heights.items
+  pub size : length r.heights.items ≡ length s.heights.items
   pub root : r.root ≡ with_width (s.root.width + by) s.root
   pub tree : r.tree.items ≡ all_changed by s.tree.items
   pub rest : r.rest.items ≡ s.rest.items
@@ -33,21 +48,18 @@ pub record Changes (by : ℕ) (s r : Search) : Type 0 where
 -- a search at which the change leaves room between all places
 pub record CanWiden (s : Search) (c : Change) : Type 0 where
   pub t : TableValue
-  pub h : ℕ → ℕ
-  pub table : IsTable t
-  pub triangles : KeepsTriangles t
-  pub search : IsSearch t h s
-  pub bounds : Bounds t h s c
-  pub some : 1 ≤ length s.free.items
+  pub metric : IsMetric t
+  pub can : CanSearch t s
+  pub bounds : Bounds t (height_at s) s c
 
 -- a search with other heights at which the step can be done
 pub record StepsOn (t : TableValue) (c : Change) (r : Search) : Type 0 where
-  pub h : ℕ → ℕ
-  pub search : IsSearch t h r
-  pub ready : IsReady t h r c.step
+  pub search : IsSearch t (height_at r) r
+  pub ready : IsReady t (height_at r) r c.step
+  pub size : length r.heights.items ≡ t.places
 
 -- after the change the step can be done
 pub record Widens (s : Search) (c : Change) (r : Search) : Type 0 where
-  pub search : (t : TableValue) (h : ℕ → ℕ) → IsTable t → KeepsTriangles t → IsSearch t h s → Bounds t h s c → 1 ≤ length s.free.items → StepsOn t c r
+  pub search : (t : TableValue) → IsMetric t → CanSearch t s → Bounds t (height_at s) s c → StepsOn t c r
   pub size : size_of r ≡ size_of s
   pub free : r.free.items ≡ s.free.items

@@ -2,14 +2,12 @@ ghost use Rattle.std.specs.Prelude.{◌≡◌, ◌≤◌, ◌+◌, ◌*◌, ◌<
 ghost use Rattle.blossom_match.specs.Bands.{count};
 ghost use Rattle.blossom_match.specs.Couples.{couple_members};
 ghost use Rattle.blossom_match.specs.Tables.{entry};
-ghost use Rattle.blossom_match.specs.Heights.{HeightsAre};
-ghost use Rattle.blossom_match.specs.Bounds.{height_of, Bounds, CanCross, CanOffer, CanOfferAll, CanSearch, Crosses, Found, HasOuters, Narrows, NarrowsAt, Scans};
-ghost use Rattle.blossom_match.specs.Searches.{IsSearch};
+ghost use Rattle.blossom_match.specs.Bounds.{Bounds, CanCross, CanOffer, CanOfferAll, CanSearch, Crosses, Found, HasOuters, Narrows, NarrowsAt, Scans};
+ghost use Rattle.blossom_match.specs.Searches.{height_at};
 ghost use Rattle.blossom_match.specs.declared.least.Kind.TheVariants as kind;
 
 use crate::branches::Branch;
 use crate::couples::Couple;
-use crate::heights::heights_of;
 use crate::nest::{Link, Nest};
 use crate::search::{Search, Step};
 use crate::table::DistTable;
@@ -34,17 +32,15 @@ enum Kind {
 /// The least change of widths after which a step can be done.
 pub fn least(alloc: Global, t: &DistTable, s: &Search) -> Result<Change, Memory>
     requires { CanSearch t.now s.now }
-    ensures { IfOk result (λ c. (h : ℕ → ℕ) → IsSearch t.now h s.now → Bounds t.now h s.now c) }
+    ensures { IfOk result (λ c. Bounds t.now (height_at s.now) s.now c) }
 {
-    let heights = heights_of(alloc, t.places(), s)?;
-    least_at(alloc, t, &heights, s)
+    least_at(alloc, t, &s.heights, s)
 }
 
 fn least_at(alloc: Global, t: &DistTable, heights: &[u32], s: &Search) -> Result<Change, Memory>
     requires can { CanSearch t.now s.now }
-    requires len { length heights.now ≡ t.now.places }
-    requires value { HeightsAre heights.now (height_of s.now) }
-    ensures { IfOk result (λ c. (h : ℕ → ℕ) → IsSearch t.now h s.now → Bounds t.now h s.now c) }
+    requires heights { heights.now ≡ s.now.heights.items }
+    ensures { IfOk result (λ c. Bounds t.now (height_at s.now) s.now c) }
 {
     let first = first_change(t, heights, s.root.members(), &s.free);
     let Crossing { outers, best } = scan_outers(alloc, t, heights, &s.root, &s.tree, first)?;

@@ -13,6 +13,7 @@ mod nest;
 mod opening;
 mod pairing;
 mod phase;
+mod prices;
 mod ring;
 mod search;
 mod shrinking;

@@ -1,4 +1,4 @@
-ghost use Rattle.std.specs.Prelude.{◌≡◌, ◌≤◌, ◌+◌, ◌<◌, ◌^◌, IsTrue, false, length, nat_lt, IfOk};
+ghost use Rattle.std.specs.Prelude.{◌≡◌, ◌≤◌, ◌+◌, ◌<◌, ◌^◌, IsTrue, false, length, nat_lt, slice_index, IfOk};
 ghost use Rattle.blossom_match.specs.Bands.{count, with_width, Kept};
 ghost use Rattle.blossom_match.specs.Rings.{back_of, members_in, nest_of, ring_of as the_ring, single_of, IsMade, IsRing, PartsAre};
 
@@ -75,13 +75,14 @@ pub fn times(xs: &[u32], x: u32) -> usize
     n
 }
 
-/// The set of one place, without a width.
-pub fn single(alloc: Global, place: u32) -> Result<Nest, Memory>
-    ensures { IfOk result (λ s. s ≡ single_of place) }
+/// The set of one place, as wide as it is high.
+pub fn single(alloc: Global, place: u32, heights: &[u32]) -> Result<Nest, Memory>
+    requires { place < length heights.now }
+    ensures { IfOk result (λ s. s ≡ single_of place (slice_index heights.now place)) }
 {
     Ok(Nest {
         members: vec![in alloc; place]?,
-        width: 0,
+        width: heights[place as usize],
         parts: Vec::new(alloc),
     })
 }

@@ -1,10 +1,9 @@
-ghost use Rattle.std.specs.Prelude.{◌≡◌, ◌≤◌, ◌+◌, ◌++◌, ◌∷◌, [], length, IfOk};
+ghost use Rattle.std.specs.Prelude.{◌≡◌, ◌≤◌, ◌<◌, ◌+◌, ◌++◌, ◌∷◌, [], length, IfOk};
 ghost use Rattle.blossom_match.specs.Tables.{IsMetric};
 ghost use Rattle.blossom_match.specs.Bounds.{CanSearch};
 ghost use Rattle.blossom_match.specs.Searches.{CanStep};
 ghost use Rattle.blossom_match.specs.Phases.{Begins, Goes, Leads, Stands};
 
-use crate::couples::Couple;
 use crate::least::least;
 use crate::nest::single;
 use crate::search::{Search, Standing, Step, expand_at, grow_to, meet, shrink_by};
@@ -21,20 +20,14 @@ enum Stepped {
 }
 
 /// Searches from a free place until it is paired.
-pub fn pair_up(
-    alloc: Global,
-    t: &DistTable,
-    place: u32,
-    couples: Vec<Couple>,
-    free: Vec<u32>,
-) -> Result<Standing, Memory>
+pub fn pair_up(alloc: Global, t: &DistTable, place: u32, from: Standing) -> Result<Standing, Memory>
     requires metric { IsMetric t.now }
-    requires stands { Stands t.now couples.items (free.items ++ place ∷ []) }
-    requires some { 1 ≤ length free.items }
-    ensures stands { IfOk result (λ r. Stands t.now r.couples.items r.free.items) }
-    ensures fewer { IfOk result (λ r. length r.free.items + 1 ≡ length free.items) }
+    requires stands { Stands t.now from.couples.items (from.free.items ++ place ∷ []) from.heights.items }
+    requires some { 1 ≤ length from.free.items }
+    ensures stands { IfOk result (λ r. Stands t.now r.couples.items r.free.items r.heights.items) }
+    ensures fewer { IfOk result (λ r. length r.free.items + 1 ≡ length from.free.items) }
 {
-    let mut now = begin(alloc, place, couples, free)?;
+    let mut now = begin(alloc, place, from)?;
     'steps: loop {
         match advance(alloc, t, now)? {
             Stepped::More(next) => now = next,
@@ -44,15 +37,22 @@ pub fn pair_up(
 }
 
 /// A search with the place alone in its tree.
-fn begin(alloc: Global, place: u32, couples: Vec<Couple>, free: Vec<u32>) -> Result<Search, Memory>
-    ensures { IfOk result (λ s. Begins place couples.items free.items s) }
+pub fn begin(alloc: Global, place: u32, from: Standing) -> Result<Search, Memory>
+    requires { place < length from.heights.items }
+    ensures { IfOk result (λ s. Begins place from.couples.items from.free.items from.heights.items s) }
 {
-    let root = single(alloc, place)?;
+    let Standing {
+        couples,
+        free,
+        heights,
+    } = from;
+    let root = single(alloc, place, &heights)?;
     Ok(Search {
         root,
         tree: Vec::new(alloc),
         rest: couples,
         free,
+        heights,
     })
 }
 

@@ -11,21 +11,24 @@ use crate::shrinking::shrink;
 use design_model::Memory;
 use std::alloc::Global;
 
-/// Sets in pairs, and free places.
+/// Sets in pairs, free places, and the height of each place: the widths of the sets that hold it, or
+/// the price of a free place.
 #[derive(Drop)]
 pub struct Standing {
     pub couples: Vec<Couple>,
     pub free: Vec<u32>,
+    pub heights: Vec<u32>,
 }
 
-/// A search for a way from the root to a free place: the tree, the couples beside it, and the free
-/// places.
+/// A search for a way from the root to a free place: the tree, the couples beside it, the free
+/// places, and the height of each place.
 #[derive(Drop)]
 pub struct Search {
     pub root: Nest,
     pub tree: Vec<Branch>,
     pub rest: Vec<Couple>,
     pub free: Vec<u32>,
+    pub heights: Vec<u32>,
 }
 
 /// What can be done: a tight link from an outer set to a free place, to a couple or to another outer
@@ -48,6 +51,7 @@ pub fn grow_to(s: Search, link: Link) -> Result<Search, Memory>
         tree,
         rest,
         free,
+        heights,
     } = s;
     let mut left = rest;
     let couple = take_couple(&mut left, link.to);
@@ -58,6 +62,7 @@ pub fn grow_to(s: Search, link: Link) -> Result<Search, Memory>
         tree: grown,
         rest: left,
         free,
+        heights,
     })
 }
 
@@ -71,6 +76,7 @@ pub fn shrink_by(alloc: Global, s: Search, link: Link) -> Result<Search, Memory>
         tree,
         rest,
         free,
+        heights,
     } = s;
     let mut shrunk = tree;
     let top = shrink(alloc, root, &mut shrunk, link)?;
@@ -79,6 +85,7 @@ pub fn shrink_by(alloc: Global, s: Search, link: Link) -> Result<Search, Memory>
         tree: shrunk,
         rest,
         free,
+        heights,
     })
 }
 
@@ -92,6 +99,7 @@ pub fn expand_at(alloc: Global, s: Search, at: usize) -> Result<Search, Memory>
         tree,
         rest,
         free,
+        heights,
     } = s;
     let mut grown = tree;
     let mut more = rest;
@@ -101,6 +109,7 @@ pub fn expand_at(alloc: Global, s: Search, at: usize) -> Result<Search, Memory>
         tree: grown,
         rest: more,
         free,
+        heights,
     })
 }
 
@@ -114,20 +123,22 @@ pub fn meet(alloc: Global, s: Search, link: Link) -> Result<Standing, Memory>
         tree,
         rest,
         free,
+        heights,
     } = s;
     let mut left = free;
     take_place(&mut left, link.to);
-    let met = single(alloc, link.to)?;
+    let met = single(alloc, link.to, &heights)?;
     let mut couples = rest;
     augment(root, tree, link, met, &mut couples)?;
     Ok(Standing {
         couples,
         free: left,
+        heights,
     })
 }
 
 /// Takes a place out of a list that has it.
-fn take_place(places: &mut Vec<u32>, place: u32)
+pub fn take_place(places: &mut Vec<u32>, place: u32)
     requires { 1 ≤ count place places.old.items }
     ensures counts { (x : ℕ) → count x places.new.items + hit x place ≡ count x places.old.items }
     ensures fewer { length places.new.items + 1 ≡ length places.old.items }

@@ -6,7 +6,7 @@ use Rattle.blossom_match.proofs.EndLemmas.{matched, once_each}
 use Rattle.blossom_match.proofs.matching.match_all.Goals as goal
 
 pub take_couples-requires-clause-joined : goal.take_couples-requires-clause-joined
-take_couples-requires-clause-joined c = c.in_ok-couples.ensures.standing.joined
+take_couples-requires-clause-joined c = c.in_ok-couples.ensures.stands.standing.joined
 
 pub take_couples-requires-clause-once : goal.take_couples-requires-clause-once
 take_couples-requires-clause-once c = once_each c.args.t.now c.in_ok-couples.couples.items c.in_ok-couples.ensures

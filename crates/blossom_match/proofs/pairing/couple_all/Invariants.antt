@@ -4,7 +4,10 @@ use Rattle.blossom_match.proofs.pairing.couple_all.Given as goal
 
 -- couples and an even number of free places
 abbrev pub invariant-loop-place : goal.invariant-loop-place
-invariant-loop-place l = record { stands : Stands l.t l.couples.items l.free.items; even : length l.free.items % 2 ≡ 0 }
+invariant-loop-place l = record {
+  stands : Stands l.t l.now.couples.items l.now.free.items l.now.heights.items;
+  even : length l.now.free.items % 2 ≡ 0;
+}
 
 abbrev pub decreases-loop-place : goal.decreases-loop-place
-decreases-loop-place l = length l.free.items
+decreases-loop-place l = length l.now.free.items

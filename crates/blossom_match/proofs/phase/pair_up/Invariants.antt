@@ -5,7 +5,7 @@ use Rattle.blossom_match.proofs.phase.pair_up.Given as goal
 
 -- a search that is not over
 abbrev pub invariant-steps : goal.invariant-steps
-invariant-steps l = record { search : CanSearch l.t l.now; free : l.now.free.items ≡ l.fn.free.items }
+invariant-steps l = record { search : CanSearch l.t l.now; free : l.now.free.items ≡ l.fn.from.free.items }
 
 abbrev pub decreases-steps : goal.decreases-steps
 decreases-steps l = size_of l.now

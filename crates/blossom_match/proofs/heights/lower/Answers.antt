@@ -1,6 +1,6 @@
 use Rattle.std.proofs.Common.{arith, get_or, refl}
-use Rattle.blossom_match.proofs.RaisedLemmas.{raised, count_at}
-use Rattle.blossom_match.proofs.heights.add_width.Goals as goal
+use Rattle.blossom_match.proofs.RaisedLemmas.{lowered, lowers, count_at}
+use Rattle.blossom_match.proofs.heights.lower.Goals as goal
 
 pub bounds-heights-m : goal.bounds-heights-m
 bounds-heights-m c =
@@ -14,6 +14,7 @@ bounds-heights-m-in-loop-m c =
 
 pub loop-m-preserved : goal.loop-m-preserved
 loop-m-preserved c = λ x.
-    let h = c.requires.within (get_or c.args.members.now c.loop-m.m-index 0) (count_at c.args.members.now c.loop-m.m-index c.loop-m-test.true) in
-    raised x c.loop-m.m-index (get_or c.args.members.now c.loop-m.m-index 0) c.args.width c.args.members.now c.loop-m.heights _ c.loop-m-test.true refl
-    (omega (arith, h, c.loop-m.auto.heights)) (c.loop-m.invariant x)
+    let m = get_or c.args.members.now c.loop-m.m-index 0 in
+    let h = c.requires.within m (count_at c.args.members.now c.loop-m.m-index c.loop-m-test.true) in
+    lowered x c.loop-m.m-index m c.args.by c.args.members.now c.loop-m.heights _ _ c.loop-m-test.true refl (omega (arith, h, c.loop-m.auto.heights))
+    (lowers c.loop-m.m-index m c.args.by c.args.members.now _ _ _ c.loop-m-test.true refl (c.requires.fits m) (c.loop-m.invariant m)) (c.loop-m.invariant x)

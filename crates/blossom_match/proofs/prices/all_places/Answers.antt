@@ -1,6 +1,6 @@
 use Rattle.std.proofs.Common.{arith, length-append, length, ℕ, List, ◌∷◌, [], ap}
 use Rattle.blossom_match.proofs.EndLemmas.{places_more}
-use Rattle.blossom_match.proofs.pairing.all_places.Goals as goal
+use Rattle.blossom_match.proofs.prices.all_places.Goals as goal
 
 pub loop-place-preserved : goal.loop-place-preserved
 loop-place-preserved c = record {

@@ -1,6 +1,6 @@
 use Rattle.std.proofs.Common.{◌≡◌, ℕ, cond, ltb, length}
 use Rattle.blossom_match.specs.Bands.{count}
-use Rattle.blossom_match.proofs.pairing.all_places.Given as goal
+use Rattle.blossom_match.proofs.prices.all_places.Given as goal
 
 -- the places so far
 abbrev pub invariant-loop-place : goal.invariant-loop-place

@@ -1,0 +1,172 @@
+-- A price that rises, and two places that are paired at their prices.
+use Rattle.std.proofs.Common.{◌≡◌, ◌≢◌, ℕ, ◌+◌, ◌*◌, ◌≤◌, ◌<◌, List, [], ◌∷◌, ◌++◌, length, get_or, set, Bool, true, false, cond, eqb, ltb, arith, refl, sym, ap, subst, ◌∙◌}
+use Rattle.std.proofs.Math.ListN.{get_or-eq_default}
+use Rattle.std.proofs.lemmas.Bool.{eqb-true, eqb-false, ltb-false}
+use Rattle.std.proofs.lemmas.List.{get_or-set_other, get_or-set_same}
+use Rattle.blossom_match.specs.Bands.{count, hit}
+use Rattle.blossom_match.specs.Trees.{outer_members}
+use Rattle.blossom_match.specs.Searches.{height_at, is_place, CanStep, Ends, IsReady, IsSearch, IsStanding}
+use Rattle.blossom_match.specs.Phases.{Begins, Stands}
+use Rattle.blossom_match.specs.Prices.{AreHalves, CanPair, FindsTight, LeavesRoom, Lies, Pairs}
+use Rattle.blossom_match.specs.TableValue.{TableValue}
+use Rattle.blossom_match.specs.Tables.{entry}
+use Rattle.blossom_match.specs.declared.couples.Couple.{Couple}
+use Rattle.blossom_match.specs.declared.branches.Branch.{Branch}
+use Rattle.blossom_match.specs.Bands.{NestValue}
+use Rattle.blossom_match.specs.declared.search.Search.{Search}
+use Rattle.blossom_match.specs.declared.search.Standing.{Standing}
+use Rattle.blossom_match.specs.declared.search.Step.TheVariants.{Meet}
+use Rattle.blossom_match.proofs.SumLemmas.{count-append, hit_same}
+use Rattle.blossom_match.proofs.SearchLemmas.{is_one, place_in}
+use Rattle.blossom_match.proofs.WidthLemmas.{couples_same}
+use Rattle.blossom_match.proofs.EndLemmas.{begins}
+use Rattle.blossom_match.proofs.TableLemmas.{entry-comm}
+
+place_case : (b : Bool) (x n : ℕ) → ltb x n ≡ b → cond b 1 0 ≤ 0 → n ≤ x
+place_case true x n e none = absurd (omega (arith, none))
+place_case false x n e none = omega (arith, ltb-false x n e)
+
+no_place : (t : TableValue) (x : ℕ) → is_place t x ≡ 0 → t.places ≤ x
+no_place t x none = place_case (ltb x t.places) x t.places refl (omega (arith, none))
+
+-- all places free at half of their least distances
+pub half_free : (t : TableValue) (couples : List Couple) (free heights : List ℕ) → couples ≡ [] → ((x : ℕ) → count x free ≡ is_place t x) → AreHalves t heights → length heights ≡ t.places →
+    Stands t couples free heights
+half_free t couples free heights e places half size = record {
+  standing = subst (λ (cs : List Couple). IsStanding t (λ (x : ℕ). get_or heights x 0) cs free) (sym e) (record {
+    tall = λ x none. get_or-eq_default heights 0 (omega (arith, size, no_place t x (omega (arith, places x, none))));
+    room = λ a f la hf ne.
+        let lf = place_in t f (omega (arith, hf, places f)) in
+        omega (arith, half a f la lf ne, half f a lf la (λ g. ne (sym g)), entry-comm t a f);
+    places = λ x. omega (arith, places x);
+    joined = tt;
+    firm = tt;
+    loads = λ x y la lb ne. omega arith;
+  });
+  size = size;
+}
+
+-- a free place has room for its price, and lower heights
+pub free_lies : (t : TableValue) (couples : List Couple) (free heights : List ℕ) (place : ℕ) → Stands t couples free heights → 1 ≤ count place free → Lies t heights free place
+free_lies t couples free heights place st here =
+    let i = st.standing in
+    let low = place_in t place (omega (arith, here, i.places place)) in
+    record {
+      within = low;
+      others = λ b hb. place_in t b (omega (arith, hb, i.places b));
+      room = λ b lb ne. omega (arith, i.room b place lb here (λ g. ne (sym g)), entry-comm t place b);
+    }
+
+pub low_enough : (t : TableValue) (heights : List ℕ) (place price : ℕ) → LeavesRoom t heights place price → LeavesRoom t heights place 0
+low_enough t heights place price room b lb ne = omega (arith, room b lb ne)
+
+room_case : (p q : Bool) (t : TableValue) (hs : List ℕ) (place price a f : ℕ) → eqb a place ≡ p → eqb f place ≡ q → place < length hs → a < t.places → f < t.places → a ≢ f → LeavesRoom t hs place price →
+    get_or hs a 0 + get_or hs f 0 ≤ 2 * entry t a f → get_or (set hs place price) a 0 + get_or (set hs place price) f 0 ≤ 2 * entry t a f
+room_case true true t hs place price a f e g low la lf ne room old = absurd (ne (eqb-true a place e ∙ sym (eqb-true f place g)))
+room_case true false t hs place price a f e g low la lf ne room old =
+    let at = eqb-true a place e in
+    let s : get_or (set hs place price) place 0 ≡ price = get_or-set_same hs place price 0 low in
+    let o : get_or (set hs place price) f 0 ≡ get_or hs f 0 = get_or-set_other hs place f price 0 (eqb-false f place g) in
+    subst (λ (x : ℕ). get_or (set hs place price) x 0 + get_or (set hs place price) f 0 ≤ 2 * entry t x f) (sym at)
+    (omega (arith, s, o, room f lf (λ k. eqb-false f place g (sym k))))
+room_case false true t hs place price a f e g low la lf ne room old =
+    let at = eqb-true f place g in
+    let s : get_or (set hs place price) place 0 ≡ price = get_or-set_same hs place price 0 low in
+    let o : get_or (set hs place price) a 0 ≡ get_or hs a 0 = get_or-set_other hs place a price 0 (eqb-false a place e) in
+    subst (λ (x : ℕ). get_or (set hs place price) a 0 + get_or (set hs place price) x 0 ≤ 2 * entry t a x) (sym at)
+    (omega (arith, s, o, entry-comm t a place, room a la (λ k. eqb-false a place e (sym k))))
+room_case false false t hs place price a f e g low la lf ne room old =
+    let o : get_or (set hs place price) a 0 ≡ get_or hs a 0 = get_or-set_other hs place a price 0 (eqb-false a place e) in
+    let u : get_or (set hs place price) f 0 ≡ get_or hs f 0 = get_or-set_other hs place f price 0 (eqb-false f place g) in
+    omega (arith, o, u, old)
+
+-- a free place may have any price that leaves room
+pub risen : (t : TableValue) (couples : List Couple) (free heights new : List ℕ) (place price : ℕ) → Stands t couples free heights → 1 ≤ count place free → LeavesRoom t heights place price → new ≡ set heights place price →
+    length new ≡ length heights → Stands t couples free new
+risen t couples free heights new place price st here room e size =
+    let i = st.standing in
+    let h = λ (x : ℕ). get_or heights x 0 in
+    let low : place < length heights = omega (arith, st.size, place_in t place (omega (arith, here, i.places place))) in
+    let other : (x : ℕ) → x ≢ place → get_or new x 0 ≡ get_or heights x 0 = λ x ne. ap (λ (hs : List ℕ). get_or hs x 0) e ∙ get_or-set_other heights place x price 0 ne in
+    let kept : (x : ℕ) → count x free ≡ 0 → get_or new x 0 ≡ get_or heights x 0 =
+    λ x none. other x (λ g. omega (arith, none, here, ap (λ (y : ℕ). count y free) g)) in
+    record {
+      standing = record {
+        tall = λ x none. kept x none ∙ i.tall x none;
+        room = λ a f la hf ne. subst (λ (hs : List ℕ). get_or hs a 0 + get_or hs f 0 ≤ 2 * entry t a f) (sym e)
+            (room_case (eqb a place) (eqb f place) t heights place price a f refl refl low la (place_in t f (omega (arith, hf, i.places f))) ne room (i.room a f la hf ne));
+        places = i.places;
+        joined = i.joined;
+        firm = couples_same (entry t) h (λ (x : ℕ). get_or new x 0) couples i.joined i.firm (λ x some. kept x (omega (arith, i.places x, is_one t x, some)));
+        loads = i.loads;
+      };
+      size = size ∙ st.size;
+    }
+
+-- the free places in another order
+reordered : (t : TableValue) (couples : List Couple) (free other heights : List ℕ) → ((x : ℕ) → count x other ≡ count x free) → Stands t couples free heights → Stands t couples other heights
+reordered t couples free other heights same st =
+    let i = st.standing in
+    record {
+      standing = record {
+        tall = λ x none. i.tall x (omega (arith, none, same x));
+        room = λ a f la hf ne. i.room a f la (omega (arith, hf, same f)) ne;
+        places = λ x. omega (arith, i.places x, same x);
+        joined = i.joined;
+        firm = i.firm;
+        loads = i.loads;
+      };
+      size = st.size;
+    }
+
+no_hit_case : (b : Bool) (x y : ℕ) → eqb x y ≡ b → x ≢ y → cond b 1 0 ≤ 0
+no_hit_case true x y e ne = absurd (ne (eqb-true x y e))
+no_hit_case false x y e ne = omega arith
+
+no_hit : (x y : ℕ) → x ≢ y → hit x y ≤ 0
+no_hit x y ne = no_hit_case (eqb x y) x y refl ne
+
+some_left : (x : ℕ) (xs : List ℕ) → 1 ≤ count x xs → 1 ≤ length xs
+some_left x [] some = absurd (omega (arith, some))
+some_left x (y ∷ xs) some = omega arith
+
+-- the search of the one place can meet the other
+record CanMeet (t : TableValue) (place other : ℕ) (s : Search) : Type 0 where
+  search : IsSearch t (height_at s) s
+  ready : IsReady t (height_at s) s (Meet (record { from = place; to = other }))
+  size : length s.heights.items ≡ t.places
+
+can_meet : (t : TableValue) (place other : ℕ) (couples : List Couple) (free left heights : List ℕ) (s : Search) → ((x : ℕ) → count x left + hit x place ≡ count x free) →
+    Stands t couples free heights → FindsTight t heights free place other → Begins place couples left heights s → CanMeet t place other s
+can_meet t place other couples free left heights s counts st f b =
+    let here : 1 ≤ count other left = omega (arith, counts other, f.here, no_hit other place (λ g. f.pair.differ (sym g))) in
+    let at = reordered t couples free (left ++ place ∷ []) heights (λ x. omega (arith, counts x, count-append x left (place ∷ []))) st in
+    let can = begins t place couples left heights s at (some_left other left here) b in
+    record {
+      search = can.search;
+      ready = (
+        omega (arith, hit_same place, ap (λ (v : NestValue). count place (outer_members v.members s.tree.items)) b.root, ap (λ (bs : List Branch). count place (outer_members (place ∷ []) bs)) b.tree),
+        omega (arith, here, ap (λ (xs : List ℕ). count other xs) b.free),
+        subst (λ (hs : List ℕ). 2 * entry t place other ≡ get_or hs place 0 + get_or hs other 0) (sym b.heights) (sym f.pair.tight),
+      );
+      size = can.size;
+    }
+
+pub pair_step : (place other : ℕ) (from : Standing) (left : List ℕ) (s : Search) → CanPair place other from → ((x : ℕ) → count x left + hit x place ≡ count x from.free.items) →
+    Begins place from.couples.items left from.heights.items s → CanStep s (Meet (record { from = place; to = other }))
+pair_step place other from left s can counts b =
+    let m = can_meet can.t place other from.couples.items from.free.items left from.heights.items s counts can.stands can.found b in
+    record { t = can.t; search = m.search; ready = m.ready; size = m.size }
+
+pub paired : (place other : ℕ) (from : Standing) (left : List ℕ) (s : Search) (r : Standing) → ((x : ℕ) → count x left + hit x place ≡ count x from.free.items) → length left + 1 ≡ length from.free.items →
+    Begins place from.couples.items left from.heights.items s → Ends s (Meet (record { from = place; to = other })) r → Pairs place other from r
+paired place other from left s r counts fewer b e = record {
+  stands = λ t st f.
+      let can = can_meet t place other from.couples.items from.free.items left from.heights.items s counts st f b in
+      let same : r.heights.items ≡ s.heights.items = e.heights in
+      record {
+        standing = subst (λ (hs : List ℕ). IsStanding t (λ (x : ℕ). get_or hs x 0) r.couples.items r.free.items) (sym same) (e.standing t can.search can.ready);
+        size = ap (λ (hs : List ℕ). length hs) same ∙ can.size;
+      };
+  fewer = omega (arith, fewer, e.fewer, ap (λ (xs : List ℕ). length xs) b.free);
+}

@@ -1,6 +1,0 @@
-use Rattle.std.proofs.Common.{◌≡◌, ◌+◌, ◌*◌, ℕ, drop, get_or}
-use Rattle.blossom_match.specs.Bands.{count}
-use Rattle.blossom_match.proofs.heights.add_width.Given as goal
-
-abbrev pub invariant-loop-m : goal.invariant-loop-m
-invariant-loop-m l = (x : ℕ) → get_or l.heights x 0 + l.width * count x (drop l.m-index l.members) ≡ get_or l.fn.heights x 0 + l.width * count x l.members

@@ -1,0 +1,44 @@
+-- Prices at which free places begin, in halves of a step.
+use Rattle.std.specs.Prelude.{◌≡◌, ◌≢◌, ℕ, ◌+◌, ◌*◌, ◌<◌, ◌≤◌, List, length, slice_index}
+use Rattle.blossom_match.specs.Bands.{count}
+use Rattle.blossom_match.specs.Phases.{Stands}
+use Rattle.blossom_match.specs.TableValue.{TableValue}
+use Rattle.blossom_match.specs.Tables.{entry}
+use Rattle.blossom_match.specs.declared.search.Standing.{Standing}
+
+-- at the price there is room between the place and each other
+abbrev pub LeavesRoom : TableValue → List ℕ → ℕ → ℕ → Type 0
+LeavesRoom t heights place price = (b : ℕ) → b < t.places → place ≢ b → price + slice_index heights b ≤ 2 * entry t place b
+
+-- no price is more than a distance
+abbrev pub AreHalves : TableValue → List ℕ → Type 0
+AreHalves t prices = (a b : ℕ) → a < t.places → b < t.places → a ≢ b → slice_index prices a ≤ entry t a b
+
+-- the place and the free ones are places, and there is room between them
+pub record Lies (t : TableValue) (heights free : List ℕ) (place : ℕ) : Type 0 where
+  pub within : place < t.places
+  pub others : (b : ℕ) → 1 ≤ count b free → b < t.places
+  pub room : LeavesRoom t heights place (slice_index heights place)
+
+-- the prices of two different places use up their distance
+pub record IsTightPair (t : TableValue) (heights : List ℕ) (a b : ℕ) : Type 0 where
+  pub differ : a ≢ b
+  pub tight : slice_index heights a + slice_index heights b ≡ 2 * entry t a b
+
+-- a free place to which the prices leave no room
+pub record FindsTight (t : TableValue) (heights free : List ℕ) (place other : ℕ) : Type 0 where
+  pub here : 1 ≤ count other free
+  pub pair : IsTightPair t heights place other
+
+-- two free places whose prices use up their distance
+pub record CanPair (place other : ℕ) (s : Standing) : Type 0 where
+  pub t : TableValue
+  pub stands : Stands t s.couples.items s.free.items s.heights.items
+  pub here : 1 ≤ count place s.free.items
+  pub found : FindsTight t s.heights.items s.free.items place other
+
+-- both places are in a couple
+pub record Pairs (place other : ℕ) (s r : Standing) : Type 0 where
+  pub stands : (t : TableValue) → Stands t s.couples.items s.free.items s.heights.items → FindsTight t s.heights.items s.free.items place other →
+      Stands t r.couples.items r.free.items r.heights.items
+  pub fewer : length r.free.items + 2 ≡ length s.free.items

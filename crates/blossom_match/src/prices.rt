@@ -1,0 +1,205 @@
+ghost use Rattle.std.specs.Prelude.{◌≡◌, ◌≢◌, ◌≤◌, ◌<◌, ◌+◌, ◌*◌, ◌%◌, ℕ, IsTrue, length, nat_lt, slice_index, if◌then◌else◌, IfOk, IfSome};
+ghost use Rattle.blossom_match.specs.Bands.{count};
+ghost use Rattle.blossom_match.specs.Tables.{entry};
+ghost use Rattle.blossom_match.specs.Phases.{Stands};
+ghost use Rattle.blossom_match.specs.Prices.{AreHalves, CanPair, FindsTight, IsTightPair, LeavesRoom, Lies, Pairs};
+ghost use Rattle.blossom_match.specs.declared.table.TheConstants.{MAX_DISTANCE};
+
+use crate::nest::{Link, times};
+use crate::phase::begin;
+use crate::search::{Standing, meet, take_place};
+use crate::table::{DistTable, MAX_DISTANCE};
+use design_model::Memory;
+use std::alloc::Global;
+
+/// A price for each place, as high as the distances allow, and couples of places between which the
+/// prices leave no room.
+pub fn priced(alloc: Global, t: &DistTable, n: u32) -> Result<Standing, Memory>
+    requires { n ≡ t.now.places }
+    ensures stands { IfOk result (λ r. Stands t.now r.couples.items r.free.items r.heights.items) }
+    ensures even { IfOk result (λ r. length r.free.items % 2 ≡ t.now.places % 2) }
+{
+    let mut now = half_priced(alloc, t)?;
+    for place in 0..n {
+        now = settle(alloc, t, place, now)?;
+    }
+    Ok(now)
+}
+
+/// All places free, each at half of its least distance in halves of a step.
+fn half_priced(alloc: Global, t: &DistTable) -> Result<Standing, Memory>
+    ensures stands { IfOk result (λ r. Stands t.now r.couples.items r.free.items r.heights.items) }
+    ensures even { IfOk result (λ r. length r.free.items % 2 ≡ t.now.places % 2) }
+{
+    let heights = halves(alloc, t)?;
+    let free = all_places(alloc, t.places())?;
+    Ok(Standing {
+        couples: Vec::new(alloc),
+        free,
+        heights,
+    })
+}
+
+/// The places from 0 on.
+fn all_places(alloc: Global, n: u32) -> Result<Vec<u32>, Memory>
+    ensures counts { IfOk result (λ xs. (x : ℕ) → count x xs.items ≡ (if nat_lt x n then 1 else 0)) }
+    ensures size { IfOk result (λ xs. length xs.items ≡ n) }
+{
+    let mut places = Vec::new(alloc);
+    for place in 0..n {
+        places.push(place)?;
+    }
+    Ok(places)
+}
+
+/// The least distance of each place.
+fn halves(alloc: Global, t: &DistTable) -> Result<Vec<u32>, Memory>
+    ensures half { IfOk result (λ hs. AreHalves t.now hs.items) }
+    ensures size { IfOk result (λ hs. length hs.items ≡ t.now.places) }
+{
+    let none = vec![in alloc; 0; t.places() as usize]?;
+    let mut prices = Vec::new(alloc);
+    for place in 0..t.places() {
+        let room = room_at(t, &none, place);
+        prices.push(room / 2)?;
+    }
+    Ok(prices)
+}
+
+/// The highest price that the distances to all other places allow.
+fn room_at(t: &DistTable, heights: &[u32], place: u32) -> u32
+    requires cells { length heights.now ≡ t.now.places }
+    requires within { place < t.now.places }
+    requires low { LeavesRoom t.now heights.now place 0 }
+    ensures room { LeavesRoom t.now heights.now place result }
+    ensures short { result ≤ 2 * MAX_DISTANCE }
+{
+    let mut least = 2 * MAX_DISTANCE;
+    for other in 0..t.places() {
+        least = lesser(t, heights, place, other, least);
+    }
+    least
+}
+
+/// The lesser of a price and the one that the distance to the other place allows.
+fn lesser(t: &DistTable, heights: &[u32], place: u32, other: u32, best: u32) -> u32
+    requires cells { length heights.now ≡ t.now.places }
+    requires within { place < t.now.places }
+    requires other_in { other < t.now.places }
+    requires low { place ≢ other → slice_index heights.now other ≤ 2 * entry t.now place other }
+    ensures less { result ≤ best }
+    ensures room { place ≢ other → result + slice_index heights.now other ≤ 2 * entry t.now place other }
+{
+    if place == other {
+        best
+    } else {
+        best.min(2 * t.get(place, other) - heights[other as usize])
+    }
+}
+
+/// Raises the price of a place that is free, and pairs it with a free one if no room is left between
+/// them.
+fn settle(alloc: Global, t: &DistTable, place: u32, from: Standing) -> Result<Standing, Memory>
+    requires stands { Stands t.now from.couples.items from.free.items from.heights.items }
+    requires within { place < t.now.places }
+    ensures stands { IfOk result (λ r. Stands t.now r.couples.items r.free.items r.heights.items) }
+    ensures even { IfOk result (λ r. length r.free.items % 2 ≡ length from.free.items % 2) }
+{
+    if times(&from.free, place) == 0 {
+        return Ok(from);
+    }
+    let raised = raise_price(t, place, from);
+    match tight_with(t, place, &raised) {
+        None => Ok(raised),
+        Some(other) => {
+            let paired = pair(alloc, place, other, raised)?;
+            Ok(paired)
+        }
+    }
+}
+
+/// Raises the price of a free place as far as the distances allow.
+fn raise_price(t: &DistTable, place: u32, from: Standing) -> Standing
+    requires stands { Stands t.now from.couples.items from.free.items from.heights.items }
+    requires here { 1 ≤ count place from.free.items }
+    ensures stands { Stands t.now result.couples.items result.free.items result.heights.items }
+    ensures free { result.free.items ≡ from.free.items }
+{
+    let Standing {
+        couples,
+        free,
+        heights,
+    } = from;
+    let mut prices = heights;
+    let price = room_at(t, &prices, place);
+    prices[place as usize] = price;
+    Standing {
+        couples,
+        free,
+        heights: prices,
+    }
+}
+
+/// Another free place, if the prices leave no room to it.
+fn tight_with(t: &DistTable, place: u32, s: &Standing) -> Option<u32>
+    requires stands { Stands t.now s.now.couples.items s.now.free.items s.now.heights.items }
+    requires here { 1 ≤ count place s.now.free.items }
+    ensures { IfSome result (λ other. FindsTight t.now s.now.heights.items s.now.free.items place other) }
+{
+    tight_place(t, &s.heights, &s.free, place)
+}
+
+/// A free place to which the prices leave no room.
+fn tight_place(t: &DistTable, heights: &[u32], free: &[u32], place: u32) -> Option<u32>
+    requires cells { length heights.now ≡ t.now.places }
+    requires lies { Lies t.now heights.now free.now place }
+    ensures { IfSome result (λ other. FindsTight t.now heights.now free.now place other) }
+{
+    for other in free {
+        if is_tight(t, heights, place, *other) {
+            return Some(*other);
+        }
+    }
+    None
+}
+
+/// Whether the two are different places and their prices leave no room.
+fn is_tight(t: &DistTable, heights: &[u32], place: u32, other: u32) -> bool
+    requires cells { length heights.now ≡ t.now.places }
+    requires within { place < t.now.places }
+    requires other_in { other < t.now.places }
+    requires low { place ≢ other → slice_index heights.now place + slice_index heights.now other ≤ 2 * entry t.now place other }
+    ensures { IsTrue result → IsTightPair t.now heights.now place other }
+{
+    let distance = t.get(place, other);
+    place != other && heights[place as usize] + heights[other as usize] == 2 * distance
+}
+
+/// Pairs two free places: a search from the one meets the other at once.
+fn pair(alloc: Global, place: u32, other: u32, from: Standing) -> Result<Standing, Memory>
+    requires { CanPair place other from }
+    ensures { IfOk result (λ r. Pairs place other from r) }
+{
+    let Standing {
+        couples,
+        free,
+        heights,
+    } = from;
+    let mut left = free;
+    take_place(&mut left, place);
+    let alone = Standing {
+        couples,
+        free: left,
+        heights,
+    };
+    let search = begin(alloc, place, alone)?;
+    let met = meet(
+        alloc,
+        search,
+        Link {
+            from: place,
+            to: other,
+        },
+    )?;
+    Ok(met)
+}
