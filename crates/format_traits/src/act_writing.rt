@@ -44,63 +44,7 @@ pub fn put_acts<W: RecordWriter>(
 }
 
 /// Adds the records of an act, after which it stands otherwise, or says why the format cannot write it.
-// Nearly all acts are needles that are sewn on: what they take stands in the writers' loops, and all
-// else apart.
-#[inline(always)]
 fn put_act<W: RecordWriter>(
-    writer: &W,
-    out: &mut Bytes,
-    standing: &mut Standing,
-    act: NumberedAct,
-) -> Result<(), WriteFault>
-    requires place { IsTrue (is_within NEEDLE_LIMIT standing.old.place) }
-    requires act { IsTrue (is_act_in_range act.act) }
-    requires room { standing.old.room ≤ MAX_COMMANDS }
-    requires stops { standing.old.stops ≤ standing.old.room }
-    ensures value { PutsAct (W.spelling writer.now) (W.reach writer.now) standing.old act
-        out.old result standing.new out.new }
-
-    // What holds of it goes on holding.
-    ensures place { OnOk result (IsTrue (is_within NEEDLE_LIMIT standing.new.place)) }
-    ensures room { OnOk result (standing.new.room ≤ MAX_COMMANDS) }
-    ensures stops { OnOk result (standing.new.stops ≤ standing.new.room) }
-{
-    match act.act {
-        Act::Needle { float: false, .. } if !standing.loose => put_here(writer, out, standing, act),
-        _ => {
-            let mut after = *standing;
-            put_apart(writer, out, &mut after, act)?;
-            *standing = after;
-            Ok(())
-        }
-    }
-}
-
-#[cold]
-#[inline(never)]
-fn put_apart<W: RecordWriter>(
-    writer: &W,
-    out: &mut Bytes,
-    standing: &mut Standing,
-    act: NumberedAct,
-) -> Result<(), WriteFault>
-    requires place { IsTrue (is_within NEEDLE_LIMIT standing.old.place) }
-    requires act { IsTrue (is_act_in_range act.act) }
-    requires room { standing.old.room ≤ MAX_COMMANDS }
-    requires stops { standing.old.stops ≤ standing.old.room }
-    ensures value { PutsAct (W.spelling writer.now) (W.reach writer.now) standing.old act
-        out.old result standing.new out.new }
-
-    // What holds of it goes on holding.
-    ensures place { OnOk result (IsTrue (is_within NEEDLE_LIMIT standing.new.place)) }
-    ensures room { OnOk result (standing.new.room ≤ MAX_COMMANDS) }
-    ensures stops { OnOk result (standing.new.stops ≤ standing.new.room) }
-{
-    put_here(writer, out, standing, act)
-}
-
-#[inline(always)]
-fn put_here<W: RecordWriter>(
     writer: &W,
     out: &mut Bytes,
     standing: &mut Standing,
@@ -174,6 +118,9 @@ fn put_needle<W: RecordWriter>(
 }
 
 /// Adds the records of a float of so many jumps.
+// Floats and loose needles are few, and so apart from the writers' loops.
+#[cold]
+#[inline(never)]
 fn put_float<W: RecordWriter>(
     writer: &W,
     out: &mut Bytes,
@@ -223,6 +170,8 @@ fn put_stitched<W: RecordWriter>(
 }
 
 /// Adds so many jumps that make up a move, and a stitch on the spot.
+#[cold]
+#[inline(never)]
 fn put_hops<W: RecordWriter>(
     writer: &W,
     out: &mut Bytes,

@@ -77,37 +77,8 @@ pub fn read_records<R: RecordReader + Drop>(
 }
 
 /// Adds the commands of the record at that offset, and gives the place after it.
-// Nearly all records are stitches: what they take stands in the readers' loops, and all else apart.
 #[inline(always)]
 fn keep_event(design: &mut Design, at: u64, place: Point, event: Event) -> Result<Point, ReadFault>
-    requires place { IsTrue (is_within JUMP_LIMIT place) }
-    requires small { IsTrue (list_all (λ move. is_within GREATEST_STEP move) (moves_in event)) }
-    ensures value { Keeps at (commands_of event place) design.old result design.new }
-    ensures place { IfOk result (λ there. there ≡ place_by event place) }
-    ensures range { IfOk result (λ there. IsTrue (is_within JUMP_LIMIT there)) }
-    ensures others { SameButCommands design.old design.new }
-{
-    match event {
-        Event::Stitch(_) => keep_here(design, at, place, event),
-        _ => keep_apart(design, at, place, event),
-    }
-}
-
-#[cold]
-#[inline(never)]
-fn keep_apart(design: &mut Design, at: u64, place: Point, event: Event) -> Result<Point, ReadFault>
-    requires place { IsTrue (is_within JUMP_LIMIT place) }
-    requires small { IsTrue (list_all (λ move. is_within GREATEST_STEP move) (moves_in event)) }
-    ensures value { Keeps at (commands_of event place) design.old result design.new }
-    ensures place { IfOk result (λ there. there ≡ place_by event place) }
-    ensures range { IfOk result (λ there. IsTrue (is_within JUMP_LIMIT there)) }
-    ensures others { SameButCommands design.old design.new }
-{
-    keep_here(design, at, place, event)
-}
-
-#[inline(always)]
-fn keep_here(design: &mut Design, at: u64, place: Point, event: Event) -> Result<Point, ReadFault>
     requires place { IsTrue (is_within JUMP_LIMIT place) }
     requires small { IsTrue (list_all (λ move. is_within GREATEST_STEP move) (moves_in event)) }
     ensures value { Keeps at (commands_of event place) design.old result design.new }
@@ -150,7 +121,9 @@ fn keep_commands(design: &mut Design, at: u64, event: Event, there: Point) -> Re
     }
 }
 
-/// The same for an event that trims or stops.
+/// The same for an event that trims or stops. These are few, and so apart from the readers' loops.
+#[cold]
+#[inline(never)]
 fn keep_cut(design: &mut Design, at: u64, event: Event, there: Point) -> Result<(), ReadFault>
     requires { cuts event ≡ true }
     ensures value { Keeps at (commands_at event there) design.old result design.new }
