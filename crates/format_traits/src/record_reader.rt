@@ -77,8 +77,25 @@ pub fn read_records<R: RecordReader + Drop>(
 }
 
 /// Adds the commands of the record at that offset, and gives the place after it.
+// A stitch goes the same way as the others, but in a copy of its own: LLVM then knows all along it
+// that the event is one.
 #[inline(always)]
 fn keep_event(design: &mut Design, at: u64, place: Point, event: Event) -> Result<Point, ReadFault>
+    requires place { IsTrue (is_within JUMP_LIMIT place) }
+    requires small { IsTrue (list_all (λ move. is_within GREATEST_STEP move) (moves_in event)) }
+    ensures value { Keeps at (commands_of event place) design.old result design.new }
+    ensures place { IfOk result (λ there. there ≡ place_by event place) }
+    ensures range { IfOk result (λ there. IsTrue (is_within JUMP_LIMIT there)) }
+    ensures others { SameButCommands design.old design.new }
+{
+    match event {
+        Event::Stitch(_) => keep_here(design, at, place, event),
+        _ => keep_here(design, at, place, event),
+    }
+}
+
+#[inline(always)]
+fn keep_here(design: &mut Design, at: u64, place: Point, event: Event) -> Result<Point, ReadFault>
     requires place { IsTrue (is_within JUMP_LIMIT place) }
     requires small { IsTrue (list_all (λ move. is_within GREATEST_STEP move) (moves_in event)) }
     ensures value { Keeps at (commands_of event place) design.old result design.new }
