@@ -100,7 +100,7 @@ pub struct Extent {
 }
 
 impl Extent {
-    fn with(self, at: Point) -> Extent {
+    pub fn with(self, at: Point) -> Extent {
         Extent {
             min: Point { x: self.min.x.min(at.x), y: self.min.y.min(at.y) },
             max: Point { x: self.max.x.max(at.x), y: self.max.y.max(at.y) },

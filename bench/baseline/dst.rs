@@ -1,7 +1,7 @@
 //! Tajima DST: a header of 512 bytes and records of three bytes. The file's y points upwards.
 
-use crate::acts::{acts, extent, Act};
-use crate::design::{Design, Point};
+use crate::acts::{acts, Act, Extent};
+use crate::design::{Design, Point, MAX_COMMANDS};
 use crate::reading::{label_of, refuse, Loaded, ReadFault, Reader, SEQUIN, SHORT};
 use crate::writing::{write_acts, Limits, Records, WriteFault};
 
@@ -9,55 +9,98 @@ pub const LIMITS: Limits = Limits { step: 121, stops: 999, float_steps: 3 };
 
 const HEADER: usize = 512;
 
-fn bit(byte: u8, place: u32) -> i32 {
-    (byte >> place & 1) as i32
+const fn bit(byte: usize, place: u32) -> i8 {
+    (byte >> place & 1) as i8
 }
 
+/// What one byte of a record moves, in design axes.
+type Move = (i8, i8);
+
+/// The moves of the first or the second byte of a record: its parts are these, or three times these.
+const fn lesser_moves(times: i8) -> [Move; 256] {
+    let mut moves = [(0, 0); 256];
+    let mut byte = 0;
+    while byte < 256 {
+        let dx = bit(byte, 0) - bit(byte, 1) + 9 * (bit(byte, 2) - bit(byte, 3));
+        let up = bit(byte, 7) - bit(byte, 6) + 9 * (bit(byte, 5) - bit(byte, 4));
+        moves[byte] = (times * dx, -times * up);
+        byte += 1;
+    }
+    moves
+}
+
+const fn greatest_moves() -> [Move; 256] {
+    let mut moves = [(0, 0); 256];
+    let mut byte = 0;
+    while byte < 256 {
+        let dx = 81 * (bit(byte, 2) - bit(byte, 3));
+        let up = 81 * (bit(byte, 5) - bit(byte, 4));
+        moves[byte] = (dx, -up);
+        byte += 1;
+    }
+    moves
+}
+
+static FIRST_MOVES: [Move; 256] = lesser_moves(1);
+static SECOND_MOVES: [Move; 256] = lesser_moves(3);
+static THIRD_MOVES: [Move; 256] = greatest_moves();
+
 /// The move of a record, in design axes.
-fn read_move(record: &[u8]) -> (i32, i32) {
-    let (a, b, c) = (record[0], record[1], record[2]);
-    let dx = bit(a, 0) - bit(a, 1)
-        + 3 * (bit(b, 0) - bit(b, 1))
-        + 9 * (bit(a, 2) - bit(a, 3))
-        + 27 * (bit(b, 2) - bit(b, 3))
-        + 81 * (bit(c, 2) - bit(c, 3));
-    let up = bit(a, 7) - bit(a, 6)
-        + 3 * (bit(b, 7) - bit(b, 6))
-        + 9 * (bit(a, 5) - bit(a, 4))
-        + 27 * (bit(b, 5) - bit(b, 4))
-        + 81 * (bit(c, 5) - bit(c, 4));
-    (dx, -up)
+#[inline(always)]
+fn read_move(record: &[u8; 3]) -> (i32, i32) {
+    let [first, second, third] = *record;
+    let a = FIRST_MOVES[first as usize];
+    let b = SECOND_MOVES[second as usize];
+    let c = THIRD_MOVES[third as usize];
+    (
+        a.0 as i32 + b.0 as i32 + c.0 as i32,
+        a.1 as i32 + b.1 as i32 + c.1 as i32,
+    )
 }
 
 /// The parts of a move: the size of each, the byte that holds it, its bit for plus and for minus.
-const X_PARTS: [(i32, usize, u8, u8); 5] = [
+type Parts = [(i32, usize, u8, u8); 5];
+
+const X_PARTS: Parts = [
     (81, 2, 0x04, 0x08),
     (27, 1, 0x04, 0x08),
     (9, 0, 0x04, 0x08),
     (3, 1, 0x01, 0x02),
     (1, 0, 0x01, 0x02),
 ];
-const UP_PARTS: [(i32, usize, u8, u8); 5] = [
-    (81, 2, 0x20, 0x10),
-    (27, 1, 0x20, 0x10),
-    (9, 0, 0x20, 0x10),
-    (3, 1, 0x80, 0x40),
-    (1, 0, 0x80, 0x40),
+const Y_PARTS: Parts = [
+    (81, 2, 0x10, 0x20),
+    (27, 1, 0x10, 0x20),
+    (9, 0, 0x10, 0x20),
+    (3, 1, 0x40, 0x80),
+    (1, 0, 0x40, 0x80),
 ];
 
-/// Sets the bits of a number from -121 to 121. The parts below one sum up to half of its size.
-fn write_parts(record: &mut [u8; 3], parts: &[(i32, usize, u8, u8); 5], number: i32) {
-    let mut rest = number;
-    for &(size, byte, plus, minus) in parts {
-        if rest > size / 2 {
-            record[byte] |= plus;
-            rest -= size;
-        } else if rest < -(size / 2) {
-            record[byte] |= minus;
-            rest += size;
+/// The bits of each number from -121 to 121. The parts below one sum up to half of its size.
+const fn spellings(parts: Parts) -> [[u8; 3]; 243] {
+    let mut all = [[0; 3]; 243];
+    let mut index = 0;
+    while index < 243 {
+        let mut rest = index as i32 - 121;
+        let mut place = 0;
+        while place < 5 {
+            let (size, byte, plus, minus) = parts[place];
+            if rest > size / 2 {
+                all[index][byte] |= plus;
+                rest -= size;
+            } else if rest < -(size / 2) {
+                all[index][byte] |= minus;
+                rest += size;
+            }
+            place += 1;
         }
+        index += 1;
     }
+    all
 }
+
+static X_SPELLINGS: [[u8; 3]; 243] = spellings(X_PARTS);
+static Y_SPELLINGS: [[u8; 3]; 243] = spellings(Y_PARTS);
 
 pub fn decode(bytes: &[u8]) -> Result<Loaded, ReadFault> {
     if bytes.len() < HEADER {
@@ -68,7 +111,9 @@ pub fn decode(bytes: &[u8]) -> Result<Loaded, ReadFault> {
         reader.design.label = label_of(&bytes[3..19]);
     }
     let mut jumps_in_run = 0;
-    for (index, record) in bytes[HEADER..].chunks_exact(3).enumerate() {
+    let (records, _) = bytes[HEADER..].as_chunks::<3>();
+    reader.design.commands.reserve(records.len().min(MAX_COMMANDS));
+    for (index, record) in records.iter().enumerate() {
         reader.at = HEADER + 3 * index;
         let kind = record[2];
         let (dx, dy) = read_move(record);
@@ -99,10 +144,9 @@ struct Writer {
 
 impl Writer {
     fn record(&mut self, dx: i32, dy: i32, kind: u8) {
-        let mut record = [0, 0, kind];
-        write_parts(&mut record, &X_PARTS, dx);
-        write_parts(&mut record, &UP_PARTS, -dy);
-        self.bytes.extend_from_slice(&record);
+        let x = X_SPELLINGS[(dx + 121) as usize];
+        let y = Y_SPELLINGS[(dy + 121) as usize];
+        self.bytes.extend_from_slice(&[x[0] | y[0], x[1] | y[1], x[2] | y[2] | kind]);
     }
 }
 
@@ -138,15 +182,12 @@ pub fn encode(design: &Design) -> Result<Vec<u8>, WriteFault> {
 }
 
 fn header(design: &Design, records: usize) -> String {
-    let stops = design.block_count() - 1;
-    let last = last_needle(design);
-    let (right, left, up, down) = match extent(&design.commands) {
-        Some(extent) => (extent.max.x, -extent.min.x, -extent.min.y, extent.max.y),
-        None => (0, 0, 0, 0),
-    };
-    let mut text = format!("LA:{:<16}\rST:{:>7}\rCO:{:>3}\r", design.label, records, stops);
-    for (name, reach) in [("+X", right), ("-X", left), ("+Y", up), ("-Y", down)] {
-        text += &format!("{name}:{:>5}\r", reach.max(0));
+    let Needles { reach, last } = needles(design);
+    let text = format!("LA:{:<16}\rST:{:>7}\r", design.label, records);
+    let mut text = text + &format!("CO:{:>3}\r", design.block_count() - 1);
+    let reaches = [reach.max.x, -reach.min.x, -reach.min.y, reach.max.y];
+    for (name, reach) in ["+X", "-X", "+Y", "-Y"].iter().zip(reaches) {
+        text += &format!("{name}:{reach:>5}\r");
     }
     for (name, place) in [("AX", last.x), ("AY", -last.y), ("MX", 0), ("MY", 0)] {
         let sign = if place < 0 { '-' } else { '+' };
@@ -155,12 +196,20 @@ fn header(design: &Design, records: usize) -> String {
     text + "PD:******\r"
 }
 
-fn last_needle(design: &Design) -> Point {
-    let mut last = Point::default();
+/// How far the needles reach from the origin, and the last of them.
+struct Needles {
+    reach: Extent,
+    last: Point,
+}
+
+fn needles(design: &Design) -> Needles {
+    let origin = Point::default();
+    let mut needles = Needles { reach: Extent { min: origin, max: origin }, last: origin };
     for (_, act) in acts(&design.commands) {
         if let Act::Needle { at, .. } = act {
-            last = at;
+            needles.reach = needles.reach.with(at);
+            needles.last = at;
         }
     }
-    last
+    needles
 }

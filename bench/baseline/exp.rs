@@ -1,6 +1,6 @@
 //! Melco EXP: units of two or four bytes, no header and no end. The file's y points upwards.
 
-use crate::design::Design;
+use crate::design::{Design, MAX_COMMANDS};
 use crate::reading::{refuse, Loaded, ReadFault, Reader, CONTROL};
 use crate::writing::{write_acts, Limits, Records, WriteFault};
 
@@ -12,6 +12,7 @@ fn move_of(bytes: &[u8]) -> (i32, i32) {
 
 pub fn decode(bytes: &[u8]) -> Result<Loaded, ReadFault> {
     let mut reader = Reader::default();
+    reader.design.commands.reserve((bytes.len() / 2).min(MAX_COMMANDS));
     loop {
         match &bytes[reader.at..] {
             [0x80, control, unit @ ..] if unit.len() >= 2 => {

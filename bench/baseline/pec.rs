@@ -1,7 +1,7 @@
 //! The PEC block, which PEC and PES files share. Its y points downwards.
 
 use crate::acts::extent;
-use crate::design::Design;
+use crate::design::{Design, MAX_COMMANDS};
 use crate::reading::{label_of, refuse, Loaded, ReadFault, Reader, SHORT, SIGNATURE};
 use crate::writing::{write_acts, Limits, Records, WriteFault};
 
@@ -60,6 +60,7 @@ pub fn read_block(bytes: &[u8], start: usize) -> Result<Loaded, ReadFault> {
         let count = block[48] as usize + 1;
         reader.design.threads = block[49..49 + count].to_vec();
     }
+    reader.design.commands.reserve((block.len() / 2).min(MAX_COMMANDS));
     let ended = read_records(bytes, start + RECORDS, &mut reader)?;
     Ok(reader.finish(ended))
 }

@@ -5,6 +5,7 @@ import sys
 from pathlib import Path
 
 import building
+import counting
 import document
 import machine
 import measuring
@@ -25,7 +26,8 @@ def words():
 def head():
     return (
         f"Processor: {machine.processor()}. Kit: {machine.kit()}. Baseline: {machine.rustc()}, `-O`. "
-        f"Date: {machine.date()}. Load of the machine at the start: {machine.load()}."
+        f"Date: {machine.date()}. Load of the machine at the start: {machine.load()}. The times move with "
+        "the processor, and the instructions don't."
     )
 
 
@@ -44,7 +46,9 @@ def main():
     starts = list(zip(programs, measuring.starts_of(programs.values())))
     cases = [case for case in all_cases(sizes) if asked.only in case.name]
     measured, differences = measuring.measure_all(cases, (stitch, BIN / "baseline"))
-    text = tables.report(first, sizes, starts, measured, measuring.commands_of)
+    counts = counting.count_all([case for case, _ in measured], (stitch, BIN / "baseline"))
+    first += "\n\n" + counting.jumps_line(stitch)
+    text = tables.report(first, sizes, starts, measured, counts, measuring.commands_of)
     print(text)
     if differences:
         for difference in differences:

@@ -19,22 +19,33 @@ def table(heads, rows):
     return "\n".join(lines)
 
 
-def cost_row(case, costs):
+def counted(counts):
+    """Millions of instructions of both programs and their ratio, where they were counted."""
+    if not counts:
+        return ["–", "–", "–"]
+    ours, theirs = counts
+    return [f"{ours / 1e6:.1f}", f"{theirs / 1e6:.1f}", marked(ours / theirs, HIGHEST_RATIO)]
+
+
+def cost_row(case, costs, counts):
     ours, theirs = costs
     return [
         case.name,
         f"{ours.cpu:.4f}",
         f"{theirs.cpu:.4f}",
         marked(ours.cpu / theirs.cpu, HIGHEST_RATIO),
+        *counted(counts),
         f"{ours.peak:.1f}",
         f"{theirs.peak:.1f}",
         marked(ours.peak / theirs.peak, HIGHEST_RATIO),
     ]
 
 
-def cost_table(measured):
-    heads = ["Case", "Stitch, cpu s", "plain, cpu s", "ratio", "Stitch, peak MB", "plain, peak MB", "ratio"]
-    return table(heads, [cost_row(case, costs) for case, costs in measured])
+def cost_table(measured, counts):
+    heads = ["Case", "Stitch, cpu s", "plain, cpu s", "ratio"]
+    heads += ["Stitch, instructions, million", "plain", "ratio"]
+    heads += ["Stitch, peak MB", "plain, peak MB", "ratio"]
+    return table(heads, [cost_row(case, costs, counts.get(case)) for case, costs in measured])
 
 
 def growth_table(measured, middle, largest):
@@ -64,15 +75,15 @@ def start_table(starts):
     return table(["Start, without words", "median ms", "least ms"], rows)
 
 
-def report(head, sizes, starts, measured, commands_of):
+def report(head, sizes, starts, measured, counts, commands_of):
     parts = [head, start_table(starts), input_table(sizes, commands_of)]
     for size in reversed(sizes.commands):
         chosen = [(case, costs) for case, costs in measured if case.size == size]
         if chosen:
-            parts += [f"### {size:,} commands", cost_table(chosen)]
+            parts += [f"### {size:,} commands", cost_table(chosen, counts)]
     chosen = [(case, costs) for case, costs in measured if case.size is None]
     if chosen:
-        parts += [f"### {sizes.stops:,} stops, and {sizes.bytes:,} hostile bytes", cost_table(chosen)]
+        parts += [f"### {sizes.stops:,} stops, and {sizes.bytes:,} hostile bytes", cost_table(chosen, counts)]
     middle, largest = sizes.commands[1:]
     parts += [f"### Growth of cpu time from {middle:,} to {largest:,}", growth_table(measured, middle, largest)]
     return "\n\n".join(parts) + "\n"

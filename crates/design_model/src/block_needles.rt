@@ -1,6 +1,7 @@
-ghost use Rattle.std.specs.Prelude.{◌≡◌, ◌≤◌, ◌<◌, ◌+◌, ◌∷◌, ℕ, List, length, IfOk, OnOk};
+ghost use Rattle.std.specs.Prelude.{◌≡◌, ◌≤◌, ◌<◌, ◌+◌, ◌∷◌, ℕ, List, length, true, IfOk, OnOk};
 ghost use Rattle.design_model.specs.declared.act.NumberedAct.{NumberedAct as NumberedActValue};
 ghost use Rattle.design_model.specs.declared.design.TheConstants.{MAX_COMMANDS};
+ghost use Rattle.design_model.specs.ActPlaces.{is_loose_after};
 ghost use Rattle.design_model.specs.Acts.{acts_along, numbered};
 ghost use Rattle.design_model.specs.Counts.{counts_of};
 ghost use Rattle.design_model.specs.Blocks.{carried, needles_by_block, needles_of_blocks};
@@ -50,10 +51,23 @@ fn needles_after(ended: &mut Numbers, needles: u32, act: Act) -> Result<u32, Mem
 {
     match act {
         Act::Needle { .. } => Ok(needles + 1),
-        Act::Trim => Ok(needles),
-        Act::Stop => {
-            ended.push(needles)?;
-            Ok(0)
-        }
+        Act::Trim | Act::Stop => needles_after_cut(ended, needles, act),
     }
+}
+
+/// The same after a trim or a stop. These are few, and so apart from the loop.
+#[cold]
+#[inline(never)]
+fn needles_after_cut(ended: &mut Numbers, needles: u32, act: Act) -> Result<u32, Memory>
+    requires { is_loose_after act ≡ true }
+    ensures blocks { IfOk result (λ more. (n : ℕ) (rest : List NumberedActValue) →
+        carried ended.new more rest ≡ carried ended.old needles (numbered n act ∷ rest)) }
+    ensures most { IfOk result (λ more. more ≤ needles) }
+    ensures ended { OnOk result (length ended.new ≤ length ended.old + 1) }
+{
+    if let Act::Stop = act {
+        ended.push(needles)?;
+        return Ok(0);
+    }
+    Ok(needles)
 }

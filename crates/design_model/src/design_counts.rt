@@ -1,6 +1,7 @@
-ghost use Rattle.std.specs.Prelude.{◌≡◌, ◌≤◌, ◌<◌, ◌+◌, ℕ, length};
+ghost use Rattle.std.specs.Prelude.{◌≡◌, ◌≤◌, ◌<◌, ◌+◌, ◌∷◌, [], ℕ, length, true};
 ghost use Rattle.design_model.specs.declared.design.TheConstants.{MAX_COMMANDS};
-ghost use Rattle.design_model.specs.Acts.{listed};
+ghost use Rattle.design_model.specs.ActPlaces.{is_loose_after};
+ghost use Rattle.design_model.specs.Acts.{listed, numbered};
 ghost use Rattle.design_model.specs.Counts.{counts_of, counts_along, counted, with_acts};
 
 use crate::act::Act;
@@ -38,12 +39,32 @@ fn counts_with(counts: Counts, act: Option<Act>) -> Counts
     ensures counts { (n : ℕ) → result ≡ with_acts counts (listed n act) }
     ensures most { counted result ≤ counted counts + 1 }
 {
-    let mut more = counts;
+    let Some(act) = act else {
+        return counts;
+    };
     match act {
-        Some(Act::Needle { .. }) => more.needles += 1,
-        Some(Act::Trim) => more.trims += 1,
-        Some(Act::Stop) => more.stops += 1,
-        None => {}
+        Act::Needle { .. } => Counts {
+            needles: counts.needles + 1,
+            ..counts
+        },
+        Act::Trim | Act::Stop => counts_with_cut(counts, act),
+    }
+}
+
+/// The same for a trim or a stop. These are few, and so apart from the loop.
+#[cold]
+#[inline(never)]
+fn counts_with_cut(counts: Counts, act: Act) -> Counts
+    requires cut { is_loose_after act ≡ true }
+    requires most { counted counts < MAX_COMMANDS }
+    ensures counts { (n : ℕ) → result ≡ with_acts counts (numbered n act ∷ []) }
+    ensures most { counted result ≤ counted counts + 1 }
+{
+    let mut more = counts;
+    if let Act::Stop = act {
+        more.stops += 1;
+    } else {
+        more.trims += 1;
     }
     more
 }

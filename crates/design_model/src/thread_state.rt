@@ -1,5 +1,6 @@
-ghost use Rattle.std.specs.Prelude.{◌≡◌, ◌∷◌, ◌++◌, ◌+◌, ℕ, List, true, false};
+ghost use Rattle.std.specs.Prelude.{◌≡◌, ◌∷◌, ◌++◌, ◌+◌, ℕ, List, None, true, false};
 ghost use Rattle.design_model.specs.Acts.{acts_from, listed};
+ghost use Rattle.design_model.specs.Commands.{target_of};
 ghost use Rattle.design_model.specs.declared.command.Command.{Command as CommandValue};
 
 use crate::act::Act;
@@ -30,10 +31,9 @@ impl ThreadState {
             acts_from n self.old.loose self.old.jumped (command ∷ rest)
             ≡ listed n result ++ acts_from (n + 1) self.new.loose self.new.jumped rest }
     {
-        let before = *self;
         match command {
             Command::Stitch(at) => {
-                let float = before.jumped && !before.loose;
+                let float = self.jumped && !self.loose;
                 self.settle(false);
                 Some(Act::Needle { at, float })
             }
@@ -41,16 +41,34 @@ impl ThreadState {
                 self.jumped = true;
                 None
             }
-            Command::Trim if before.loose => None,
-            Command::Trim => {
-                self.settle(true);
-                Some(Act::Trim)
-            }
-            Command::Stop => {
-                self.settle(true);
-                Some(Act::Stop)
+            Command::Trim | Command::Stop => {
+                let mut after = *self;
+                let act = after.release(command);
+                *self = after;
+                act
             }
         }
+    }
+
+    /// The act of a trim or a stop, if it is one: a trim of a loose thread isn't.
+    // These are few. Apart from the walks' loops, which then need no table of jumps.
+    #[cold]
+    #[inline(never)]
+    fn release(&mut self, command: Command) -> Option<Act>
+        requires { target_of command ≡ None }
+        ensures { (n : ℕ) (rest : List CommandValue) →
+            acts_from n self.old.loose self.old.jumped (command ∷ rest)
+            ≡ listed n result ++ acts_from (n + 1) self.new.loose self.new.jumped rest }
+    {
+        if let Command::Stop = command {
+            self.settle(true);
+            return Some(Act::Stop);
+        }
+        if self.loose {
+            return None;
+        }
+        self.settle(true);
+        Some(Act::Trim)
     }
 
     fn settle(&mut self, loose: bool)

@@ -8,5 +8,6 @@ pub mod RunLemmas
 mod SpellingFacts
 pub mod SpellingLemmas
 pub mod SurveyLemmas
+pub mod TableLemmas
 mod WritingFacts
 pub mod laws

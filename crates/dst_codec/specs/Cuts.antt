@@ -1,5 +1,5 @@
 -- What it means to cut off a record of three bytes, once its kind and its move are known.
-use Rattle.std.specs.Prelude.{◌≡◌, ℕ, IsTrue}
+use Rattle.std.specs.Prelude.{◌≡◌, ℕ, Bool, true, false, IsTrue}
 use Rattle.std.specs.List.{list_all}
 use Rattle.design_model.specs.declared.point.Point.{Point}
 use Rattle.design_model.specs.Points.{is_within}
@@ -8,7 +8,16 @@ use Rattle.format_traits.specs.declared.record_reader.Cut.TheVariants as cut
 use Rattle.format_traits.specs.declared.record_reader.TheConstants.{GREATEST_STEP}
 use Rattle.format_traits.specs.Records.{Records, over, refused, next, moves_in}
 use Rattle.dst_codec.specs.declared.record_kind.RecordKind.{RecordKind}
+use Rattle.dst_codec.specs.declared.record_kind.RecordKind.TheVariants as kind
 use Rattle.dst_codec.specs.Reading.{record_as}
+
+-- the record neither stitches nor jumps
+abbrev pub is_other : RecordKind → Bool
+is_other kind.Stitch = false
+is_other kind.Jump = false
+is_other kind.Stop = true
+is_other kind.Sequin = true
+is_other kind.End = true
 
 -- what the cut of a record of that kind means, whatever stands behind it
 abbrev pub CutsAs : RecordKind → ℕ → ℕ → Point → Cut → Type 0

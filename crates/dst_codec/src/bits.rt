@@ -1,9 +1,11 @@
-ghost use Rattle.std.specs.Prelude.{◌≡◌, ◌<◌, ◌≤◌, ◌-ℤ◌, IsTrue, pos, unsigned_abs};
+ghost use Rattle.std.specs.Prelude.{◌≡◌, ◌+◌, ◌%◌, ◌≤◌, ◌-ℤ◌, ℕ, IsTrue, pos, unsigned_abs};
 ghost use Rattle.design_model.specs.Points.{is_within};
 ghost use Rattle.dst_codec.specs.declared.dst.TheConstants.{LIMIT};
-ghost use Rattle.dst_codec.specs.Bits.{bit as bit_of, sum_along as sum_of, kind_of, move_in};
+ghost use Rattle.dst_codec.specs.Bits.{kind_of, move_in, rightwards, leftwards, upwards, downwards};
 
-use crate::dst::LIMIT;
+use crate::reading_tables::{
+    X_OF_FIRST, X_OF_SECOND, X_OF_THIRD, Y_OF_FIRST, Y_OF_SECOND, Y_OF_THIRD,
+};
 use crate::record_kind::RecordKind;
 use design_model::Point;
 
@@ -14,62 +16,62 @@ pub fn decode_move(bytes: [u8; 3]) -> Point
 {
     let [first, second, third] = bytes;
     Point {
-        x: difference(
-            sum_along(1, 4, first, second, third),
-            sum_along(2, 8, first, second, third),
-        ),
-        y: difference(
-            sum_along(64, 16, first, second, third),
-            sum_along(128, 32, first, second, third),
-        ),
+        x: number(counted_x(first, second, third)),
+        y: number(counted_y(first, second, third)),
     }
 }
 
-/// The kind of a record by its third byte.
+/// The x of a record's move, counted from -121.
+fn counted_x(first: u8, second: u8, third: u8) -> u8
+    ensures value { result + leftwards first second third ≡ 121 + rightwards first second third }
+    ensures most { result ≤ 242 }
+{
+    X_OF_FIRST[first as usize] + X_OF_SECOND[second as usize] + X_OF_THIRD[third as usize]
+}
+
+/// The y of a record's move, counted from -121.
+fn counted_y(first: u8, second: u8, third: u8) -> u8
+    ensures value { result + upwards first second third ≡ 121 + downwards first second third }
+    ensures most { result ≤ 242 }
+{
+    Y_OF_FIRST[first as usize] + Y_OF_SECOND[second as usize] + Y_OF_THIRD[third as usize]
+}
+
+/// A number that is counted from -121.
+fn number(counted: u8) -> i32
+    requires { counted ≤ 242 }
+    ensures value { (forth back : ℕ) → counted + back ≡ 121 + forth
+        → result ≡ pos forth -ℤ pos back }
+    ensures small { unsigned_abs result ≤ LIMIT }
+{
+    counted as i32 - 121
+}
+
+/// The kind of a record by its third byte. Nearly all records are stitches, and have no flags.
+#[inline(always)]
 pub fn record_kind(third: u8) -> RecordKind
     ensures { result ≡ kind_of third }
 {
-    if third % 4 != 3 {
+    if third < 64 || third % 4 != 3 {
         return RecordKind::Stitch;
     }
+    flagged_kind(third)
+}
+
+/// The same where a flag and the low bits are set.
+#[cold]
+#[inline(never)]
+fn flagged_kind(third: u8) -> RecordKind
+    requires flags { 64 ≤ third }
+    requires low { third % 4 ≡ 3 }
+    ensures { result ≡ kind_of third }
+{
     if third / 16 == 15 {
         return RecordKind::End;
     }
     match third / 64 {
         3 => RecordKind::Stop,
         2 => RecordKind::Jump,
-        1 => RecordKind::Sequin,
-        _ => RecordKind::Stitch,
+        _ => RecordKind::Sequin,
     }
-}
-
-fn difference(forth: u32, back: u32) -> i32
-    requires forth { forth ≤ LIMIT }
-    requires back { back ≤ LIMIT }
-    ensures value { result ≡ pos forth -ℤ pos back }
-    ensures small { unsigned_abs result ≤ LIMIT }
-{
-    forth as i32 - back as i32
-}
-
-/// The sum of a record's set bits of one direction.
-fn sum_along(one: u32, nine: u32, first: u8, second: u8, third: u8) -> u32
-    requires one { 0 < one }
-    requires nine { 0 < nine }
-    ensures value { result ≡ sum_of one nine first second third }
-    ensures most { result ≤ LIMIT }
-{
-    bit(first, one)
-        + 3 * bit(second, one)
-        + 9 * bit(first, nine)
-        + 27 * bit(second, nine)
-        + 81 * bit(third, nine)
-}
-
-fn bit(byte: u8, worth: u32) -> u32
-    requires { 0 < worth }
-    ensures value { result ≡ bit_of byte worth }
-    ensures most { result ≤ 1 }
-{
-    byte as u32 / worth % 2
 }

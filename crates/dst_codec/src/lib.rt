@@ -7,6 +7,7 @@ mod dst;
 mod header;
 mod promises;
 mod reading;
+mod reading_tables;
 mod record_kind;
 mod records;
 mod runs;
@@ -15,6 +16,7 @@ mod survey;
 #[cfg(test)]
 mod tests;
 mod writing;
+mod writing_tables;
 
 pub use bits::decode_move;
 pub use dst::{Dst, LIMIT, MAX_FLOAT_HOPS, MAX_STOPS};

@@ -1,8 +1,8 @@
-ghost use Rattle.std.specs.Prelude.{◌≡◌, IsTrue};
+ghost use Rattle.std.specs.Prelude.{◌≡◌, ℕ, true, IsTrue};
 ghost use Rattle.design_model.specs.Points.{is_within};
 ghost use Rattle.dst_codec.specs.declared.dst.TheConstants.{LIMIT};
-ghost use Rattle.dst_codec.specs.Cuts.{CutsAs};
-ghost use Rattle.dst_codec.specs.Reading.{run_after as run_after_kind};
+ghost use Rattle.dst_codec.specs.Cuts.{CutsAs, is_other};
+ghost use Rattle.dst_codec.specs.Reading.{jump_after as jump_after_run, run_after as run_after_kind};
 
 use crate::bits::{decode_move, record_kind};
 use crate::record_kind::RecordKind;
@@ -24,10 +24,11 @@ impl RecordReader for Run {
         let [first, second, third, ..] = bytes else {
             return Cut::Over { ended: false };
         };
+        let step = decode_move([*first, *second, *third]);
         let kind = record_kind(*third);
         let jumps = self.jumps;
         self.jumps = run_after(kind, jumps);
-        cut_record(kind, at, jumps, decode_move([*first, *second, *third]))
+        cut_record(kind, at, jumps, step)
     }
 }
 
@@ -36,15 +37,46 @@ fn cut_record(kind: RecordKind, at: u64, jumps: u8, step: Point) -> Cut
     requires { IsTrue (is_within LIMIT step) }
     ensures { CutsAs kind at jumps step result }
 {
-    let event = match kind {
-        RecordKind::Stitch => Event::Stitch(step),
-        RecordKind::Jump if jumps == 2 => Event::TrimmedJump(step),
-        RecordKind::Jump => Event::Jump(step),
-        RecordKind::Stop => Event::StopBy(step),
-        RecordKind::Sequin => return Cut::Refused(ReadFault::Sequin { at }),
-        RecordKind::End => return Cut::Over { ended: true },
-    };
-    Cut::Record { event, size: 3 }
+    match kind {
+        RecordKind::Stitch => Cut::Record {
+            event: Event::Stitch(step),
+            size: 3,
+        },
+        RecordKind::Jump => Cut::Record {
+            event: jump_after(jumps, step),
+            size: 3,
+        },
+        RecordKind::Stop | RecordKind::Sequin | RecordKind::End => cut_other(kind, at, step),
+    }
+}
+
+fn jump_after(jumps: u8, step: Point) -> Event
+    ensures { result ≡ jump_after_run jumps step }
+{
+    if jumps == 2 {
+        Event::TrimmedJump(step)
+    } else {
+        Event::Jump(step)
+    }
+}
+
+/// The same for a record that neither stitches nor jumps. These are few, and so apart from the
+/// reader's loop.
+#[cold]
+#[inline(never)]
+fn cut_other(kind: RecordKind, at: u64, step: Point) -> Cut
+    requires kind { is_other kind ≡ true }
+    requires step { IsTrue (is_within LIMIT step) }
+    ensures { (run : ℕ) → CutsAs kind at run step result }
+{
+    match kind {
+        RecordKind::Sequin => Cut::Refused(ReadFault::Sequin { at }),
+        RecordKind::End => Cut::Over { ended: true },
+        _ => Cut::Record {
+            event: Event::StopBy(step),
+            size: 3,
+        },
+    }
 }
 
 fn run_after(kind: RecordKind, jumps: u8) -> u8

@@ -60,7 +60,51 @@ impl Survey {
     }
 
     /// Takes in an act, unless it is refused.
+    // Nearly all acts are needles that are sewn on: what they take stands in the loop, and all else
+    // apart.
+    #[inline(always)]
     fn note(&mut self, act: NumberedAct) -> Result<(), WriteFault>
+        requires place { IsTrue (is_within NEEDLE_LIMIT self.old.standing.place) }
+        requires act { IsTrue (is_act_in_range act.act) }
+        requires room { self.old.standing.room ≤ MAX_COMMANDS }
+        requires stops { self.old.standing.stops ≤ self.old.standing.room }
+        requires records { self.old.records ≤ self.old.standing.room }
+        ensures value { Notes self.old act result self.new }
+        ensures room { OnOk result (self.new.standing.room ≤ MAX_COMMANDS) }
+        ensures stops { OnOk result (self.new.standing.stops ≤ self.new.standing.room) }
+        ensures records { OnOk result (self.new.records ≤ self.new.standing.room) }
+        ensures place { OnOk result (IsTrue (is_within NEEDLE_LIMIT self.new.standing.place)) }
+    {
+        match act.act {
+            Act::Needle { float: false, .. } if !self.standing.loose => self.note_here(act),
+            _ => {
+                let mut after = *self;
+                after.note_apart(act)?;
+                *self = after;
+                Ok(())
+            }
+        }
+    }
+
+    #[cold]
+    #[inline(never)]
+    fn note_apart(&mut self, act: NumberedAct) -> Result<(), WriteFault>
+        requires place { IsTrue (is_within NEEDLE_LIMIT self.old.standing.place) }
+        requires act { IsTrue (is_act_in_range act.act) }
+        requires room { self.old.standing.room ≤ MAX_COMMANDS }
+        requires stops { self.old.standing.stops ≤ self.old.standing.room }
+        requires records { self.old.records ≤ self.old.standing.room }
+        ensures value { Notes self.old act result self.new }
+        ensures room { OnOk result (self.new.standing.room ≤ MAX_COMMANDS) }
+        ensures stops { OnOk result (self.new.standing.stops ≤ self.new.standing.room) }
+        ensures records { OnOk result (self.new.records ≤ self.new.standing.room) }
+        ensures place { OnOk result (IsTrue (is_within NEEDLE_LIMIT self.new.standing.place)) }
+    {
+        self.note_here(act)
+    }
+
+    #[inline(always)]
+    fn note_here(&mut self, act: NumberedAct) -> Result<(), WriteFault>
         requires place { IsTrue (is_within NEEDLE_LIMIT self.old.standing.place) }
         requires act { IsTrue (is_act_in_range act.act) }
         requires room { self.old.standing.room ≤ MAX_COMMANDS }

@@ -1,6 +1,6 @@
 -- The records of a file, in any format, and the commands that they come to. Each record stands at an
 -- offset of the file and asks for one event.
-use Rattle.std.specs.Prelude.{ℕ, ◌+◌, Bool, ◌&&◌, List, [], ◌∷◌, ◌++◌, length, nat_le, Result, Ok, Err, if◌then◌else◌}
+use Rattle.std.specs.Prelude.{ℕ, ◌+◌, Bool, true, false, ◌&&◌, List, [], ◌∷◌, ◌++◌, length, nat_le, Result, Ok, Err, if◌then◌else◌}
 use Rattle.std.specs.List.{list_all}
 use Rattle.design_model.specs.declared.command.Command.{Command}
 use Rattle.design_model.specs.declared.command.Command.TheVariants as command
@@ -41,6 +41,15 @@ commands_at (event.TrimmedJump m) there = command.Trim ∷ command.Jump there �
 commands_at event.Trim there = command.Trim ∷ []
 commands_at event.Stop there = command.Stop ∷ []
 commands_at (event.StopBy m) there = stops_by m there
+
+-- the event trims or stops
+abbrev pub cuts : Event → Bool
+cuts (event.Stitch m) = false
+cuts (event.Jump m) = false
+cuts (event.TrimmedJump m) = true
+cuts event.Trim = true
+cuts event.Stop = true
+cuts (event.StopBy m) = true
 
 -- the commands of an event, by the place before it
 abbrev pub commands_of : Event → Point → List Command

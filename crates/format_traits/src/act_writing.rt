@@ -118,6 +118,9 @@ fn put_needle<W: RecordWriter>(
 }
 
 /// Adds the records of a float of so many jumps.
+// Floats and loose needles are few, and so apart from the writers' loops.
+#[cold]
+#[inline(never)]
 fn put_float<W: RecordWriter>(
     writer: &W,
     out: &mut Bytes,
@@ -167,6 +170,8 @@ fn put_stitched<W: RecordWriter>(
 }
 
 /// Adds so many jumps that make up a move, and a stitch on the spot.
+#[cold]
+#[inline(never)]
 fn put_hops<W: RecordWriter>(
     writer: &W,
     out: &mut Bytes,

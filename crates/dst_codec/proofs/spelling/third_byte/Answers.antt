@@ -1,0 +1,27 @@
+use Rattle.std.proofs.Common.{◌≡◌, arith, rules}
+use Rattle.dst_codec.specs.Spelling.{plus, minus, shifted}
+use Rattle.dst_codec.proofs.TableLemmas.{Shares, fits_byte, third_shares, with_flags}
+use Rattle.dst_codec.proofs.spelling.third_byte.Goals as goal
+
+pub overflow_add-result : goal.overflow_add-result
+overflow_add-result c =
+    let of_x : c.shifted.result ≡ shifted c.args.step.x = search rules in
+    let of_y : c.shifted-2.result ≡ shifted c.args.step.y = search rules in
+    let shares = third_shares c.args.step.x c.args.step.y _ _ of_x of_y c.shifted.ensures.small c.shifted-2.ensures.small in
+    fits_byte _ 63 shares.small (omega arith)
+
+pub overflow_add-result-2 : goal.overflow_add-result-2
+overflow_add-result-2 c =
+    let of_x : c.shifted.result ≡ shifted c.args.step.x = search rules in
+    let of_y : c.shifted-2.result ≡ shifted c.args.step.y = search rules in
+    let shares = third_shares c.args.step.x c.args.step.y _ _ of_x of_y c.shifted.ensures.small c.shifted-2.ensures.small in
+    fits_byte _ 255 (omega (arith, shares.small, c.requires.flags)) (omega arith)
+
+pub returns : goal.returns
+returns c =
+    let x = c.args.step.x in
+    let y = c.args.step.y in
+    let of_x : c.shifted.result ≡ shifted x = search rules in
+    let of_y : c.shifted-2.result ≡ shifted y = search rules in
+    let shares = third_shares x y _ _ of_x of_y c.shifted.ensures.small c.shifted-2.ensures.small in
+    with_flags _ (plus 81 x) (minus 81 x) (plus 81 y) (minus 81 y) c.args.flags shares.sum
