@@ -147,7 +147,7 @@ fn begin_next<R: Files>(
     requires { length name.now ≤ MAX_NAME }
 {
     settle(rt, begun)?;
-    *begun = begin(alloc, rt, name)?;
+    *begun = Some(begin(alloc, rt, name)?);
     Ok(())
 }
 

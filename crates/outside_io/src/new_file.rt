@@ -1,4 +1,4 @@
-ghost use Rattle.std.specs.Prelude.{◌≡◌, ◌≤◌, length, bytes_eq};
+ghost use Rattle.std.specs.Prelude.{◌≤◌, length};
 
 use crate::limits::MAX_NAME;
 use crate::links::regular_path;
@@ -15,33 +15,47 @@ use std::{fs, io};
 /// How many programs may make new files in one folder at once.
 const MAX_BESIDE: u32 = 10_000;
 
-/// A new file beside the one whose place it takes once its bytes are down. Until then the old one stays.
+/// A file that was begun under a name, and takes bytes once.
 #[derive(Drop)]
 pub(crate) struct NewFile<F: Drop> {
     name: ArrayVec<u8, MAX_NAME>,
-    place: PathBuf,
-    beside: PathBuf,
     file: F,
+    to: Option<Move>,
 }
 
-/// Begins the file of a name anew. A file that can't be kept beside the old one is made empty at once, and
-/// none is answered: what is no regular file, has several names or another owner than new files have, or
-/// stands in a folder that takes no new file.
-pub(crate) fn begin<R: Files>(
-    alloc: Global,
-    rt: &R,
-    name: &str,
-) -> io::Result<Option<NewFile<R::File>>>
+/// That a file moves from beside a place to it once its bytes are down. Until then the old one stays.
+#[derive(Drop)]
+struct Move {
+    beside: PathBuf,
+    place: PathBuf,
+}
+
+/// Begins the file of a name anew. One that can't be kept beside the old one is made empty at once: what is
+/// no regular file, has several names or another owner than new files have, or stands in a folder that
+/// takes no new file.
+pub(crate) fn begin<R: Files>(alloc: Global, rt: &R, name: &str) -> io::Result<NewFile<R::File>>
     requires { length name.now ≤ MAX_NAME }
 {
     match begin_beside(alloc, rt, name) {
-        Ok(Some(new)) => return Ok(Some(new)),
+        Ok(Some(new)) => return Ok(new),
         Ok(None) => {}
         Err(error) if is_refused(error.kind()) => {}
         Err(error) => return Err(error),
     }
-    fs::create(rt, name)?;
-    Ok(None)
+    let file = fs::create(rt, name)?;
+    Ok(named(name, file, None))
+}
+
+fn named<F: Drop>(name: &str, file: F, to: Option<Move>) -> NewFile<F>
+    requires { length name.now ≤ MAX_NAME }
+{
+    let mut kept = ArrayVec::new();
+    kept.try_extend_from_slice(name.as_bytes()).unwrap();
+    NewFile {
+        name: kept,
+        file,
+        to,
+    }
 }
 
 /// The folder takes no new file, or none of that length.
@@ -57,14 +71,7 @@ fn begin_beside<R: Files>(alloc: Global, rt: &R, name: &str) -> io::Result<Optio
     };
     let old = old_file(rt, place.as_str())?;
     let (beside, file) = file_beside(alloc, rt, place.as_path())?;
-    let mut kept = ArrayVec::new();
-    kept.try_extend_from_slice(name.as_bytes()).unwrap();
-    let new = NewFile {
-        name: kept,
-        place,
-        beside,
-        file,
-    };
+    let new = named(name, file, Some(Move { beside, place }));
     match new.takes_after(old) {
         Ok(true) => Ok(Some(new)),
         Ok(false) => {
@@ -109,7 +116,7 @@ impl<F: io::Read + io::Write + io::Seek + OpenFile + Drop> NewFile<F> {
         self.name.as_slice() == name.as_bytes()
     }
 
-    /// Writes these bytes, and then takes the place. Where that fails the old file stays.
+    /// Writes these bytes, and then takes its place. Where that fails an old file that it was to follow stays.
     pub(crate) fn take_place<R: Files>(mut self, rt: &R, bytes: &[u8]) -> io::Result<()> {
         match self.write_and_move(rt, bytes) {
             Ok(()) => Ok(()),
@@ -124,8 +131,13 @@ impl<F: io::Read + io::Write + io::Seek + OpenFile + Drop> NewFile<F> {
         if !write_all(&mut self.file, bytes) {
             return Err(ErrorKind::WriteZero.into());
         }
-        self.file.sync_all()?;
-        fs::rename(rt, self.beside.as_str(), self.place.as_str())
+        match &self.to {
+            Some(to) => {
+                self.file.sync_all()?;
+                fs::rename(rt, to.beside.as_str(), to.place.as_str())
+            }
+            None => Ok(()),
+        }
     }
 
     /// Gives the file the permissions of the old one. It can't take after one that has several names, or
@@ -144,8 +156,10 @@ impl<F: io::Read + io::Write + io::Seek + OpenFile + Drop> NewFile<F> {
         Ok(true)
     }
 
-    /// Removes the file.
+    /// Removes the file that stands beside a place.
     fn forget<R: Files>(self, rt: &R) {
-        let _ = fs::remove_file(rt, self.beside.as_str());
+        if let Some(to) = &self.to {
+            let _ = fs::remove_file(rt, to.beside.as_str());
+        }
     }
 }
