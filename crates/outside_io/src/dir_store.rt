@@ -6,11 +6,14 @@ ghost use Rattle.outside_io.specs.Sights.{untold_files};
 
 use crate::blame::{FaultLog, Kind};
 use crate::limits::{MAX_FILE, MAX_NAME};
+use crate::new_file::{NewFile, begin};
 use crate::store::{Failed, ReadStop, Store};
+use crate::turns::read_some;
 use crate::writing::write_all;
 use arrayvec::ArrayVec;
+use std::alloc::Global;
 use std::fs::File;
-use std::io::{Read, Seek, SeekFrom, Write};
+use std::io::{Read, Seek, SeekFrom};
 use std::marker::Model;
 use std::rt::Files;
 use std::{fs, io};
@@ -24,11 +27,14 @@ struct Opened<F: Drop> {
 }
 
 /// Real files, which the store doesn't tell. Each error of the system is a fault, a missing file and
-/// want of memory among them. A file that is read in order is opened once.
+/// want of memory among them. A file that is read in order is opened once. A file that is made takes the
+/// place of the old one at the store's next call, once the bytes that this call adds to it are down.
 #[derive(Drop)]
 pub struct DirStore<'a, R: Files> {
+    alloc: Global,
     rt: &'a R,
     opened: Option<Opened<R::File>>,
+    begun: Option<NewFile<R::File>>,
     log: FaultLog,
 }
 
@@ -42,12 +48,14 @@ impl<'a, R: Files> Model for DirStore<'a, R> {
 
 impl<'a, R: Files> DirStore<'a, R> {
     /// The files of the running program's system. No faults so far.
-    pub fn new(rt: &'a R) -> Self
+    pub fn new(alloc: Global, rt: &'a R) -> Self
         ensures { result ≡ no_faults }
     {
         DirStore {
+            alloc,
             rt,
             opened: None,
+            begun: None,
             log: FaultLog::new(),
         }
     }
@@ -67,7 +75,7 @@ impl<'a, R: Files> Store for DirStore<'a, R> {
         ensures cause { ReadCause name.now (untold_files self.old) (untold_files self.new) result }
         ensures exact { Notes (read_of name.now) self.old self.new result }
     {
-        match read_from(self.rt, &mut self.opened, name, at, buf) {
+        match read_next(self.rt, &mut self.begun, &mut self.opened, name, at, buf) {
             Ok(count) => Ok(count),
             Err(_) => {
                 self.opened = None;
@@ -85,8 +93,8 @@ impl<'a, R: Files> Store for DirStore<'a, R> {
         ensures exact { Notes (write_of name.now) self.old self.new result }
     {
         self.opened = None;
-        match fs::create(self.rt, name) {
-            Ok(_) => Ok(()),
+        match begin_next(self.alloc, self.rt, &mut self.begun, name) {
+            Ok(()) => Ok(()),
             Err(_) => {
                 self.log.note(Kind::Write, name);
                 Err(Failed)
@@ -103,13 +111,66 @@ impl<'a, R: Files> Store for DirStore<'a, R> {
         ensures exact { Notes (write_of name.now) self.old self.new result }
     {
         self.opened = None;
-        match add_to_file(self.rt, name, bytes) {
+        match add_next(self.rt, &mut self.begun, name, bytes) {
             Ok(()) => Ok(()),
             Err(_) => {
                 self.log.note(Kind::Write, name);
                 Err(Failed)
             }
         }
+    }
+}
+
+/// Lets a file that was begun take its place, and reads.
+fn read_next<R: Files>(
+    rt: &R,
+    begun: &mut Option<NewFile<R::File>>,
+    opened: &mut Option<Opened<R::File>>,
+    name: &str,
+    at: u64,
+    buf: &mut [u8],
+) -> io::Result<usize>
+    requires { length name.now ≤ MAX_NAME }
+    ensures { IfOk result (λ count. count ≤ length buf.new) }
+{
+    settle(rt, begun)?;
+    read_from(rt, opened, name, at, buf)
+}
+
+/// Lets a file that was begun take its place, and begins that of the name.
+fn begin_next<R: Files>(
+    alloc: Global,
+    rt: &R,
+    begun: &mut Option<NewFile<R::File>>,
+    name: &str,
+) -> io::Result<()>
+    requires { length name.now ≤ MAX_NAME }
+{
+    settle(rt, begun)?;
+    *begun = Some(begin(alloc, rt, name)?);
+    Ok(())
+}
+
+/// Adds all the bytes to the file of the name, and lets one that was begun take its place.
+fn add_next<R: Files>(
+    rt: &R,
+    begun: &mut Option<NewFile<R::File>>,
+    name: &str,
+    bytes: &[u8],
+) -> io::Result<()> {
+    match begun.take() {
+        Some(new) if new.is_named(name) => return new.take_place(rt, bytes),
+        Some(new) => new.take_place(rt, &[])?,
+        None => {}
+    }
+    add_to_file(rt, name, bytes)
+}
+
+/// A file that was begun takes its place.
+fn settle<R: Files>(rt: &R, begun: &mut Option<NewFile<R::File>>) -> io::Result<()> {
+    match begun.take() {
+        Some(new) => new.take_place(rt, &[]),
+        None => Ok(()),
     }
 }
 
@@ -142,7 +203,7 @@ fn read_from<R: Files>(
 fn read_on<F: Read + Drop>(reading: &mut Opened<F>, buf: &mut [u8]) -> io::Result<usize>
     ensures { IfOk result (λ count. count ≤ length buf.new) }
 {
-    let count = reading.file.read(buf)?;
+    let count = read_some(&mut reading.file, buf)?;
     reading.at = reading.at.saturating_add(count as u64);
     Ok(count)
 }

@@ -7,13 +7,16 @@ mod dir_store;
 mod entries;
 mod entry;
 mod limits;
+mod links;
 mod mem_sink;
 mod mem_store;
+mod new_file;
 mod sink;
 mod std_sink;
 mod store;
 #[cfg(test)]
 mod tests;
+mod turns;
 mod whole_files;
 mod writing;
 

@@ -3,6 +3,7 @@ use crate::{
 };
 use std::alloc::{AllocError, Global};
 use std::io::Write;
+use std::os::unix::fs::symlink;
 use std::test::Fail;
 use std::{fs, io};
 
@@ -15,6 +16,14 @@ const TWO_FOLDER: &str = "outside_io_two";
 const FIRST: &str = "outside_io_two/a";
 
 const SECOND: &str = "outside_io_two/b";
+
+const KEPT_FOLDER: &str = "outside_io_kept";
+
+const KEPT: &str = "outside_io_kept/a";
+
+const LINK: &str = "outside_io_kept/link";
+
+const OTHER: &str = "outside_io_kept/b";
 
 /// Bytes that differ from their neighbours, and whose order shows over more than one read.
 fn pattern(alloc: Global, count: usize) -> Result<Vec<u8>, AllocError> {
@@ -140,7 +149,7 @@ fn real_files_are_made_and_read(rt: HostRuntime) -> Result<(), Fail> {
     fs::create_dir(&rt, FOLDER)?;
     let mut bytes = pattern(rt.alloc(), 9_000)?;
     let more = pattern(rt.alloc(), 1_000)?;
-    let mut store = DirStore::new(&rt);
+    let mut store = DirStore::new(rt.alloc(), &rt);
     assert_eq!(rt; store.create(NAME), Ok(()));
     assert_eq!(rt; store.append(NAME, b"emptied"), Ok(()));
     assert_eq!(rt; store.create(NAME), Ok(()));
@@ -160,7 +169,7 @@ fn real_files_are_made_and_read(rt: HostRuntime) -> Result<(), Fail> {
 
 #[test]
 fn real_files_that_are_missing_are_faults(rt: HostRuntime) -> Result<(), Fail> {
-    let mut store = DirStore::new(&rt);
+    let mut store = DirStore::new(rt.alloc(), &rt);
     let name = "outside_io_no_folder/a";
     let got = read_whole(rt.alloc(), &mut store, name, 9).err();
     assert_eq!(rt; got, Some(GetFault::Failed));
@@ -171,7 +180,7 @@ fn real_files_that_are_missing_are_faults(rt: HostRuntime) -> Result<(), Fail> {
 
 #[test]
 fn a_real_fault_is_told_as_one(rt: HostRuntime) -> Result<(), Fail> {
-    let mut store = DirStore::new(&rt);
+    let mut store = DirStore::new(rt.alloc(), &rt);
     assert_eq!(rt; store.append("/dev/full", b"x"), Err(Failed));
     assert_eq!(rt; store.append("/", b"x"), Err(Failed));
     assert_eq!(rt; store.create("/"), Err(Failed));
@@ -188,7 +197,7 @@ fn a_real_fault_is_told_as_one(rt: HostRuntime) -> Result<(), Fail> {
 fn two_real_files_are_read_in_turn(rt: HostRuntime) -> Result<(), Fail> {
     let _ = fs::remove_dir_all(&rt, TWO_FOLDER);
     fs::create_dir(&rt, TWO_FOLDER)?;
-    let mut store = DirStore::new(&rt);
+    let mut store = DirStore::new(rt.alloc(), &rt);
     assert_eq!(rt; store.create(FIRST), Ok(()));
     assert_eq!(rt; store.create(SECOND), Ok(()));
     let bytes = pattern(rt.alloc(), 60_000)?;
@@ -208,6 +217,32 @@ fn two_real_files_are_read_in_turn(rt: HostRuntime) -> Result<(), Fail> {
     assert_eq!(rt; store.read_at(SECOND, 59_900, &mut buffer), Ok(0));
     assert_eq!(rt; store.read_at(FIRST, 59_900, &mut buffer), Ok(2));
     fs::remove_dir_all(&rt, TWO_FOLDER)?;
+    Ok(())
+}
+
+#[test]
+fn a_real_file_stays_until_the_new_one_is_down(rt: HostRuntime) -> Result<(), Fail> {
+    let _ = fs::remove_dir_all(&rt, KEPT_FOLDER);
+    fs::create_dir(&rt, KEPT_FOLDER)?;
+    fs::write(&rt, KEPT, b"old")?;
+    symlink(&rt, "a", LINK)?;
+    let mut store = DirStore::new(rt.alloc(), &rt);
+    for name in [KEPT, LINK] {
+        assert_eq!(rt; store.create(name), Ok(()));
+        assert_eq!(rt; fs::read(&rt, KEPT)?.as_slice(), b"old".as_slice());
+        assert_eq!(rt; store.append(name, b"new"), Ok(()));
+        assert_eq!(rt; fs::read(&rt, KEPT)?.as_slice(), b"new".as_slice());
+        fs::write(&rt, KEPT, b"old")?;
+    }
+    assert!(rt; fs::symlink_metadata(&rt, LINK)?.is_symlink());
+    assert_eq!(rt; store.create(KEPT), Ok(()));
+    assert_eq!(rt; store.create(OTHER), Ok(()));
+    assert_eq!(rt; fs::read(&rt, KEPT)?.as_slice(), b"".as_slice());
+    assert_eq!(rt; store.append(OTHER, b"new"), Ok(()));
+    fs::remove_file(&rt, KEPT)?;
+    fs::remove_file(&rt, LINK)?;
+    fs::remove_file(&rt, OTHER)?;
+    fs::remove_dir(&rt, KEPT_FOLDER)?;
     Ok(())
 }
 

@@ -3,6 +3,7 @@ ghost use Rattle.std.specs.Bool.{OnFalse, OnTrue};
 ghost use Rattle.std.specs.Io.KnownBytes.{Appends};
 ghost use Rattle.outside_io.specs.Streams.{AddsUpTo};
 
+use crate::turns::write_some;
 use std::io::Write;
 
 /// Writes all the bytes, and answers whether the stream took them. A write that takes nothing fails;
@@ -16,7 +17,7 @@ pub(crate) fn write_all<W: Write>(writer: &mut W, bytes: &[u8]) -> bool
 {
     let mut rest = bytes;
     while !rest.is_empty() {
-        match writer.write(rest) {
+        match write_some(writer, rest) {
             Ok(0) | Err(_) => return false,
             Ok(count) => rest = &rest[count..],
         }

@@ -47,7 +47,7 @@ fn start(rt: &HostRuntime, words: &[String]) -> Result<Status, AllocError> {
     formats.push(Box::new(alloc, Exp)?)?;
     formats.push(Box::new(alloc, Pec)?)?;
     formats.push(Box::new(alloc, Pes)?)?;
-    let mut store = DirStore::new(rt);
+    let mut store = DirStore::new(alloc, rt);
     let mut out = StdSink::new(rt.stdout());
     let mut err = StdSink::new(rt.stderr());
     Ok(run(alloc, words, &formats, &mut store, &mut out, &mut err))

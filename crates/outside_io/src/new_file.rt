@@ -1,0 +1,165 @@
+ghost use Rattle.std.specs.Prelude.{◌≤◌, length};
+
+use crate::limits::MAX_NAME;
+use crate::links::regular_path;
+use crate::writing::write_all;
+use arrayvec::ArrayVec;
+use std::alloc::Global;
+use std::fs::{File, Metadata, OpenFile};
+use std::io::ErrorKind;
+use std::os::unix::fs::MetadataExt;
+use std::path::{Path, PathBuf};
+use std::rt::Files;
+use std::{fs, io};
+
+/// How many programs may make new files in one folder at once.
+const MAX_BESIDE: u32 = 10_000;
+
+/// A file that was begun under a name, and takes bytes once.
+#[derive(Drop)]
+pub(crate) struct NewFile<F: Drop> {
+    name: ArrayVec<u8, MAX_NAME>,
+    file: F,
+    to: Option<Move>,
+}
+
+/// That a file moves from beside a place to it once its bytes are down. Until then the old one stays.
+#[derive(Drop)]
+struct Move {
+    beside: PathBuf,
+    place: PathBuf,
+}
+
+/// Begins the file of a name anew. One that can't be kept beside the old one is made empty at once: what is
+/// no regular file, has several names or another owner than new files have, or stands in a folder that
+/// takes no new file.
+pub(crate) fn begin<R: Files>(alloc: Global, rt: &R, name: &str) -> io::Result<NewFile<R::File>>
+    requires { length name.now ≤ MAX_NAME }
+{
+    match begin_beside(alloc, rt, name) {
+        Ok(Some(new)) => return Ok(new),
+        Ok(None) => {}
+        Err(error) if is_refused(error.kind()) => {}
+        Err(error) => return Err(error),
+    }
+    let file = fs::create(rt, name)?;
+    Ok(named(name, file, None))
+}
+
+fn named<F: Drop>(name: &str, file: F, to: Option<Move>) -> NewFile<F>
+    requires { length name.now ≤ MAX_NAME }
+{
+    let mut kept = ArrayVec::new();
+    kept.try_extend_from_slice(name.as_bytes()).unwrap();
+    NewFile {
+        name: kept,
+        file,
+        to,
+    }
+}
+
+/// The folder takes no new file, or none of that length.
+fn is_refused(kind: ErrorKind) -> bool {
+    kind == ErrorKind::PermissionDenied || kind == ErrorKind::InvalidFilename
+}
+
+fn begin_beside<R: Files>(alloc: Global, rt: &R, name: &str) -> io::Result<Option<NewFile<R::File>>>
+    requires { length name.now ≤ MAX_NAME }
+{
+    let Some(place) = regular_path(alloc, rt, name)? else {
+        return Ok(None);
+    };
+    let old = old_file(rt, place.as_str())?;
+    let (beside, file) = file_beside(alloc, rt, place.as_path())?;
+    let new = named(name, file, Some(Move { beside, place }));
+    match new.takes_after(old) {
+        Ok(true) => Ok(Some(new)),
+        Ok(false) => {
+            new.forget(rt);
+            Ok(None)
+        }
+        Err(error) => {
+            new.forget(rt);
+            Err(error)
+        }
+    }
+}
+
+/// What is known of the file at that path, which may be written, where there is one.
+fn old_file<R: Files>(rt: &R, path: &str) -> io::Result<Option<Metadata>> {
+    let mut options = File::options();
+    options.write(true);
+    match options.open(rt, path) {
+        Ok(file) => Ok(Some(file.metadata()?)),
+        Err(error) if error.kind() == ErrorKind::NotFound => Ok(None),
+        Err(error) => Err(error),
+    }
+}
+
+/// An empty file beside that path, under the first name that is free.
+fn file_beside<R: Files>(alloc: Global, rt: &R, path: Path<'_>) -> io::Result<(PathBuf, R::File)> {
+    for number in 0..MAX_BESIDE {
+        let name = format!(in alloc; ".stitch-{number}")?;
+        let beside = path.with_file_name(alloc, name.as_str())?;
+        match File::create_new(rt, beside.as_str()) {
+            Ok(file) => return Ok((beside, file)),
+            Err(error) if error.kind() == ErrorKind::AlreadyExists => {}
+            Err(error) => return Err(error),
+        }
+    }
+    Err(ErrorKind::AlreadyExists.into())
+}
+
+impl<F: io::Read + io::Write + io::Seek + OpenFile + Drop> NewFile<F> {
+    /// It was begun under that name.
+    pub(crate) fn is_named(&self, name: &str) -> bool {
+        self.name.as_slice() == name.as_bytes()
+    }
+
+    /// Writes these bytes, and then takes its place. Where that fails an old file that it was to follow stays.
+    pub(crate) fn take_place<R: Files>(mut self, rt: &R, bytes: &[u8]) -> io::Result<()> {
+        match self.write_and_move(rt, bytes) {
+            Ok(()) => Ok(()),
+            Err(error) => {
+                self.forget(rt);
+                Err(error)
+            }
+        }
+    }
+
+    fn write_and_move<R: Files>(&mut self, rt: &R, bytes: &[u8]) -> io::Result<()> {
+        if !write_all(&mut self.file, bytes) {
+            return Err(ErrorKind::WriteZero.into());
+        }
+        match &self.to {
+            Some(to) => {
+                self.file.sync_all()?;
+                fs::rename(rt, to.beside.as_str(), to.place.as_str())
+            }
+            None => Ok(()),
+        }
+    }
+
+    /// Gives the file the permissions of the old one. It can't take after one that has several names, or
+    /// another owner or group.
+    fn takes_after(&self, old: Option<Metadata>) -> io::Result<bool> {
+        let Some(old) = old else {
+            return Ok(true);
+        };
+        let new = self.file.metadata()?;
+        if old.nlink() > 1 || old.uid() != new.uid() || old.gid() != new.gid() {
+            return Ok(false);
+        }
+        if old.permissions() != new.permissions() {
+            self.file.set_permissions(old.permissions())?;
+        }
+        Ok(true)
+    }
+
+    /// Removes the file that stands beside a place.
+    fn forget<R: Files>(self, rt: &R) {
+        if let Some(to) = &self.to {
+            let _ = fs::remove_file(rt, to.beside.as_str());
+        }
+    }
+}
