@@ -3,8 +3,9 @@ use Rattle.std.proofs.Common.{◌≡◌, ℕ, pos, negsuc, List, [], ◌∷◌, 
 use Rattle.std.specs.List.{flat_map}
 use Rattle.line_graph.specs.declared.draw_kind.DrawKind.{DrawKind}
 use Rattle.line_graph.specs.declared.draw_kind.DrawKind.TheVariants as kind
-use Rattle.line_graph.specs.Drawings.{DrawingValue}
-use Rattle.drawing_text.specs.DrawingText.{drawing_of}
+use Rattle.line_graph.specs.Drawings.{DrawingValue, LineValue}
+use Rattle.line_graph.specs.Sections.{lines_through}
+use Rattle.drawing_text.specs.DrawingText.{drawing_as2, drawing_of}
 use Rattle.drawing_text.specs.Words.{text_lines, without_return, words_in}
 use Rattle.drawing_text.proofs.SpellingFacts.{place}
 
@@ -49,6 +50,30 @@ pub known_drawing : drawing_of (text (codes "# squares" ∷ [] ∷ codes " redwo
     ≡ Ok two_squares
 known_drawing = refl
 
+-- lines through one point, and their sections
+abbrev crossing : List (List ℕ)
+crossing = codes "step 10" ∷ codes "color 1" ∷ codes "line 0 0 10 0 20 0" ∷ codes "line 10 -10 10 0 10 10" ∷ []
+
+abbrev drawn : List LineValue → DrawingValue
+drawn lines = record { label = []; step = 10; threads = 1 ∷ []; lines = lines }
+
+abbrev uncut : DrawingValue
+uncut = drawn (lines_through 0 ((place (pos 0) (pos 0) ∷ place (pos 10) (pos 0) ∷ place (pos 20) (pos 0) ∷ [])
+    ∷ (place (pos 10) (negsuc 9) ∷ place (pos 10) (pos 0) ∷ place (pos 10) (pos 10) ∷ []) ∷ []))
+
+abbrev crossed : DrawingValue
+crossed = drawn (lines_through 0 ((place (pos 0) (pos 0) ∷ place (pos 10) (pos 0) ∷ [])
+    ∷ (place (pos 10) (pos 0) ∷ place (pos 20) (pos 0) ∷ [])
+    ∷ (place (pos 10) (negsuc 9) ∷ place (pos 10) (pos 0) ∷ [])
+    ∷ (place (pos 10) (pos 0) ∷ place (pos 10) (pos 10) ∷ []) ∷ []))
+
+-- a text says its drawing in the version that it names, and each says one as version 2
+pub known_versions : (drawing_of (text (codes "redwork 1" ∷ crossing)) ≡ Ok uncut)
+    × (drawing_of (text (codes "redwork 2" ∷ crossing)) ≡ Ok crossed)
+    × (drawing_as2 (text (codes "redwork 1" ∷ crossing)) ≡ Ok crossed)
+    × (drawing_as2 (text (codes "redwork 2" ∷ crossing)) ≡ Ok crossed)
+known_versions = (refl, refl, refl, refl)
+
 -- the text of these lines has that fault first
 abbrev Tells : List (List ℕ) → ℕ → DrawKind → Type 0
 Tells lines number why = drawing_of (text lines) ≡ Err (record { number = number; kind = why })
@@ -57,9 +82,10 @@ Tells lines number why = drawing_of (text lines) ≡ Err (record { number = numb
 pub known_headers : Tells [] 1 kind.BadHeader
     × Tells (codes "# a" ∷ [] ∷ []) 3 kind.BadHeader
     × Tells (codes "redwork 01" ∷ []) 1 kind.BadHeader
+    × Tells (codes "redwork 3" ∷ []) 1 kind.BadHeader
     × Tells ([] ∷ codes "redwork 1 2" ∷ []) 2 kind.BadHeader
     × Tells (codes "redwork" ∷ []) 1 kind.BadHeader
-known_headers = (refl, refl, refl, refl, refl)
+known_headers = (refl, refl, refl, refl, refl, refl)
 
 -- behind the header
 abbrev Faults : List (List ℕ) → ℕ → DrawKind → Type 0

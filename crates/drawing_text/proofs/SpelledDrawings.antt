@@ -1,5 +1,5 @@
 -- The plain spelling of a drawing is read as that drawing.
-use Rattle.std.proofs.Common.{◌≡◌, ◌≢◌, ℕ, zero, suc, ◌+◌, ◌-◌, ◌<◌, ◌≤◌, ◌==◌, Bool, true, false, not, nat_lt, List, [], ◌∷◌, ◌++◌, Ok, length, codes, sum_by, All, ap, sym, subst, ◌∙◌, refl, append_assoc, append-nil, length-append, arith}
+use Rattle.std.proofs.Common.{◌≡◌, ◌≢◌, ℕ, zero, suc, ◌+◌, ◌-◌, ◌<◌, ◌≤◌, ◌==◌, Bool, true, false, not, nat_lt, List, [], ◌∷◌, ◌++◌, Result, Ok, length, codes, sum_by, All, ap, sym, subst, ◌∙◌, refl, append_assoc, append-nil, length-append, arith}
 use Rattle.std.proofs.lemmas.Bool.Decides.{nat_tests}
 use Rattle.std.proofs.lemmas.List.Concat.{flat_map-cons}
 use Rattle.std.proofs.lemmas.List.Elements.{All-filter, All-head, All-tail, All-weaker, filter_passes}
@@ -9,23 +9,28 @@ use Rattle.std.specs.Fmt.{decimal}
 use Rattle.std.specs.List.{flat_map, list_any}
 use Rattle.design_model.specs.Labels.{IsLabel}
 use Rattle.line_graph.specs.Drawings.{DrawingValue, IsLine, KeepsDrawing, LineValue}
-use Rattle.line_graph.specs.Growing.{finished, is_last_empty, point_count, step_count, with_block, with_line}
+use Rattle.line_graph.specs.Growing.{and_then, finished, is_last_empty, point_count, step_count, with_block, with_line}
 use Rattle.line_graph.specs.Needles.{line_steps}
+use Rattle.line_graph.specs.Sections.{JoinedStay, is_joined}
+use Rattle.line_graph.specs.declared.draw_kind.DrawKind.{DrawKind}
 use Rattle.drawing_text.proofs.Shapes.{last_by}
 use Rattle.drawing_text.proofs.SpelledBlocks.{all_below, found_used, last_found, lines_below, next_lines, none_first}
 use Rattle.drawing_text.proofs.SpelledLines.{HasRoom, color_says, coordinates, coordinates_are, draft_of, is_color, is_line, is_name, is_step, label_word, line_judged, line_says, name_says, points_spelled, step_says}
 use Rattle.drawing_text.proofs.SpelledNumbers.{decimal_word}
 use Rattle.drawing_text.proofs.SpelledWords.{line_read, tail_of}
 use Rattle.drawing_text.specs.declared.draft.Draft.{Draft}
-use Rattle.drawing_text.specs.DrawingText.{at_line, drawing_of, drawn_after, drawn_from}
-use Rattle.drawing_text.specs.Spelling.{blocks_text, label_text, line_text, lines_in, number_text, plain_spelling, points_text}
+use Rattle.drawing_text.specs.declared.draw_fault.DrawFault.{DrawFault}
+use Rattle.drawing_text.specs.declared.version.Version.{Version}
+use Rattle.drawing_text.specs.declared.version.Version.TheVariants as version
+use Rattle.drawing_text.specs.DrawingText.{at_line, body_from, drawing_of, drawn_after, meant_by, said_in}
+use Rattle.drawing_text.specs.Spelling.{blocks_text, label_text, line_text, lines_in, number_text, plain_spelling, plain_spelling2, points_text}
 use Rattle.drawing_text.specs.TextLines.{blank_drawing, first_draft}
 use Rattle.drawing_text.specs.Words.{words_by_line}
 
 -- whatever number a text begins at, it is read as d after the drawing so far
-abbrev ReadsOn : DrawingValue → DrawingValue → List ℕ → Type 0
-ReadsOn d so_far text = (number opened : ℕ) (named : Bool)
-    → drawn_after number (draft_of named opened so_far) (words_by_line text) ≡ Ok d
+abbrev ReadsOn : Version → DrawingValue → DrawingValue → List ℕ → Type 0
+ReadsOn version d so_far text = (number opened : ℕ) (named : Bool)
+    → drawn_after version number (draft_of named opened so_far) (words_by_line text) ≡ Ok d
 
 -- so many lines may come to the last block
 record MayFollow (d : DrawingValue) (lines : List LineValue) : Type 0 where
@@ -77,22 +82,22 @@ same_line : (d : DrawingValue) (line : LineValue) → line.block ≡ length d.th
 same_line d line is = ap (λ (block : ℕ). with_lines d (record { block = block; points = line.points } ∷ [])) (sym is)
 
 -- spelled lines are read, and then what stands behind them
-lines_read : (d so_far : DrawingValue) (lines : List LineValue) (rest : List ℕ) → MayFollow so_far lines
-    → ReadsOn d (with_lines so_far lines) rest → ReadsOn d so_far (flat_map line_text lines ++ rest)
-lines_read d so_far [] rest may on number opened named =
+lines_read : (version : Version) (d so_far : DrawingValue) (lines : List LineValue) (rest : List ℕ) → MayFollow so_far lines
+    → ReadsOn version d (with_lines so_far lines) rest → ReadsOn version d so_far (flat_map line_text lines ++ rest)
+lines_read version d so_far [] rest may on number opened named =
     let same : with_lines so_far [] ≡ so_far = ap (λ (lines : List LineValue). record so_far { lines = lines }) (append-nil so_far.lines) in
-    let Reads : DrawingValue → Type 0 = λ e. ReadsOn d e rest in
+    let Reads : DrawingValue → Type 0 = λ e. ReadsOn version d e rest in
     subst Reads same on number opened named
-lines_read d so_far (line ∷ lines) rest may on number opened named =
+lines_read version d so_far (line ∷ lines) rest may on number opened named =
     let one : DrawingValue = with_lines so_far (line ∷ []) in
     let able : IsLine line.points = All-head (λ (l : LineValue). IsLine l.points) line lines may.able in
     let inside : line.block ≡ length so_far.threads - 1 =
     All-head (λ (l : LineValue). l.block ≡ length so_far.threads - 1) line lines may.inside in
     let more : with_lines one lines ≡ with_lines so_far (line ∷ lines) =
     ap (λ (all : List LineValue). record so_far { lines = all }) (append_assoc so_far.lines (line ∷ []) lines) in
-    let Reads : DrawingValue → Type 0 = λ e. ReadsOn d e rest in
-    let next : ReadsOn d one (flat_map line_text lines ++ rest) =
-    lines_read d one lines rest (others_follow so_far line lines may) (subst Reads (sym more) on) in
+    let Reads : DrawingValue → Type 0 = λ e. ReadsOn version d e rest in
+    let next : ReadsOn version d one (flat_map line_text lines ++ rest) =
+    lines_read version d one lines rest (others_follow so_far line lines may) (subst Reads (sym more) on) in
     let says = line_says number opened named so_far line.points able (first_room so_far line lines may)
     ∙ ap (λ (e : DrawingValue). Ok (draft_of named opened e)) (same_line so_far line inside) in
     let text : flat_map line_text (line ∷ lines) ++ rest
@@ -101,8 +106,8 @@ lines_read d so_far (line ∷ lines) rest may on number opened named =
     ∙ (append_assoc (line_text line) (flat_map line_text lines) rest
     ∙ (append_assoc (codes "line") (points_text line.points) (flat_map line_text lines ++ rest)
     ∙ ap (λ (tail : List ℕ). codes "line" ++ (tail ++ (flat_map line_text lines ++ rest))) (points_spelled line.points))) in
-    ap (λ (all : List ℕ). drawn_after number (draft_of named opened so_far) (words_by_line all)) text
-    ∙ (line_judged number (draft_of named opened so_far) (draft_of named opened one) (codes "line") (coordinates line.points)
+    ap (λ (all : List ℕ). drawn_after version number (draft_of named opened so_far) (words_by_line all)) text
+    ∙ (line_judged version number (draft_of named opened so_far) (draft_of named opened one) (codes "line") (coordinates line.points)
     (flat_map line_text lines ++ rest) is_line (coordinates_are line.points able.in_range) says
     ∙ next (number + 1) opened named)
 
@@ -127,8 +132,12 @@ all_middle P (x ∷ before) thread left all =
 filled : (b : ℕ) (rest : List ℕ) → b ∷ rest ≢ []
 filled b rest none = cc
 
--- a drawing
-module _ (d : DrawingValue) (keeps : KeepsDrawing d) where
+-- what lines say, the header among them
+abbrev said : List (List (List ℕ)) → Result DrawingValue DrawFault
+said lines = and_then (body_from 1 lines) (λ body. said_in body.version body)
+
+-- a drawing that means itself
+module _ (version : Version) (d : DrawingValue) (keeps : KeepsDrawing d) (means : meant_by version d ≡ Ok d) where
   -- its last block has a line, and so has the last one at each block before
   last_filled : is_last_empty d ≡ false
   last_filled = last_by d (length d.threads - 1) true (omega (arith, keeps.blocks_from))
@@ -209,10 +218,11 @@ module _ (d : DrawingValue) (keeps : KeepsDrawing d) where
 
   -- spelled blocks are read
   blocks_read : (left before : List ℕ) (block : ℕ) → length before ≡ block → before ++ left ≡ d.threads
-      → ReadsOn d (so_far d before block) (blocks_text block left d.lines)
+      → ReadsOn version d (so_far d before block) (blocks_text block left d.lines)
   blocks_read [] before block count are number opened named =
-      ap (λ (e : DrawingValue). at_line number opened (finished e)) (whole before block count are)
-      ∙ ap (at_line number opened) finished_whole
+      ap (λ (e : DrawingValue). at_line number opened (and_then (finished e) (meant_by version))) (whole before block count are)
+      ∙ (ap (λ (r : Result DrawingValue DrawKind). at_line number opened (and_then r (meant_by version))) finished_whole
+      ∙ ap (at_line number opened) means)
   blocks_read (thread ∷ left) before block count are number opened named =
       let Threads : List ℕ → Type 0 = λ list. All (λ (t : ℕ). t < 256) list in
       let fits : thread < 256 =
@@ -225,19 +235,19 @@ module _ (d : DrawingValue) (keeps : KeepsDrawing d) where
       let next : List ℕ = before ++ thread ∷ [] in
       let one : DrawingValue = with_block (so_far d before block) thread in
       let behind : List ℕ = blocks_text (block + 1) left d.lines in
-      let after : ReadsOn d (so_far d next (block + 1)) behind =
+      let after : ReadsOn version d (so_far d next (block + 1)) behind =
       blocks_read left next (block + 1) (length-append before (thread ∷ []) ∙ omega (arith, count))
       (append_assoc before (thread ∷ []) left ∙ are) in
       let lines : so_far d next (block + 1) ≡ with_lines one (lines_in block d.lines) =
       ap (λ (list : List LineValue). record { label = d.label; step = d.step; threads = next; lines = list }) (next_lines d block keeps) in
-      let Reads : DrawingValue → Type 0 = λ e. ReadsOn d e behind in
-      let inside : ReadsOn d one (flat_map line_text (lines_in block d.lines) ++ behind) =
-      lines_read d one (lines_in block d.lines) behind (block_follows before block thread count) (subst Reads lines after) in
+      let Reads : DrawingValue → Type 0 = λ e. ReadsOn version d e behind in
+      let inside : ReadsOn version d one (flat_map line_text (lines_in block d.lines) ++ behind) =
+      lines_read version d one (lines_in block d.lines) behind (block_follows before block thread count) (subst Reads lines after) in
       let text : blocks_text block (thread ∷ left) d.lines
       ≡ codes "color" ++ (tail_of (decimal thread ∷ []) ++ (flat_map line_text (lines_in block d.lines) ++ behind)) =
       append_assoc (number_text (codes "color ") thread) (flat_map line_text (lines_in block d.lines)) behind in
-      ap (λ (all : List ℕ). drawn_after number (draft_of named opened (so_far d before block)) (words_by_line all)) text
-      ∙ (line_judged number (draft_of named opened (so_far d before block)) (draft_of named number one) (codes "color")
+      ap (λ (all : List ℕ). drawn_after version number (draft_of named opened (so_far d before block)) (words_by_line all)) text
+      ∙ (line_judged version number (draft_of named opened (so_far d before block)) (draft_of named number one) (codes "color")
       (decimal thread ∷ []) (flat_map line_text (lines_in block d.lines) ++ behind) is_color
       (decimal_word thread (omega (arith, fits)), tt) (color_says number opened named (so_far d before block) thread fits filled room)
       ∙ inside (number + 1) number named)
@@ -247,24 +257,24 @@ module _ (d : DrawingValue) (keeps : KeepsDrawing d) where
   step_text = number_text (codes "step ") d.step ++ blocks_text 0 d.threads d.lines
 
   step_read : (number : ℕ) (named : Bool)
-      → drawn_after number (record first_draft { named = named; drawing = record blank_drawing { label = d.label } }) (words_by_line step_text)
+      → drawn_after version number (record first_draft { named = named; drawing = record blank_drawing { label = d.label } }) (words_by_line step_text)
       ≡ Ok d
   step_read number named =
       let start : record blank_drawing { label = d.label; step = d.step } ≡ so_far d [] 0 =
       ap (λ (list : List LineValue). record { label = d.label; step = d.step; threads = []; lines = list }) (sym (none_first d.lines)) in
-      let Reads : DrawingValue → Type 0 = λ e. ReadsOn d e (blocks_text 0 d.threads d.lines) in
+      let Reads : DrawingValue → Type 0 = λ e. ReadsOn version d e (blocks_text 0 d.threads d.lines) in
       let blocks = subst Reads (sym start) (blocks_read d.threads [] 0 refl refl) in
       let draft : Draft = record first_draft { named = named; drawing = record blank_drawing { label = d.label } } in
-      line_judged number draft (draft_of named 0 (record blank_drawing { label = d.label; step = d.step })) (codes "step")
+      line_judged version number draft (draft_of named 0 (record blank_drawing { label = d.label; step = d.step })) (codes "step")
       (decimal d.step ∷ []) (blocks_text 0 d.threads d.lines) is_step
       (decimal_word d.step (omega (arith, keeps.step_to)), tt) (step_says number named d.label d.step keeps.step_from keeps.step_to)
       ∙ blocks (number + 1) 0 named
 
   -- the label, where there is one, and then the step
   label_read : (label : List ℕ) → label ≡ d.label
-      → drawn_after 2 first_draft (words_by_line (label_text label ++ step_text)) ≡ Ok d
+      → drawn_after version 2 first_draft (words_by_line (label_text label ++ step_text)) ≡ Ok d
   label_read [] is =
-      let Reads : List ℕ → Type 0 = λ list. drawn_after 2
+      let Reads : List ℕ → Type 0 = λ list. drawn_after version 2
       (record first_draft { named = false; drawing = record blank_drawing { label = list } }) (words_by_line step_text) ≡ Ok d in
       subst Reads (sym is) (step_read 2 false)
   label_read (b ∷ label) is =
@@ -275,17 +285,26 @@ module _ (d : DrawingValue) (keeps : KeepsDrawing d) where
       let some : (length (b ∷ label) == 0) ≡ false = grind (arith, nat_tests) in
       let text : label_text (b ∷ label) ++ step_text ≡ codes "name" ++ (tail_of ((b ∷ label) ∷ []) ++ step_text) =
       rw some refl in
-      let Reads : List ℕ → Type 0 = λ list. drawn_after 3
+      let Reads : List ℕ → Type 0 = λ list. drawn_after version 3
       (record first_draft { named = true; drawing = record blank_drawing { label = list } }) (words_by_line step_text) ≡ Ok d in
-      ap (λ (all : List ℕ). drawn_after 2 first_draft (words_by_line all)) text
-      ∙ (line_judged 2 first_draft (record first_draft { named = true; drawing = record blank_drawing { label = b ∷ label } })
+      ap (λ (all : List ℕ). drawn_after version 2 first_draft (words_by_line all)) text
+      ∙ (line_judged version 2 first_draft (record first_draft { named = true; drawing = record blank_drawing { label = b ∷ label } })
       (codes "name") ((b ∷ label) ∷ []) step_text is_name (label_word (b ∷ label) allowed one_word (filled b label), tt)
       (name_says (b ∷ label) allowed one_word)
       ∙ subst Reads (sym is) (step_read 3 true))
 
   -- and the header before them
-  pub spelling_read : drawing_of (plain_spelling d) ≡ Ok d
-  spelling_read =
-      ap (drawn_from 1) (line_read (codes "redwork") (codes "1" ∷ []) (label_text d.label ++ step_text)
-      (record { filled = refl; inner = refl }) (record { filled = refl; inner = refl }, tt))
-      ∙ label_read d.label refl
+  body_read : (text : List ℕ) → drawing_of text ≡ drawn_after version 2 first_draft (words_by_line (label_text d.label ++ step_text))
+      → drawing_of text ≡ Ok d
+  body_read text is = is ∙ label_read d.label refl
+
+-- in version 1 a drawing means itself, and in version 2 where its lines meet at ends alone
+pub spelling_read : (d : DrawingValue) → KeepsDrawing d → drawing_of (plain_spelling d) ≡ Ok d
+spelling_read d keeps = body_read version.One d keeps refl (plain_spelling d)
+    (ap said (line_read (codes "redwork") (codes "1" ∷ []) (label_text d.label ++ step_text version.One d keeps refl)
+    (record { filled = refl; inner = refl }) (record { filled = refl; inner = refl }, tt)))
+
+pub spelling2_read : JoinedStay → (d : DrawingValue) → KeepsDrawing d → is_joined d ≡ true → drawing_of (plain_spelling2 d) ≡ Ok d
+spelling2_read stay d keeps joined = body_read version.Two d keeps (stay d keeps joined) (plain_spelling2 d)
+    (ap said (line_read (codes "redwork") (codes "2" ∷ []) (label_text d.label ++ step_text version.Two d keeps (stay d keeps joined))
+    (record { filled = refl; inner = refl }) (record { filled = refl; inner = refl }, tt)))

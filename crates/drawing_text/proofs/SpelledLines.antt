@@ -20,20 +20,21 @@ use Rattle.drawing_text.proofs.SpelledNumbers.{decimal_read, signed_read, signed
 use Rattle.drawing_text.proofs.SpelledWords.{AreWords, IsWord, is_inner, line_read, tail_of}
 use Rattle.drawing_text.specs.declared.draft.Draft.{Draft}
 use Rattle.drawing_text.specs.DrawingText.{at_line, drawn_after}
+use Rattle.drawing_text.specs.declared.version.Version.{Version}
 use Rattle.drawing_text.specs.Spelling.{points_text}
 use Rattle.drawing_text.specs.TextLines.{blank_drawing, first_draft, judged, points_in}
 use Rattle.drawing_text.specs.Words.{words_by_line}
 
 -- the next line is judged, and then those behind it
-pub line_judged : (number : ℕ) (draft next : Draft) (word : List ℕ) (words : List (List ℕ)) (rest : List ℕ)
+pub line_judged : (version : Version) (number : ℕ) (draft next : Draft) (word : List ℕ) (words : List (List ℕ)) (rest : List ℕ)
     → IsWord word
     → AreWords words → judged number draft (word ∷ words) ≡ Ok next
-    → drawn_after number draft (words_by_line (word ++ (tail_of words ++ rest)))
-    ≡ drawn_after (number + 1) next (words_by_line rest)
-line_judged number draft next word words rest is are says =
-    ap (drawn_after number draft) (line_read word words rest is are)
+    → drawn_after version number draft (words_by_line (word ++ (tail_of words ++ rest)))
+    ≡ drawn_after version (number + 1) next (words_by_line rest)
+line_judged version number draft next word words rest is are says =
+    ap (drawn_after version number draft) (line_read word words rest is are)
     ∙ ap (λ (answer : Result Draft DrawKind). and_then (at_line number draft.opened answer)
-    (λ (after : Draft). drawn_after (number + 1) after (words_by_line rest))) says
+    (λ (after : Draft). drawn_after version (number + 1) after (words_by_line rest))) says
 
 -- a draft whose step was given
 abbrev pub draft_of : Bool → ℕ → DrawingValue → Draft

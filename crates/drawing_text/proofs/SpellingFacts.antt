@@ -3,7 +3,7 @@ use Rattle.std.proofs.Common.{◌≡◌, ℤ, pos, negsuc, [], ◌∷◌, ◌++�
 use Rattle.std.specs.Fmt.{digits}
 use Rattle.design_model.specs.declared.point.Point.{Point}
 use Rattle.line_graph.specs.Drawings.{DrawingValue}
-use Rattle.drawing_text.specs.Spelling.{plain_spelling}
+use Rattle.drawing_text.specs.Spelling.{plain_spelling, plain_spelling2}
 
 abbrev pub place : ℤ → ℤ → Point
 place x y = record { x = x; y = y }
@@ -24,3 +24,9 @@ pub known_spelling : plain_spelling strokes
     ++ 10 ∷ (codes "line 0 0 -3 4" ++ 10 ∷ (codes "color 0" ++ 10 ∷ (codes "line 10 2 3 4" ++ 10 ∷ []))))))
 unfolding digits
 known_spelling = refl
+
+-- in version 2 the first line alone is another
+pub known_spelling2 : plain_spelling2 (record strokes { label = []; threads = 5 ∷ [] })
+    ≡ codes "redwork 2" ++ 10 ∷ (codes "step 25" ++ 10 ∷ (codes "color 5" ++ 10 ∷ (codes "line 0 0 -3 4" ++ 10 ∷ [])))
+unfolding digits
+known_spelling2 = refl

@@ -1,13 +1,16 @@
 -- The drawing that a text says, or the first fault of the text. Own format: lines of words, each judged by
 -- the lines before it. Lines of the text count from 1.
-use Rattle.std.specs.Prelude.{◌≡◌, ℕ, ◌+◌, Bool, false, ◌&&◌, ◌⊎◌, List, [], ◌∷◌, Result, Ok, Err, bytes_eq, codes, if◌then◌else◌}
+use Rattle.std.specs.Prelude.{◌≡◌, ℕ, ◌+◌, true, ◌⊎◌, List, [], ◌∷◌, Option, Some, None, Result, Ok, Err, bytes_eq, codes, if◌then◌else◌}
 use Rattle.line_graph.specs.declared.draw_kind.DrawKind.{DrawKind}
 use Rattle.line_graph.specs.declared.draw_kind.DrawKind.TheVariants as kind
 use Rattle.line_graph.specs.Drawings.{DrawingValue, KeepsDrawing}
 use Rattle.line_graph.specs.Growing.{and_then, finished}
+use Rattle.line_graph.specs.Sections.{is_joined, joined_drawing}
 use Rattle.drawing_text.specs.declared.draft.Draft.{Draft}
 use Rattle.drawing_text.specs.declared.draw_fault.DrawFault.{DrawFault}
-use Rattle.drawing_text.specs.Spelling.{plain_spelling}
+use Rattle.drawing_text.specs.declared.version.Version.{Version}
+use Rattle.drawing_text.specs.declared.version.Version.TheVariants as version
+use Rattle.drawing_text.specs.Spelling.{plain_spelling, plain_spelling2}
 use Rattle.drawing_text.specs.TextLines.{first_draft, judged}
 use Rattle.drawing_text.specs.Words.{is_passed_over, words_by_line}
 
@@ -27,32 +30,71 @@ abbrev pub at_line : {A : Type 0} → (number opened : ℕ) → Result A DrawKin
 at_line number opened (Ok a) = Ok a
 at_line number opened (Err why) = Err (told_at number opened why)
 
--- what the lines from that number on say, after those that say the draft
-abbrev pub drawn_after : ℕ → Draft → List (List (List ℕ)) → Result DrawingValue DrawFault
-drawn_after number draft [] = at_line number draft.opened (finished draft.drawing)
-drawn_after number draft (words ∷ rest) =
-    and_then (at_line number draft.opened (judged number draft words)) (λ next. drawn_after (number + 1) next rest)
+-- what the drawing of a text's lines means by its version: in version 2 its lines meet at each point that
+-- their block lists again
+abbrev pub meant_by : Version → DrawingValue → Result DrawingValue DrawKind
+meant_by version.One d = Ok d
+meant_by version.Two d = joined_drawing d
 
--- the words that begin a drawing text
-abbrev pub is_header : List (List ℕ) → Bool
-is_header (first ∷ second ∷ []) = bytes_eq first (codes "redwork") && bytes_eq second (codes "1")
-is_header words = false
+-- what the lines from that number on say, after those that say the draft
+abbrev pub drawn_after : Version → ℕ → Draft → List (List (List ℕ)) → Result DrawingValue DrawFault
+drawn_after version number draft [] =
+    at_line number draft.opened (and_then (finished draft.drawing) (meant_by version))
+drawn_after version number draft (words ∷ rest) =
+    and_then (at_line number draft.opened (judged number draft words)) (λ next.
+    drawn_after version (number + 1) next rest)
+
+-- the version that a word names
+abbrev pub version_in : List ℕ → Option Version
+version_in word =
+    if bytes_eq word (codes "1") then Some version.One
+    else if bytes_eq word (codes "2") then Some version.Two
+    else None
+
+-- the version of the drawing text that the words begin
+abbrev pub header_in : List (List ℕ) → Option Version
+header_in (first ∷ second ∷ []) =
+    if bytes_eq first (codes "redwork") then version_in second else None
+header_in words = None
 
 -- the header was looked for in that line
 abbrev pub bad_header : ℕ → DrawFault
 bad_header number = record { number = number; kind = kind.BadHeader }
 
--- what the lines from that number on say, where the header is still to come
-abbrev pub drawn_from : ℕ → List (List (List ℕ)) → Result DrawingValue DrawFault
-drawn_from number [] = Err (bad_header number)
-drawn_from number (words ∷ rest) =
-    if is_passed_over words then drawn_from (number + 1) rest
-    else if is_header words then drawn_after (number + 1) first_draft rest
-    else Err (bad_header number)
+-- a text behind its header: the version that this names, the number of the first line, and the lines
+pub record Body : Type 0 where
+  pub version : Version
+  pub first : ℕ
+  pub lines : List (List (List ℕ))
 
--- the drawing that a text says, or its first fault
+-- the body whose header stands in the line before that number
+abbrev pub body_behind : ℕ → Option Version → List (List (List ℕ)) → Result Body DrawFault
+body_behind number None rest = Err (bad_header number)
+body_behind number (Some version) rest =
+    Ok (record { version = version; first = number + 1; lines = rest })
+
+-- the body of the lines from that number on, where the header is still to come
+abbrev pub body_from : ℕ → List (List (List ℕ)) → Result Body DrawFault
+body_from number [] = Err (bad_header number)
+body_from number (words ∷ rest) =
+    if is_passed_over words then body_from (number + 1) rest
+    else body_behind number (header_in words) rest
+
+-- what a body says in a version
+abbrev pub said_in : Version → Body → Result DrawingValue DrawFault
+said_in version body = drawn_after version body.first first_draft body.lines
+
+-- the body of a text
+abbrev pub body_of : List ℕ → Result Body DrawFault
+body_of text = body_from 1 (words_by_line text)
+
+-- the drawing that a text says in the version that it names, or its first fault
 abbrev pub drawing_of : List ℕ → Result DrawingValue DrawFault
-drawing_of text = drawn_from 1 (words_by_line text)
+drawing_of text = and_then (body_of text) (λ body. said_in body.version body)
+
+-- the drawing that a text says as version 2, whichever version it names, or its first fault
+abbrev pub drawing_as2 : List ℕ → Result DrawingValue DrawFault
+drawing_as2 text = and_then (body_of text) (said_in version.Two)
 
 -- memory was wanted and not found
 abbrev pub no_memory : DrawFault
@@ -63,6 +105,15 @@ abbrev pub Reads : Result DrawingValue DrawFault → Result DrawingValue DrawFau
 Reads said (Ok d) = said ≡ Ok d
 Reads said (Err fault) = (said ≡ Err fault) ⊎ (fault ≡ no_memory)
 
--- the plain spelling of a drawing says that drawing
+-- in version 2 lines meet at ends alone
+abbrev pub IsMeant : Version → DrawingValue → Type 0
+IsMeant version.One d = Unit {0}
+IsMeant version.Two d = is_joined d ≡ true
+
+-- the plain spelling of a drawing says that drawing, in version 2 where its lines meet at ends alone
 abbrev pub PlainSpellingSays : Type 0
 PlainSpellingSays = (d : DrawingValue) → KeepsDrawing d → drawing_of (plain_spelling d) ≡ Ok d
+
+abbrev pub PlainSpelling2Says : Type 0
+PlainSpelling2Says = (d : DrawingValue) → KeepsDrawing d → is_joined d ≡ true
+    → drawing_of (plain_spelling2 d) ≡ Ok d

@@ -1,6 +1,7 @@
 -- words of the crate below that public clauses cite
 pub use Rattle.line_graph.specs.Drawings
 pub use Rattle.line_graph.specs.Growing
+pub use Rattle.line_graph.specs.Sections
 pub mod Limits
 pub mod Words
 pub mod Spelling

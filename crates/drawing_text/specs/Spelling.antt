@@ -5,6 +5,8 @@ use Rattle.std.specs.Fmt.{decimal, signed_decimal}
 use Rattle.std.specs.List.{flat_map}
 use Rattle.design_model.specs.declared.point.Point.{Point}
 use Rattle.line_graph.specs.Drawings.{DrawingValue, LineValue}
+use Rattle.drawing_text.specs.declared.version.Version.{Version}
+use Rattle.drawing_text.specs.declared.version.Version.TheVariants as version
 
 -- a point: two numbers, each after a space
 abbrev pub point_text : Point → List ℕ
@@ -42,7 +44,19 @@ blocks_text block (thread ∷ rest) lines =
 abbrev pub label_text : List ℕ → List ℕ
 label_text label = if length label == 0 then [] else codes "name " ++ (label ++ 10 ∷ [])
 
--- the whole text of a drawing
-abbrev pub plain_spelling : DrawingValue → List ℕ
-plain_spelling d = codes "redwork 1" ++ (10 ∷ (label_text d.label
+-- the words of the first line
+abbrev pub header_text : Version → List ℕ
+header_text version.One = codes "redwork 1"
+header_text version.Two = codes "redwork 2"
+
+-- the whole text of a drawing, in a version
+abbrev pub spelling_in : Version → DrawingValue → List ℕ
+spelling_in version d = header_text version ++ (10 ∷ (label_text d.label
     ++ (number_text (codes "step ") d.step ++ blocks_text 0 d.threads d.lines)))
+
+-- the same in version 1, and in version 2
+abbrev pub plain_spelling : DrawingValue → List ℕ
+plain_spelling = spelling_in version.One
+
+abbrev pub plain_spelling2 : DrawingValue → List ℕ
+plain_spelling2 = spelling_in version.Two

@@ -1,6 +1,6 @@
-ghost use Rattle.std.specs.Prelude.{◌≡◌};
-ghost use Rattle.line_graph.specs.Growing.{Changes, finished};
-ghost use Rattle.drawing_text.specs.DrawingText.{at_line};
+ghost use Rattle.std.specs.Prelude.{◌≡◌, IfOk};
+ghost use Rattle.line_graph.specs.Growing.{Answers, Changes, and_then, finished};
+ghost use Rattle.drawing_text.specs.DrawingText.{IsMeant, Reads, at_line, meant_by};
 ghost use Rattle.drawing_text.specs.TextLines.{coloured, first_draft, judged, lined, named, stepped};
 ghost use Rattle.drawing_text.specs.Words.{only_word as only_of_words, words_in};
 
@@ -8,7 +8,8 @@ use crate::draw_fault::{DrawFault, told_at};
 use crate::number_words::count_in;
 use crate::point_words::points_of_words;
 use crate::text_words::{is_comment, next_word, only_word, spells};
-use line_graph::{DrawKind, Drawing, DrawingMaker, is_label_word};
+use crate::version::Version;
+use line_graph::{DrawKind, Drawing, DrawingMaker, is_label_word, join};
 use std::alloc::Global;
 use step_splitter::MAX_STEP;
 
@@ -116,14 +117,28 @@ impl Draft {
         Ok(())
     }
 
-    /// The drawing, where the text ends before the line of that number.
-    pub fn finish(self, number: u32) -> Result<Drawing, DrawFault>
-        ensures { result ≡ at_line number self.opened (finished self.drawing) }
+    /// The drawing in that version, where the text ends before the line of that number.
+    pub fn finish(self, alloc: Global, version: Version, number: u32) -> Result<Drawing, DrawFault>
+        ensures answer { Reads (at_line number self.opened
+            (and_then (finished self.drawing) (meant_by version))) result }
+        ensures meant { IfOk result (IsMeant version) }
     {
         let opened = self.opened;
-        match self.drawing.finish() {
+        match meant(alloc, self.drawing, version) {
             Ok(drawing) => Ok(drawing),
             Err(kind) => Err(told_at(number, opened, kind)),
         }
+    }
+}
+
+/// The drawing that was made, as the version means it.
+fn meant(alloc: Global, drawing: DrawingMaker, version: Version) -> Result<Drawing, DrawKind>
+    ensures answer { Answers (and_then (finished drawing) (meant_by version)) result }
+    ensures meant { IfOk result (IsMeant version) }
+{
+    let drawn = drawing.finish()?;
+    match version {
+        Version::One => Ok(drawn),
+        Version::Two => join(alloc, &drawn),
     }
 }

@@ -1,5 +1,7 @@
-ghost use Rattle.drawing_text.specs.DrawingText.{PlainSpellingSays};
+ghost use Rattle.drawing_text.specs.DrawingText.{PlainSpelling2Says, PlainSpellingSays};
 ghost use Rattle.drawing_text.specs.Limits.{TextLimit};
+
+use line_graph::joined_drawings_stay;
 
 /// The limit of drawing texts is this number.
 pub fn the_limit_of_texts()
@@ -10,3 +12,10 @@ pub fn the_limit_of_texts()
 pub fn the_plain_spelling_says()
     ensures { PlainSpellingSays }
 {}
+
+/// The plain spelling in version 2 of a drawing whose lines meet at ends alone is read as that drawing.
+pub fn the_plain_spelling2_says()
+    ensures { PlainSpelling2Says }
+{
+    joined_drawings_stay();
+}

@@ -1,5 +1,6 @@
-ghost use Rattle.std.specs.Prelude.{◌≡◌, ◌+◌, ◌≤◌, Err, length, IfOk, IfErr};
-ghost use Rattle.drawing_text.specs.DrawingText.{Reads, drawing_of, drawn_after, is_header as begins_drawing};
+ghost use Rattle.std.specs.Prelude.{◌≡◌, ◌+◌, ◌≤◌, Ok, Err, length, true, IfOk, IfErr};
+ghost use Rattle.line_graph.specs.Sections.{is_joined};
+ghost use Rattle.drawing_text.specs.DrawingText.{IsMeant, Reads, body_of, drawing_as2, drawing_of, drawn_after, header_in, version_in};
 ghost use Rattle.drawing_text.specs.TextLines.{first_draft};
 ghost use Rattle.drawing_text.specs.Words.{is_passed_over as has_no_words, words_by_line, words_in};
 
@@ -7,37 +8,51 @@ use crate::draft::Draft;
 use crate::draw_fault::{DrawFault, told_at};
 use crate::limits::MAX_TEXT;
 use crate::text_words::{is_comment, next_line, next_word, only_word, spells, without_return};
+use crate::version::Version;
 use line_graph::{DrawKind, Drawing};
 use std::alloc::Global;
 
-/// The drawing that a text says, or the first fault of the text in the order of its lines.
+/// The drawing that a text says in the version that it names, or the first fault of the text in the order of
+/// its lines.
 pub fn read_drawing(alloc: Global, bytes: &[u8]) -> Result<Drawing, DrawFault>
     requires { length bytes.now ≤ MAX_TEXT }
     ensures { Reads (drawing_of bytes.now) result }
 {
     match find_body(bytes) {
-        Ok((first, text)) => read_body(alloc, first, text),
+        Ok((version, first, text)) => read_body(alloc, version, first, text),
         Err(fault) => Err(fault),
     }
 }
 
-/// The number of the first line behind the header, and the text from there on.
-fn find_body(bytes: &[u8]) -> Result<(u32, &[u8]), DrawFault>
+/// The drawing that a text says as version 2, whichever version it names, or its first fault.
+pub fn read_as2(alloc: Global, bytes: &[u8]) -> Result<Drawing, DrawFault>
     requires { length bytes.now ≤ MAX_TEXT }
-    ensures ok { IfOk result
-        (λ r. drawing_of bytes.now ≡ drawn_after r.0 first_draft (words_by_line r.1.now)) }
-    ensures early { IfOk result (λ r. r.0 + length r.1.now ≤ MAX_TEXT + 1) }
-    ensures err { IfErr result (λ fault. drawing_of bytes.now ≡ Err fault) }
+    ensures answer { Reads (drawing_as2 bytes.now) result }
+    ensures joined { IfOk result (λ d. is_joined d ≡ true) }
+{
+    match find_body(bytes) {
+        Ok((_, first, text)) => read_body(alloc, Version::Two, first, text),
+        Err(fault) => Err(fault),
+    }
+}
+
+/// The version that the header names, the number of the first line behind it, and the text from there on.
+fn find_body(bytes: &[u8]) -> Result<(Version, u32, &[u8]), DrawFault>
+    requires { length bytes.now ≤ MAX_TEXT }
+    ensures ok { IfOk result (λ r.
+        body_of bytes.now ≡ Ok (record { version = r.0; first = r.1; lines = words_by_line r.2.now })) }
+    ensures early { IfOk result (λ r. r.1 + length r.2.now ≤ MAX_TEXT + 1) }
+    ensures err { IfErr result (λ fault. body_of bytes.now ≡ Err fault) }
 {
     let mut passed: u32 = 0;
     let mut rest = bytes;
     while let Some((line, after)) = next_line(rest) {
         let line = without_return(line);
-        if is_header(line) {
-            return Ok((passed + 2, after));
-        }
         if !is_passed_over(line) {
-            break;
+            return match version_named(line) {
+                Some(version) => Ok((version, passed + 2, after)),
+                None => Err(told_at(passed + 1, 0, DrawKind::BadHeader)),
+            };
         }
         passed += 1;
         rest = after;
@@ -54,21 +69,34 @@ fn is_passed_over(line: &[u8]) -> bool
     }
 }
 
-fn is_header(line: &[u8]) -> bool
-    ensures { result ≡ begins_drawing (words_in line.now) }
+/// The version that a header names, if the line is one.
+fn version_named(line: &[u8]) -> Option<Version>
+    ensures { result ≡ header_in (words_in line.now) }
 {
-    let Some((first, rest)) = next_word(line) else {
-        return false;
-    };
-    let Some(second) = only_word(rest) else {
-        return false;
-    };
-    spells(first, "redwork") && spells(second, "1")
+    let (first, rest) = next_word(line)?;
+    let second = only_word(rest)?;
+    if !spells(first, "redwork") {
+        return None;
+    }
+    version_spelled(second)
 }
 
-fn read_body(alloc: Global, first: u32, text: &[u8]) -> Result<Drawing, DrawFault>
+fn version_spelled(word: &[u8]) -> Option<Version>
+    ensures { result ≡ version_in word.now }
+{
+    if spells(word, "1") {
+        return Some(Version::One);
+    }
+    if spells(word, "2") {
+        return Some(Version::Two);
+    }
+    None
+}
+
+fn read_body(alloc: Global, version: Version, first: u32, text: &[u8]) -> Result<Drawing, DrawFault>
     requires { first + length text.now ≤ MAX_TEXT + 1 }
-    ensures { Reads (drawn_after first first_draft (words_by_line text.now)) result }
+    ensures answer { Reads (drawn_after version first first_draft (words_by_line text.now)) result }
+    ensures meant { IfOk result (IsMeant version) }
 {
     let mut draft = Draft::new(alloc);
     let mut number = first;
@@ -81,5 +109,5 @@ fn read_body(alloc: Global, first: u32, text: &[u8]) -> Result<Drawing, DrawFaul
         number += 1;
         rest = after;
     }
-    draft.finish(number)
+    draft.finish(alloc, version, number)
 }

@@ -1,14 +1,16 @@
-ghost use Rattle.std.specs.Prelude.{◌≡◌, ◌≤◌, ◌++◌, length, Ok, IfOk, OnOk};
+ghost use Rattle.std.specs.Prelude.{◌≡◌, ◌≤◌, ◌++◌, ◌∷◌, [], length, true, Ok, IfOk, OnOk};
 ghost use Rattle.std.specs.List.{flat_map};
+ghost use Rattle.line_graph.specs.Sections.{is_joined};
 ghost use Rattle.drawing_text.specs.DrawingText.{drawing_of};
-ghost use Rattle.drawing_text.specs.Spelling.{plain_spelling, label_text, number_text, blocks_text, line_text, lines_in, points_text, point_text};
+ghost use Rattle.drawing_text.specs.Spelling.{header_text, plain_spelling, plain_spelling2, spelling_in, label_text, number_text, blocks_text, line_text, lines_in, points_text, point_text};
 
-use crate::laws::the_plain_spelling_says;
+use crate::laws::{the_plain_spelling_says, the_plain_spelling2_says};
+use crate::version::Version;
 use design_model::{Bytes, Memory, Point};
 use line_graph::{Drawing, Line, MAX_BLOCKS};
 use std::alloc::Global;
 
-/// The plain spelling of a drawing, which is read as that drawing again.
+/// The plain spelling of a drawing in version 1, which is read as that drawing again.
 pub fn print_drawing(alloc: Global, d: &Drawing) -> Result<Bytes, Memory>
     ensures value { IfOk result (λ text. text ≡ plain_spelling d.now) }
     ensures again { IfOk result (λ text. drawing_of text ≡ Ok d.now) }
@@ -16,19 +18,44 @@ pub fn print_drawing(alloc: Global, d: &Drawing) -> Result<Bytes, Memory>
     // The clauses of `step` bring the drawing's limits.
     let _step = d.step();
     the_plain_spelling_says();
-    let text = spelled(alloc, d)?;
+    let text = spelled(alloc, Version::One, d)?;
     Ok(text)
 }
 
-fn spelled(alloc: Global, d: &Drawing) -> Result<Bytes, Memory>
-    ensures { IfOk result (λ text. text ≡ plain_spelling d.now) }
+/// The plain spelling in version 2 of a drawing whose lines meet at ends alone, which is read as that drawing
+/// again.
+pub fn print_drawing2(alloc: Global, d: &Drawing) -> Result<Bytes, Memory>
+    requires { is_joined d.now ≡ true }
+    ensures value { IfOk result (λ text. text ≡ plain_spelling2 d.now) }
+    ensures again { IfOk result (λ text. drawing_of text ≡ Ok d.now) }
+{
+    // The clauses of `step` bring the drawing's limits.
+    let _step = d.step();
+    the_plain_spelling2_says();
+    let text = spelled(alloc, Version::Two, d)?;
+    Ok(text)
+}
+
+fn spelled(alloc: Global, version: Version, d: &Drawing) -> Result<Bytes, Memory>
+    ensures { IfOk result (λ text. text ≡ spelling_in version d.now) }
 {
     let mut text = Bytes::new(alloc);
-    text.append(b"redwork 1\n")?;
+    put_header(&mut text, version)?;
     put_label(&mut text, d.label())?;
     put_number(alloc, &mut text, b"step ", d.step())?;
     put_blocks(alloc, &mut text, d.threads(), d.lines())?;
     Ok(text)
+}
+
+fn put_header(text: &mut Bytes, version: Version) -> Result<(), Memory>
+    ensures { OnOk result (text.new ≡ text.old ++ (header_text version ++ 10 ∷ [])) }
+{
+    let header: &[u8] = match version {
+        Version::One => b"redwork 1\n",
+        Version::Two => b"redwork 2\n",
+    };
+    text.append(header)?;
+    Ok(())
 }
 
 fn put_label(text: &mut Bytes, label: &[u8]) -> Result<(), Memory>

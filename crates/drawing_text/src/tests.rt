@@ -1,4 +1,4 @@
-use crate::{DrawFault, MAX_TEXT, print_drawing, read_drawing};
+use crate::{DrawFault, MAX_TEXT, print_drawing, print_drawing2, read_as2, read_drawing};
 use design_model::{Bytes, Memory, Point};
 use line_graph::{DrawKind, Drawing};
 use std::alloc::Global;
@@ -64,12 +64,52 @@ fn texts_of_any_spelling_are_read(rt: HostRuntime) -> Result<(), Fail> {
     Ok(())
 }
 
+/// Two lines through one point, behind a header.
+const CROSSING: &str = "step 10\ncolor 1\nline 0 0 10 0 20 0\nline 10 -10 10 0 10 10\n";
+
+/// Their sections, in the plain spelling of version 2.
+const CROSSED: &str = "redwork 2
+step 10
+color 1
+line 0 0 10 0
+line 10 0 20 0
+line 10 -10 10 0
+line 10 0 10 10
+";
+
+#[test]
+fn lines_of_version_2_meet_at_shared_points(rt: HostRuntime) -> Result<(), Fail> {
+    for (header, lines) in [("redwork 1\n", 2), ("redwork 2\n", 4)] {
+        let text = repeated(rt.alloc(), header, CROSSING, 1, "")
+            .ok()
+            .ok_or("no memory")?;
+        let d = drawing(rt.alloc(), text.as_slice())
+            .ok()
+            .ok_or("a drawing")?;
+        assert_eq!(rt; d.line_count(), lines);
+        if text.len() <= MAX_TEXT {
+            let whole = read_as2(rt.alloc(), text.as_slice())
+                .ok()
+                .ok_or("a drawing")?;
+            let plain = print_drawing2(rt.alloc(), &whole)
+                .ok()
+                .ok_or("no memory")?;
+            assert!(rt; plain.as_slice() == CROSSED.as_bytes(), "{header}");
+        }
+    }
+    Ok(())
+}
+
 #[test]
 fn the_first_fault_of_a_head_is_told_with_its_line(rt: HostRuntime) {
     let table = [
         ("", 1, DrawKind::BadHeader),
         ("# a\n\n", 3, DrawKind::BadHeader),
         ("redwork 01\n", 1, DrawKind::BadHeader),
+        ("redwork 3\n", 1, DrawKind::BadHeader),
+        ("redwork 2 1\n", 1, DrawKind::BadHeader),
+        ("redwork 2\nfoo\n", 2, DrawKind::BadWord),
+        ("redwork 2\nname a\n", 3, DrawKind::NoBlock),
         ("redwork 1\nfoo\n", 2, DrawKind::BadWord),
         ("redwork 1\nstep 5\nstep 5\n", 3, DrawKind::BadWord),
         ("redwork 1\ncolor 1\nname a\n", 3, DrawKind::BadWord),

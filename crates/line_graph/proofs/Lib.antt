@@ -23,3 +23,8 @@ mod KeptLemmas
 mod PartLemmas
 mod OneLemmas
 mod PieceGraphFacts
+mod SectionFacts
+mod SectionLemmas
+mod JoinLemmas
+mod CutLemmas
+mod KeptSections

@@ -24,14 +24,14 @@ some_same : {A : Type 0} (a b : A) → Some a ≡ Some b → a ≡ b
 some_same a b is = cc
 
 -- spots that are found to be the same are the same
-same_spot : (a b : Spot) → is_same_spot a b ≡ true → a ≡ b
+pub same_spot : (a b : Spot) → is_same_spot a b ≡ true → a ≡ b
 same_spot a b found =
     let make : ℕ → Point → Spot = λ block at. record { block = block; at = at } in
     let both = and_parts (a.block == b.block) (is_same_point a.at b.at) found in
     ap₂ make (same a.block b.block both.0) (same_is a.at b.at both.1)
 
 -- a spot is found to be the same as itself
-spot_found : (a : Spot) → is_same_spot a a ≡ true
+pub spot_found : (a : Spot) → is_same_spot a a ≡ true
 spot_found a = rw (self a.block, same_found a.at a.at refl) refl
   where
     self : (n : ℕ) → (n == n) ≡ true

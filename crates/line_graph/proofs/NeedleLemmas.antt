@@ -1,16 +1,17 @@
 -- Needle points that come along a line, segment by segment.
-use Rattle.std.proofs.Common.{◌≡◌, ◌≢◌, ℕ, ◌+◌, ◌<◌, ◌≤◌, List, [], ◌∷◌, ◌++◌, Option, Some, None, length, get_or, All, ap, sym, subst, ◌∙◌, refl, arith}
+use Rattle.std.proofs.Common.{◌≡◌, ◌≢◌, ℕ, ◌+◌, ◌<◌, ◌≤◌, List, [], ◌∷◌, ◌++◌, Option, Some, None, length, get_or, take, All, ap, sym, subst, ◌∙◌, refl, arith}
 use Rattle.std.proofs.lemmas.List.{append_assoc, append-nil, length-append}
 use Rattle.std.proofs.lemmas.List.Elements.{All-append, All-cons, All-head, All-nil, All-tail}
 use Rattle.std.proofs.lemmas.List.FromFn.{length-map-range_with_len}
-use Rattle.std.proofs.lemmas.List.Sums.{get_or-le-sum_by}
+use Rattle.std.proofs.lemmas.List.Sums.{get_or-le-sum_by, sum_by-take-le, sum_by_more}
 use Rattle.design_model.specs.declared.point.Point.{Point}
 use Rattle.step_splitter.specs.Chains.{IsNeedlePoint, KeepsClose, KeepsMoving, LeadsTo, SplitPointsLead, last_from}
 use Rattle.step_splitter.specs.Steps.{point_at, split_points, steps_of}
 use Rattle.std.proofs.lemmas.Option.{slice_get-get_or}
 use Rattle.line_graph.specs.Drawings.{DrawingValue, HasNoRepeat, IsLine, KeepsDrawing, LineValue, first_of, last_of, points_in, points_of}
 use Rattle.line_graph.specs.Laws.{AreClose, AreNeedlesOf, LeadAlong}
-use Rattle.line_graph.specs.Walks.{needles_of}
+use Rattle.line_graph.specs.Growing.{step_count}
+use Rattle.line_graph.specs.Walks.{cost_of_line, needles_of}
 use Rattle.line_graph.specs.Needles.{line_steps, needle_points, segment_points, segment_steps}
 
 -- the points come from the first one to that point by steps that are no longer than said
@@ -216,3 +217,20 @@ pub needles_lead : SplitPointsLead → (d : DrawingValue) (line : ℕ) → Keeps
 needles_lead lead d line keeps there =
     needles_sound d line (needles_of d line) there keeps refl
     (line_leads lead d.step keeps.step_from (points_of d line) (line_there d line there keeps))
+
+-- the cost of lines, one after another
+pub next_cost : (d : DrawingValue) (line cost next : ℕ) → KeepsDrawing d → line < length d.lines
+    → cost ≡ step_count d.step (take line d.lines) → next ≡ cost_of_line d line
+    → (cost + next ≡ step_count d.step (take (line + 1) d.lines)) × (cost + next ≤ 200000)
+next_cost d line cost next keeps there so_far is =
+    let count : LineValue → ℕ = λ l. line_steps d.step l.points in
+    let none : LineValue = record { block = 0; points = [] } in
+    let more = sum_by_more count d.lines line none there in
+    let within = sum_by-take-le count d.lines (line + 1) in
+    let steps : cost_of_line d line ≡ line_steps d.step (points_of d line) = omega (arith, cost_is d line there keeps) in
+    let here : next ≡ count (get_or d.lines line none) =
+    is ∙ (steps ∙ ap points_cost (slice_get-get_or d.lines line none there)) in
+    (omega (arith, so_far, more, here), omega (arith, so_far, more, here, within, keeps.cost))
+  where
+    points_cost : Option LineValue → ℕ
+    points_cost l = line_steps d.step (points_in l)

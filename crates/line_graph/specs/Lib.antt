@@ -15,9 +15,11 @@ pub mod SewnWalks
 pub mod OnePieces
 pub mod Laws
 pub mod Growing
+pub mod Sections
 -- of the maker's inside
 pub mod Making
 -- of the inside of pieces
 pub mod LineLabels
 pub mod FirstLines
+pub mod ListedPoints
 pub mod PieceParts

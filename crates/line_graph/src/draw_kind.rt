@@ -6,7 +6,7 @@ use std::alloc::AllocFailed;
 /// What is wrong with a drawing or a drawing text.
 #[derive(Clone, Copy, Debug, PartialEq, Eq)]
 pub enum DrawKind {
-    /// The text does not begin with the words `redwork 1`.
+    /// The text does not begin with the words `redwork 1` or `redwork 2`.
     BadHeader,
     /// A text line says nothing that a line of a drawing text may say there.
     BadWord,

@@ -71,6 +71,20 @@ impl Drawing {
         }
     }
 
+    /// The drawing with these lines in the place of its own.
+    pub(crate) fn with_lines(&self, lines: Vec<Line>) -> Drawing
+        requires { KeepsDrawing (record self.now { lines = lines.items }) }
+        ensures { result ≡ record self.now { lines = lines.items } }
+    {
+        let mut label: ArrayVec<u8, MAX_LABEL> = ArrayVec::new();
+        label.try_extend_from_slice(self.label.as_slice()).unwrap();
+        let mut threads: ArrayVec<u8, MAX_BLOCKS> = ArrayVec::new();
+        threads
+            .try_extend_from_slice(self.threads.as_slice())
+            .unwrap();
+        Drawing::of_parts(label, self.step, threads, lines)
+    }
+
     /// The longest step on each axis, in tenths of a millimetre.
     pub fn step(&self) -> u32
         ensures value { result ≡ self.now.step }

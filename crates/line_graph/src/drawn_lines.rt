@@ -1,6 +1,7 @@
 ghost use Rattle.std.specs.Prelude.{◌≡◌, ◌<◌, ◌≤◌, Some, length};
 ghost use Rattle.line_graph.specs.declared.limits.TheConstants.{MAX_POINTS};
 ghost use Rattle.line_graph.specs.Drawings.{IsLine, first_of, last_of, points_of};
+ghost use Rattle.line_graph.specs.Growing.{step_count};
 ghost use Rattle.line_graph.specs.Walks.{cost_of_line};
 
 use crate::drawing::Drawing;
@@ -23,6 +24,19 @@ pub fn line_cost(d: &Drawing, line: u32) -> u32
     ensures { result ≡ cost_of_line d.now line }
 {
     line_steps(d.step(), points_to_sew(d, line)) as u32
+}
+
+/// What it costs to sew each line of a drawing once, in steps.
+pub fn drawing_cost(d: &Drawing) -> u32
+    ensures { result ≡ step_count d.now.step d.now.lines }
+{
+    // The clauses of `step` bring the drawing's limits.
+    let _step = d.step();
+    let mut cost = 0;
+    for line in 0..d.line_count() {
+        cost += line_cost(d, line);
+    }
+    cost
 }
 
 /// The points of a line, and what is known of them.

@@ -1,5 +1,6 @@
 ghost use Rattle.line_graph.specs.Drawings.{DrawingValue};
 ghost use Rattle.line_graph.specs.Laws.{NeedlesLeadAlong};
+ghost use Rattle.line_graph.specs.Sections.{JoinedStay, SectionsKeepCost, SectionsKeepSegments};
 
 use step_splitter::split_points_lead;
 
@@ -9,3 +10,14 @@ pub fn needles_lead_along()
 {
     split_points_lead();
 }
+
+/// A drawing whose lines meet at ends alone stays as it is where it is joined.
+pub fn joined_drawings_stay()
+    ensures { JoinedStay }
+{}
+
+/// Sections have each segment of their lines once, and cost as much.
+pub fn sections_keep_segments()
+    ensures segments { SectionsKeepSegments }
+    ensures cost { SectionsKeepCost }
+{}

@@ -46,7 +46,7 @@ fn needles_along(alloc: Global, points: &[Point], step: u32) -> Result<Points, M
 }
 
 /// The first point, and the points behind it.
-fn first_point(points: &[Point]) -> Option<(Point, &[Point])>
+pub fn first_point(points: &[Point]) -> Option<(Point, &[Point])>
     ensures some { IfSome result (λ r. points.now ≡ r.0 ∷ r.1.now) }
     ensures none { IfNone result (points.now ≡ []) }
 {

@@ -1,4 +1,5 @@
 mod cut_drawings;
+mod joined_drawings;
 
 use crate::{DrawKind, Drawing, DrawingMaker, MAX_STEP, is_label_word, needles};
 use design_model::{Point, Points};

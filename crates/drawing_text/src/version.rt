@@ -1,0 +1,7 @@
+/// The versions of the drawing text. In version 1 lines meet at their ends alone; in version 2 they meet at
+/// each point that their block lists at several places, and are cut there.
+#[derive(Clone, Copy, Debug, PartialEq, Eq)]
+pub enum Version {
+    One,
+    Two,
+}
