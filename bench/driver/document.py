@@ -1,13 +1,11 @@
-"""Puts the tables between the two marks of the document."""
+"""Puts the tables between two marks of the document."""
 
 from places import DOCUMENT
 
-BEGIN = "<!-- measured: begin -->"
-END = "<!-- measured: end -->"
 
-
-def put(text):
+def put(text, name):
+    begin, end = f"<!-- {name}: begin -->", f"<!-- {name}: end -->"
     old = DOCUMENT.read_text()
-    before, rest = old.split(BEGIN, 1)
-    after = rest.split(END, 1)[1]
-    DOCUMENT.write_text(f"{before}{BEGIN}\n\n{text}\n{END}{after}")
+    before, rest = old.split(begin, 1)
+    after = rest.split(end, 1)[1]
+    DOCUMENT.write_text(f"{before}{begin}\n\n{text}\n{end}{after}")

@@ -9,6 +9,7 @@ import counting
 import document
 import machine
 import measuring
+import routes
 import tables
 from building import say
 from cases import FULL, SMALL, all_cases
@@ -29,6 +30,16 @@ def head():
         f"Date: {machine.date()}. Load of the machine at the start: {machine.load()}. The times move with "
         "the processor, and the instructions don't."
     )
+
+
+def measure_routes(stitch):
+    """The table of routes, where LEMON is here."""
+    if not routes.can_measure():
+        say("no g++, or no LEMON (liblemon-dev): routes are left out")
+        return
+    text = routes.report(stitch)
+    print(text)
+    document.put(text, "routes")
 
 
 def main():
@@ -56,7 +67,8 @@ def main():
         say(f"{len(differences)} cases differ, {len(measured)} are equal")
         return 1
     if sizes is FULL and not asked.only:
-        document.put(text)
+        document.put(text, "measured")
+        measure_routes(stitch)
     say(f"all {len(measured)} cases are equal")
     return 0
 
