@@ -1,5 +1,7 @@
--- The certificate of a route: for each piece its retraced cost, its walk and its cuts. Own text: every line
--- ends with the byte 10, words are separated by one space, and numbers are decimal without leading zeros.
+-- The certificate of a route: for each piece its retraced cost, its walk and its cuts. Own text:
+-- every line
+-- ends with the byte 10, words are separated by one space, and numbers are decimal without leading
+-- zeros.
 use Rattle.std.specs.Prelude.{ℕ, ◌+◌, List, [], ◌∷◌, ◌++◌, codes, decimal, if◌then◌else◌}
 use Rattle.std.specs.List.{flat_map}
 use Rattle.cut_certificate.specs.declared.certificate.PieceCert.{PieceCert}
@@ -24,7 +26,8 @@ member_text j = codes " " ++ decimal (j + 1)
 
 -- a cut: its weight in halves, and its members
 abbrev pub cut_text : Cut → List ℕ
-cut_text cut = codes "cut " ++ (decimal cut.weight ++ (flat_map member_text cut.members ++ line_end))
+cut_text cut = codes "cut " ++ (decimal cut.weight
+    ++ (flat_map member_text cut.members ++ line_end))
 
 -- the lines of a piece
 abbrev pub piece_text : PieceCert → List ℕ

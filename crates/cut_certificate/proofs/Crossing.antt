@@ -23,7 +23,8 @@ edge_even false false = refl
 swapped : (x y z : ℕ) → ((x + y) + z) % 2 ≡ 0 → ((x + z) + y) % 2 ≡ 0
 swapped x y z h = omega arith
 
-pass_even : (set : ℕ → Bool) (e : Edge) (back : Bool) → ((crossing set e + inside set (start_of e back)) + inside set (end_of e back)) % 2 ≡ 0
+pass_even : (set : ℕ → Bool) (e : Edge) (back : Bool) → ((crossing set e + inside set (start_of e back)) + inside set (end_of e back)) % 2
+    ≡ 0
 pass_even set e false = edge_even (set e.a) (set e.b)
 pass_even set e true = swapped (crossing set e) (inside set e.a) (inside set e.b) (edge_even (set e.a) (set e.b))
 
@@ -37,12 +38,15 @@ joined c s i j t first rest = omega arith
 twice : (k : ℕ) → ((0 + k) + k) % 2 ≡ 0
 twice k = omega arith
 
-step_even : (ns : List ℕ) (es : List Edge) (set : ℕ → Bool) (ps : List Pass) (e : Edge) (back : Bool) (at to : ℕ) (t : Bool) → (start_of e back == at) ≡ t
+step_even : (ns : List ℕ) (es : List Edge) (set : ℕ → Bool) (ps : List Pass) (e : Edge) (back : Bool) (at to : ℕ) (t : Bool)
+    → (start_of e back == at) ≡ t
     → walk_on ns es (cond t (Some (end_of e back)) None) ps ≡ Some to
-    → (walk_on ns es (Some (end_of e back)) ps ≡ Some to → ((pass_sum ns es (crossing set) ps + inside set (end_of e back)) + inside set to) % 2 ≡ 0)
+    → (walk_on ns es (Some (end_of e back)) ps ≡ Some to → ((pass_sum ns es (crossing set) ps + inside set (end_of e back)) + inside set to)
+    % 2 ≡ 0)
     → (((crossing set e + pass_sum ns es (crossing set) ps) + inside set at) + inside set to) % 2 ≡ 0
 step_even ns es set ps e back at to true test is rest =
-    subst (λ (k : ℕ). (((crossing set e + pass_sum ns es (crossing set) ps) + inside set k) + inside set to) % 2 ≡ 0) (same (start_of e back) at test)
+    subst (λ (k : ℕ). (((crossing set e + pass_sum ns es (crossing set) ps) + inside set k) + inside set to) % 2 ≡ 0)
+    (same (start_of e back) at test)
     (joined (crossing set e) (pass_sum ns es (crossing set) ps) (inside set (start_of e back)) (inside set (end_of e back)) (inside set to)
     (pass_even set e back) (rest is))
   where
@@ -55,7 +59,8 @@ edge_step : (ns : List ℕ) (es : List Edge) (set : ℕ → Bool) (ps : List Pas
     → ((k : ℕ) → walk_on ns es (Some k) ps ≡ Some to → ((pass_sum ns es (crossing set) ps + inside set k) + inside set to) % 2 ≡ 0)
     → (((of_edge (crossing set) found + pass_sum ns es (crossing set) ps) + inside set at) + inside set to) % 2 ≡ 0
 edge_step ns es set ps None back at to is rest = absurd (lost ns es ps to is)
-edge_step ns es set ps (Some e) back at to is rest = step_even ns es set ps e back at to (start_of e back == at) refl is (rest (end_of e back))
+edge_step ns es set ps (Some e) back at to is rest = step_even ns es set ps e back at to (start_of e back == at) refl is
+    (rest (end_of e back))
 
 pub walk_even : (ns : List ℕ) (es : List Edge) (set : ℕ → Bool) (ps : List Pass) (at to : ℕ) → walk_on ns es (Some at) ps ≡ Some to
     → ((pass_sum ns es (crossing set) ps + inside set at) + inside set to) % 2 ≡ 0

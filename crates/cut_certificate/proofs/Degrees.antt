@@ -30,7 +30,8 @@ counted_from s es at (suc n) = by_test (is_odd (degree es at)) refl (s at) refl 
 
     by_test : (t : Bool) → is_odd (degree es at) ≡ t → (u : Bool) → s at ≡ u
         → counted s (filter (λ j. is_odd (degree es j)) (range_with_len (at + 1) n)) ≡ odd_in s (at + 1) (degrees_from es (at + 1) n)
-        → counted s (filter (λ j. is_odd (degree es j)) (range_with_len at (suc n))) ≡ bit (s at && is_odd (degree es at)) + odd_in s (at + 1) (degrees_from es (at + 1) n)
+        → counted s (filter (λ j. is_odd (degree es j)) (range_with_len at (suc n)))
+        ≡ bit (s at && is_odd (degree es at)) + odd_in s (at + 1) (degrees_from es (at + 1) n)
     by_test true odd true has rest = rw (odd, has, rest) refl
     by_test true odd false has rest = rw (odd, has, rest) (none _)
     by_test false odd true has rest = rw (odd, has, rest) (none _)
@@ -68,7 +69,8 @@ alike x y u v first rest = omega arith
 odd_is_held : (s : ℕ → Bool) (at : ℕ) (ds : List ℕ) → odd_in s at ds % 2 ≡ held s at ds % 2
 odd_is_held s at [] = refl
 odd_is_held s at (d ∷ ds) =
-    alike (bit (s at && is_odd d)) (cond (s at) d 0) (odd_in s (at + 1) ds) (held s (at + 1) ds) (odd_bit (s at) d) (odd_is_held s (at + 1) ds)
+    alike (bit (s at && is_odd d)) (cond (s at) d 0) (odd_in s (at + 1) ds) (held s (at + 1) ds) (odd_bit (s at) d)
+    (odd_is_held s (at + 1) ds)
 
 -- a junction, where it is in the set and in the range
 abbrev one : (ℕ → Bool) → ℕ → ℕ → ℕ → ℕ
@@ -87,9 +89,11 @@ held_edge : (s : ℕ → Bool) (e : Edge) (es : List Edge) (at n : ℕ)
     → held s at (degrees_from (e ∷ es) at n) ≡ (one s e.a at n + one s e.b at n) + held s at (degrees_from es at n)
 held_edge s e es at zero = refl
 held_edge s e es at (suc n) = rw (held_edge s e es (at + 1) n)
-    (regroup (s at) (bit (e.a == at)) (bit (e.b == at)) (degree es at) (one s e.a (at + 1) n) (one s e.b (at + 1) n) (held s (at + 1) (degrees_from es (at + 1) n)))
+    (regroup (s at) (bit (e.a == at)) (bit (e.b == at)) (degree es at) (one s e.a (at + 1) n) (one s e.b (at + 1) n)
+    (held s (at + 1) (degrees_from es (at + 1) n)))
   where
-    regroup : (t : Bool) (x y d u v h : ℕ) → cond t ((x + y) + d) 0 + ((u + v) + h) ≡ ((cond t x 0 + u) + (cond t y 0 + v)) + (cond t d 0 + h)
+    regroup : (t : Bool) (x y d u v h : ℕ) → cond t ((x + y) + d) 0 + ((u + v) + h)
+        ≡ ((cond t x 0 + u) + (cond t y 0 + v)) + (cond t d 0 + h)
     regroup true x y d u v h = omega arith
     regroup false x y d u v h = omega arith
 
@@ -124,7 +128,8 @@ met s j at (suc n) from to = by_test (j == at) refl (λ (h : at + 1 ≤ j). met 
     there true k = omega arith
     there false k = omega arith
 
-    by_test : (u : Bool) → (j == at) ≡ u → (at + 1 ≤ j → one s j (at + 1) n ≡ inside s j) → cond (s at) (bit (j == at)) 0 + one s j (at + 1) n ≡ inside s j
+    by_test : (u : Bool) → (j == at) ≡ u → (at + 1 ≤ j → one s j (at + 1) n ≡ inside s j)
+        → cond (s at) (bit (j == at)) 0 + one s j (at + 1) n ≡ inside s j
     by_test true is rest =
         rw (is, before s j (at + 1) n (omega (arith, same j at is))) (here (s at) ∙ ap (λ (k : ℕ). inside s k) (sym (same j at is)))
     by_test false is rest = rw (is, rest (next j at is from)) (there (s at) (inside s j))
@@ -137,7 +142,13 @@ held_edges s [] n within = held_none s 0 n
 held_edges s (e ∷ es) n within =
     let parts = and_parts (nat_lt e.a n && nat_lt e.b n) (ends_below n es) within in
     let ends = and_parts (nat_lt e.a n) (nat_lt e.b n) parts.0 in
-    rw (held_edge s e es 0 n, met s e.a 0 n (omega arith) (less e.a n ends.0), met s e.b 0 n (omega arith) (less e.b n ends.1), held_edges s es n parts.1) refl
+    rw (
+      held_edge s e es 0 n,
+      met s e.a 0 n (omega arith) (less e.a n ends.0),
+      met s e.b 0 n (omega arith)
+          (less e.b n ends.1),
+      held_edges s es n parts.1,
+    ) refl
   where
     less : (m n : ℕ) → nat_lt m n ≡ true → m < 0 + n
     less m n is = grind (arith, nat_tests)
@@ -150,7 +161,8 @@ both_crosses false false = refl
 
 crossed : (s : ℕ → Bool) (es : List Edge) → edge_sum (both s) es % 2 ≡ edge_sum (crossing s) es % 2
 crossed s [] = refl
-crossed s (e ∷ es) = alike (both s e) (crossing s e) (edge_sum (both s) es) (edge_sum (crossing s) es) (both_crosses (s e.a) (s e.b)) (crossed s es)
+crossed s (e ∷ es) = alike (both s e) (crossing s e) (edge_sum (both s) es) (edge_sum (crossing s) es) (both_crosses (s e.a) (s e.b))
+    (crossed s es)
 
 -- both numbers are even, or both are odd
 pub odd_crossing : (s : ℕ → Bool) (es : List Edge) (n : ℕ) → ends_below n es ≡ true

@@ -45,7 +45,8 @@ load_step (n ∷ ns) [] y c cs = none c.weight
     none : (w : ℕ) → 0 ≡ w * 0 + 0
     none w = omega arith
 load_step (n ∷ ns) (e ∷ es) y c cs =
-    rw (load_step ns es y c cs, load_cons c cs e) (regroup (crosses c.members e) (y n) c.weight (load_on cs e) (weigh ns es y (crossing (holds c.members))) (weigh ns es y (load_on cs)))
+    rw (load_step ns es y c cs, load_cons c cs e) (regroup (crosses c.members e) (y n) c.weight (load_on cs e)
+    (weigh ns es y (crossing (holds c.members))) (weigh ns es y (load_on cs)))
   where
     regroup : (t : Bool) (k w l u v : ℕ) → k * (cond t w 0 + l) + (w * u + v) ≡ w * (k * bit t + u) + (k * l + v)
     regroup true k w l u v = omega arith
@@ -57,7 +58,8 @@ pub total_loads : (ns : List ℕ) (es : List Edge) (y : ℕ → ℕ) (p : PieceV
     → total_of cuts ≤ weigh ns es y (load_on cuts)
 total_loads ns es y p [] odd each = omega arith
 total_loads ns es y p (c ∷ cs) odd each =
-    rw (load_step ns es y c cs, total_cons c cs) (added c.weight (weigh ns es y (crossing (holds c.members))) (total_of cs) (weigh ns es y (load_on cs))
+    rw (load_step ns es y c cs, total_cons c cs) (added c.weight (weigh ns es y (crossing (holds c.members))) (total_of cs)
+    (weigh ns es y (load_on cs))
     (each c (All-head (IsOddCut p) c cs odd)) (total_loads ns es y p cs (All-tail (IsOddCut p) c cs odd) each))
   where
     added : (w u t v : ℕ) → 1 ≤ u → t ≤ v → w + t ≤ w * u + v
@@ -195,7 +197,8 @@ bounds_walks p cuts walk kept packing fit =
     = exchange p.lines p.edges cost_of walk kept.rising ∙ once_and_more p.lines p.edges cost_of walk kept.beside parts.1 in
     let most = total_loads p.lines p.edges (more walk) p cuts packing.odd (crossed_more p walk kept parts.1 there) in
     let most_cost = loads_cost p.lines p.edges (more walk) cuts packing.loads in
-    added (total_of cuts) (walk_cost p walk) (piece_cost p) (weigh p.lines p.edges (more walk) cost_of) (weigh p.lines p.edges (more walk) (load_on cuts)) cost most most_cost
+    added (total_of cuts) (walk_cost p walk) (piece_cost p) (weigh p.lines p.edges (more walk) cost_of)
+    (weigh p.lines p.edges (more walk) (load_on cuts)) cost most most_cost
   where
     added : (t w c m l : ℕ) → w ≡ c + m → t ≤ l → l ≤ 2 * m → t + 2 * c ≤ 2 * w
     added t w c m l is most fits = omega arith

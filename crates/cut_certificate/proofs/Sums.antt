@@ -55,10 +55,12 @@ absent line low (n ∷ ns) (e ∷ es) f is up =
     differs line low n is up = grind (arith, nat_tests)
 
 -- the line itself is weighed once
-single : (line : ℕ) (ns : List ℕ) (es : List Edge) (f : Edge → ℕ) → rises ns ≡ true → weigh ns es (this line) f ≡ of_edge f (edge_of ns es line)
+single : (line : ℕ) (ns : List ℕ) (es : List Edge) (f : Edge → ℕ) → rises ns ≡ true → weigh ns es (this line) f
+    ≡ of_edge f (edge_of ns es line)
 single line [] es f up = refl
 single line (n ∷ ns) [] f up = refl
-single line (n ∷ ns) (e ∷ es) f up = by_test (line == n) refl (and_parts (above n ns) (rises ns) up).0 (single line ns es f (and_parts (above n ns) (rises ns) up).1)
+single line (n ∷ ns) (e ∷ es) f up = by_test (line == n) refl (and_parts (above n ns) (rises ns) up).0
+    (single line ns es f (and_parts (above n ns) (rises ns) up).1)
   where
     same : (line n : ℕ) → (line == n) ≡ true → line ≡ n
     same line n is = grind (arith, nat_tests)
@@ -75,7 +77,8 @@ single line (n ∷ ns) (e ∷ es) f up = by_test (line == n) refl (and_parts (ab
     by_test false is up rest = rw (is, rest) (none (f e) _)
 
 -- a sum over the passes is a sum over the lines
-pub exchange : (ns : List ℕ) (es : List Edge) (f : Edge → ℕ) (ps : List Pass) → rises ns ≡ true → pass_sum ns es f ps ≡ weigh ns es (often ps) f
+pub exchange : (ns : List ℕ) (es : List Edge) (f : Edge → ℕ) (ps : List Pass) → rises ns ≡ true → pass_sum ns es f ps
+    ≡ weigh ns es (often ps) f
 exchange ns es f [] up = sym (weigh_never ns es f)
 exchange ns es f (p ∷ ps) up = rw (weigh_step ns es p ps f, single p.line ns es f up, exchange ns es f ps up) refl
 
@@ -95,7 +98,8 @@ once_and_more [] (e ∷ es) f ps same all = absurd (omega arith)
 once_and_more (n ∷ ns) [] f ps same all = absurd (omega arith)
 once_and_more (n ∷ ns) (e ∷ es) f ps same all =
     let parts = and_parts (passed n ps) (covers ns ps) all in
-    rw (once_and_more ns es f ps (omega arith) parts.1) (split (passes n ps) (f e) (edge_sum f es) (weigh ns es (more ps) f) (least n ps parts.0))
+    rw (once_and_more ns es f ps (omega arith) parts.1) (split (passes n ps) (f e) (edge_sum f es) (weigh ns es (more ps) f)
+    (least n ps parts.0))
   where
     one_less : (x : ℕ) → 1 ≤ x → x ≡ 1 + (x - 1)
     one_less x h = omega arith

@@ -36,7 +36,8 @@ crosses_none s e none = by_tests (s e.a) (s e.b) none
 
 none_leaves : (s : ℕ → Bool) (es : List Edge) → edge_sum (crossing s) es ≡ 0 → NoneLeaves es s
 none_leaves s [] none i e at = absurd (cc)
-none_leaves s (x ∷ es) none zero e at = let is : x ≡ e = some_same x e at in subst (λ (y : Edge). s y.a ≡ s y.b) is (crosses_none s x (omega arith))
+none_leaves s (x ∷ es) none zero e at = let is : x ≡ e = some_same x e at
+    in subst (λ (y : Edge). s y.a ≡ s y.b) is (crosses_none s x (omega arith))
   where
     some_same : (x y : Edge) → Some x ≡ Some y → x ≡ y
     some_same x y h = cc
@@ -59,7 +60,8 @@ never_crossed [] = refl
 never_crossed (e ∷ es) = rw (never_crossed es) refl
 
 -- all or none of the odd junctions are an even number
-constant_even : (p : PieceValue) → KeepsPiece p → (t : Bool) → odd_in (λ j. t) 0 (degrees_from (closed_edges p) 0 (length p.junctions)) % 2 ≡ 0
+constant_even : (p : PieceValue) → KeepsPiece p → (t : Bool) → odd_in (λ j. t) 0 (degrees_from (closed_edges p) 0 (length p.junctions)) % 2
+    ≡ 0
 constant_even p kept true = odd_crossing (λ j. true) (closed_edges p) (length p.junctions) (closed_ends p kept)
     ∙ ap (λ (k : ℕ). k % 2) (never_crossed (closed_edges p))
 constant_even p kept false = ap (λ (k : ℕ). k % 2) (none_odd (degrees_from (closed_edges p) 0 (length p.junctions)) 0)

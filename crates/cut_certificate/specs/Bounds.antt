@@ -10,12 +10,14 @@ use Rattle.line_graph.specs.PieceWalks.{IsLeast, fits, piece_cost, walk_cost}
 
 -- the total of a packing is at most twice what a fitting walk costs above the lines of the piece
 abbrev pub BoundsWalks : Type 0
-BoundsWalks = (p : PieceValue) (cuts : List Cut) (walk : List Pass) → KeepsPiece p → IsPacking p cuts
+BoundsWalks = (p : PieceValue) (cuts : List Cut) (walk : List Pass) → KeepsPiece p
+    → IsPacking p cuts
     → fits p walk ≡ true → total_of cuts + 2 * piece_cost p ≤ 2 * walk_cost p walk
 
 -- so a walk is least whose cost above the lines is half of a packing's total
 abbrev pub ProvesLeast : Type 0
-ProvesLeast = (p : PieceValue) (cuts : List Cut) (walk : List Pass) → KeepsPiece p → IsPacking p cuts
+ProvesLeast = (p : PieceValue) (cuts : List Cut) (walk : List Pass) → KeepsPiece p
+    → IsPacking p cuts
     → total_of cuts + 2 * piece_cost p ≡ 2 * walk_cost p walk → IsLeast p walk
 
 -- and the total is at most twice what the lines cost

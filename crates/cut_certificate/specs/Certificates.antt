@@ -5,7 +5,8 @@ use Rattle.cut_certificate.specs.declared.cut.Cut.{Cut}
 use Rattle.cut_certificate.specs.Packings.{IsPlainCut}
 use Rattle.line_graph.specs.declared.pass.Pass.{Pass}
 
--- a piece of a certificate that can be spelled so that it reads back: a walk with a pass, plain cuts, and no
+-- a piece of a certificate that can be spelled so that it reads back: a walk with a pass, plain
+-- cuts, and no
 -- index that is the greatest one
 pub record CanBeSpelled (piece : PieceCert) : Type 0 where
   pub some : piece.walk ≢ []

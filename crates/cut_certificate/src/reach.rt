@@ -51,7 +51,8 @@ fn lower_all(
     requires can { CanReach rows.now (length reach.old) moats.now }
     requires ways { HaveWays rows.now moats.now stands.now reaches.now places.now reach.old }
     ensures size { length reach.new ≡ length reach.old }
-    ensures value { AreLowered rows.now moats.now stands.now reaches.now places.now reach.old reach.new }
+    ensures value { AreLowered rows.now moats.now stands.now reaches.now places.now reach.old
+        reach.new }
 {
     let mut rest = places;
     while let [t, after @ ..] = rest {
@@ -72,7 +73,8 @@ fn lower(
     requires can { CanReach rows.now (length reach.old) moats.now }
     requires way { HasWay rows.now (length reach.old) moats.now stands.now reaches.now t }
     ensures size { length reach.new ≡ length reach.old }
-    ensures value { AreLowered rows.now moats.now stands.now reaches.now (t ∷ []) reach.old reach.new }
+    ensures value { AreLowered rows.now moats.now stands.now reaches.now
+        (t ∷ []) reach.old reach.new }
 {
     match stand_at(stands, t) {
         Stand::Free => lower_twice(reach, rows.row(t as usize)),

@@ -14,4 +14,5 @@ TwoMirroringsRestore = (a : Axis) (d : DesignValue) → mirrored a (mirrored a d
 
 -- a shift and its opposite leave a design as it was
 abbrev pub OppositeShiftRestores : Type 0
-OppositeShiftRestores = (dx dy : ℤ) (d : DesignValue) → shifted (neg_ℤ dx) (neg_ℤ dy) (shifted dx dy d) ≡ d
+OppositeShiftRestores = (dx dy : ℤ) (d : DesignValue)
+    → shifted (neg_ℤ dx) (neg_ℤ dy) (shifted dx dy d) ≡ d

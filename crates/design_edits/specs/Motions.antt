@@ -14,6 +14,7 @@ moved (motion.Mirror a) = mirror_point a
 
 -- a shift is no larger than may be asked for
 abbrev pub is_small : Motion → Bool
-is_small (motion.Shift dx dy) = nat_le (unsigned_abs dx) MAX_SHIFT && nat_le (unsigned_abs dy) MAX_SHIFT
+is_small (motion.Shift dx dy) = nat_le (unsigned_abs dx) MAX_SHIFT && nat_le
+    (unsigned_abs dy) MAX_SHIFT
 is_small (motion.Turn quarters) = true
 is_small (motion.Mirror a) = true

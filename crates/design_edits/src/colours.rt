@@ -43,7 +43,8 @@ fn keep_threads(design: &mut Design, place: u32)
 /// Keeps the thread of the next block.
 fn keep_next(design: &mut Design)
     requires { length design.old.threads < MAX_THREADS }
-    ensures { design.new ≡ with_thread design.old (thread_of design.old (length design.old.threads)) }
+    ensures { design.new ≡ with_thread design.old
+        (thread_of design.old (length design.old.threads)) }
 {
     let block = design.threads().len() as u32;
     let thread = design.thread(block);

@@ -54,7 +54,8 @@ abbrev pub thread_of : DesignValue → ℕ → ℕ
 thread_of d block = unwrap_or (slice_get d.threads block) (1 + block % 64)
 
 -- what each answer of a push means; a refusal leaves the design as it was
-abbrev pub Pushes : {T : Type 0} → Command → DesignValue → Result T ModelFault → DesignValue → Type 0
+abbrev pub Pushes : {T : Type 0} → Command → DesignValue → Result T ModelFault → DesignValue
+    → Type 0
 Pushes c old (Ok _) new =
     (is_in_range c ≡ true) × (length old.commands < MAX_COMMANDS) × (new ≡ with_command old c)
 Pushes c old (Err fault.Range) new = (is_in_range c ≡ false) × (new ≡ old)

@@ -19,7 +19,8 @@ signed minus size = if minus then neg_ℤ (pos size) else pos size
 abbrev pub signed_whole : Bool → List ℕ → Whole
 signed_whole minus digits =
     if not (is_numeral digits) then whole.NotANumber
-    else if nat_le (digits_value 10 digits) MAX_WHOLE then whole.Value (signed minus (digits_value 10 digits))
+    else if nat_le (digits_value 10 digits) MAX_WHOLE then whole.Value
+    (signed minus (digits_value 10 digits))
     else whole.Outside
 
 -- the number that a word spells; 45 is the minus sign

@@ -21,7 +21,8 @@ pub struct ActWalk {
 impl ActWalk {
     /// Before the first command.
     pub fn new() -> Self
-        ensures first { (commands : List CommandValue) → acts_after result commands ≡ acts_along commands }
+        ensures first { (commands : List CommandValue) → acts_after result commands
+            ≡ acts_along commands }
         ensures number { result.number ≡ 0 }
     {
         ActWalk {

@@ -31,7 +31,8 @@ pub point_read : (words rest after more x y : List ℕ) (points : List Point) (a
     → coordinate_in (whole_of x) ≡ Ok across → coordinate_in (whole_of y) ≡ Ok down
     → GoesOn words more (points ++ record { x = across; y = down } ∷ [])
 point_read words rest after more x y points across down goes first second left right = record {
-  spelled = goes.spelled ∙ (rw (first, second, left, right) (behind_one points (record { x = across; y = down }) (points_in (words_in more))));
+  spelled = goes.spelled ∙ (rw (first, second, left, right) (behind_one points (record { x = across; y = down })
+      (points_in (words_in more))));
 }
 
 -- and a needle may go down there

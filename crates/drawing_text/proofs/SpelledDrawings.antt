@@ -257,7 +257,8 @@ module _ (version : Version) (d : DrawingValue) (keeps : KeepsDrawing d) (means 
   step_text = number_text (codes "step ") d.step ++ blocks_text 0 d.threads d.lines
 
   step_read : (number : ℕ) (named : Bool)
-      → drawn_after version number (record first_draft { named = named; drawing = record blank_drawing { label = d.label } }) (words_by_line step_text)
+      → drawn_after version number (record first_draft { named = named; drawing = record blank_drawing { label = d.label } })
+      (words_by_line step_text)
       ≡ Ok d
   step_read number named =
       let start : record blank_drawing { label = d.label; step = d.step } ≡ so_far d [] 0 =

@@ -120,7 +120,16 @@ line_says number opened named d points able room =
     let few : nat_lt 65536 (point_count d.lines + length points) ≡ false = grind (arith, nat_tests, room.points_to) in
     let cheap : nat_lt 200000 (step_count d.step d.lines + line_steps d.step points) ≡ false =
     grind (arith, nat_tests, room.steps_to) in
-    rw (begun, points_read points able.in_range, in_range_found points able.in_range, long, no_repeat_found points able.moving, lines, few, cheap) refl
+    rw (
+      begun,
+      points_read points able.in_range,
+      in_range_found points able.in_range,
+      long,
+      no_repeat_found points able.moving,
+      lines,
+      few,
+      cheap,
+    ) refl
 
 -- a spelled block is added to it
 pub color_says : (number opened : ℕ) (named : Bool) (d : DrawingValue) (thread : ℕ) → thread < 256
@@ -168,7 +177,8 @@ name_says label is one_word =
 
 -- a step is set
 pub step_says : (number : ℕ) (named : Bool) (label : List ℕ) (step : ℕ) → 1 ≤ step → step ≤ 2047
-    → judged number (record first_draft { named = named; drawing = record blank_drawing { label = label } }) (codes "step" ∷ decimal step ∷ [])
+    → judged number (record first_draft { named = named; drawing = record blank_drawing { label = label } })
+    (codes "step" ∷ decimal step ∷ [])
     ≡ Ok (draft_of named 0 (record blank_drawing { label = label; step = step }))
 step_says number named label step from to =
     let low : nat_le 1 step ≡ true = grind (arith, nat_tests, from) in

@@ -1,4 +1,5 @@
--- What one line of a drawing text says after the lines before it. Numbers are in tenths of a millimetre,
+-- What one line of a drawing text says after the lines before it. Numbers are in tenths of a
+-- millimetre,
 -- lines of the text count from 1.
 use Rattle.std.specs.Prelude.{ℕ, ℤ, pos, negsuc, ◌==◌, Bool, true, false, not, ◌&&◌, ◌||◌, nat_le, unsigned_abs, List, [], ◌∷◌, Option, Some, None, Result, Ok, Err, length, bytes_eq, codes, if◌then◌else◌}
 use Rattle.design_model.specs.declared.point.Point.{Point}
@@ -29,7 +30,8 @@ count_in low high (whole.Value n) = count_from low high n
 abbrev pub coordinate_in : Whole → Result ℤ DrawKind
 coordinate_in whole.NotANumber = Err kind.BadNumber
 coordinate_in whole.Outside = Err kind.OutOfRange
-coordinate_in (whole.Value n) = if nat_le (unsigned_abs n) NEEDLE_LIMIT then Ok n else Err kind.OutOfRange
+coordinate_in (whole.Value n) = if nat_le (unsigned_abs n) NEEDLE_LIMIT then Ok n
+    else Err kind.OutOfRange
 
 -- the points of words that are coordinates, x before y; a number left over is too few for a point
 abbrev pub points_in : List (List ℕ) → Result (List Point) DrawKind

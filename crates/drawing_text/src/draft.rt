@@ -65,7 +65,8 @@ impl Draft {
     }
 
     fn take_name(&mut self, rest: &[u8]) -> Result<(), DrawKind>
-        ensures { Changes (named self.old (only_of_words (words_in rest.now))) self.old result self.new }
+        ensures { Changes (named self.old (only_of_words (words_in rest.now))) self.old result
+            self.new }
     {
         let Some(word) = only_word(rest) else {
             return Err(DrawKind::BadWord);
@@ -79,7 +80,8 @@ impl Draft {
     }
 
     fn take_step(&mut self, rest: &[u8]) -> Result<(), DrawKind>
-        ensures { Changes (stepped self.old (only_of_words (words_in rest.now))) self.old result self.new }
+        ensures { Changes (stepped self.old (only_of_words (words_in rest.now))) self.old result
+            self.new }
     {
         let Some(word) = only_word(rest) else {
             return Err(DrawKind::BadWord);

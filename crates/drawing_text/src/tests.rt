@@ -91,9 +91,7 @@ fn lines_of_version_2_meet_at_shared_points(rt: HostRuntime) -> Result<(), Fail>
             let whole = read_as2(rt.alloc(), text.as_slice())
                 .ok()
                 .ok_or("a drawing")?;
-            let plain = print_drawing2(rt.alloc(), &whole)
-                .ok()
-                .ok_or("no memory")?;
+            let plain = print_drawing2(rt.alloc(), &whole).ok().ok_or("no memory")?;
             assert!(rt; plain.as_slice() == CROSSED.as_bytes(), "{header}");
         }
     }

@@ -6,7 +6,8 @@ use Rattle.design_model.specs.Designs.{DesignValue}
 
 -- a square of 30 from the origin to the right and downwards
 abbrev pub square_commands : List Command
-square_commands = Stitch (record { x = pos 0; y = pos 0 }) ∷ Stitch (record { x = pos 30; y = pos 0 })
+square_commands = Stitch (record { x = pos 0; y = pos 0 })
+    ∷ Stitch (record { x = pos 30; y = pos 0 })
     ∷ Stitch (record { x = pos 30; y = pos 30 }) ∷ Stitch (record { x = pos 0; y = pos 30 })
     ∷ Stitch (record { x = pos 0; y = pos 0 }) ∷ Trim ∷ []
 

@@ -23,11 +23,13 @@ minus part z = (2 - taken part z) / 2
 
 -- the half byte of four signs: of the greater part and of the lesser part of one axis
 abbrev pub x_signs : ℕ → ℕ → ℤ → ℕ
-x_signs lesser greater x = plus lesser x + 2 * minus lesser x + 4 * plus greater x + 8 * minus greater x
+x_signs lesser greater x = plus lesser x + 2 * minus lesser x + 4 * plus greater x
+    + 8 * minus greater x
 
 -- the same of the other axis, whose bits stand in the other order
 abbrev pub y_signs : ℕ → ℕ → ℤ → ℕ
-y_signs lesser greater y = plus greater y + 2 * minus greater y + 4 * plus lesser y + 8 * minus lesser y
+y_signs lesser greater y = plus greater y + 2 * minus greater y + 4 * plus lesser y
+    + 8 * minus lesser y
 
 -- the record of a move with those flags: 0 for a stitch, 128 for a jump
 abbrev pub record_of : ℕ → Point → List ℕ

@@ -31,7 +31,8 @@ records_of acts = spelled_records spelling reach acts
 
 -- a file: the header, which counts the end record too, the records, and the end
 abbrev pub file_of : List ℕ → List NumberedAct → List ℕ
-file_of label acts = header label acts (length (records_of acts) + 1) ++ concat (records_of acts) ++ end_record
+file_of label acts = header label acts (length (records_of acts) + 1) ++ concat (records_of acts)
+    ++ end_record
 
 -- what a design is written as, or the refusal that its acts meet first
 abbrev pub writes : DesignValue → Result (List ℕ) WriteFault

@@ -59,7 +59,8 @@ goal_below p kept =
     (subst (λ (n : ℕ). n < length p.junctions) (sym e.2) (ends_are_below (length p.junctions) p.edges 0 e.0 kept.ends e.1).0)
 
 -- with the line back, each junction has an even number of ends
-said_even : (edges : List Edge) (one other : Option ℕ) (j n : ℕ) → (degree (closing (option_or one other) (option_or other one)) j + n) % 2 ≡ 0
+said_even : (edges : List Edge) (one other : Option ℕ) (j n : ℕ) → (degree (closing (option_or one other) (option_or other one)) j + n) % 2
+    ≡ 0
     → ((n + bit (or_first (option_or other one) edges == j)) + bit (or_first (option_or one other) edges == j)) % 2 ≡ 0
 said_even edges (Some a) (Some b) j n even = turned _ _ n even
   where

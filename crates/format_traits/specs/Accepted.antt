@@ -18,5 +18,6 @@ pub record IsSmall (reach : Reach) (acts : List NumberedAct) : Type 0 where
 
 -- the acts of a design that are not refused are so
 abbrev pub AcceptedIsSmall : Type 0
-AcceptedIsSmall = (reach : Reach) (d : DesignValue) → KeepsLimits d → first_refusal reach (acts_of d) ≡ None
+AcceptedIsSmall = (reach : Reach) (d : DesignValue) → KeepsLimits d
+    → first_refusal reach (acts_of d) ≡ None
     → IsSmall reach (acts_of d)

@@ -1,4 +1,5 @@
--- What it means to cut the first record from the bytes that are left of a file, and to read them all.
+-- What it means to cut the first record from the bytes that are left of a file, and to read them
+-- all.
 use Rattle.std.specs.Prelude.{◌≡◌, ℕ, ◌+◌, ◌<◌, ◌≤◌, Bool, List, length, drop, Result, Ok, Err, IsTrue}
 use Rattle.std.specs.List.{list_all}
 use Rattle.design_model.specs.Designs.{DesignValue}
@@ -14,7 +15,8 @@ use Rattle.format_traits.specs.Records.{Records, over, refused, next, moves_in, 
 
 -- the records of a reader before and after the cut: one of so many bytes stands at the offset, and
 -- the others are those of the bytes behind it
-pub record IsCut (before after : ℕ → List ℕ → Records) (at : ℕ) (bytes : List ℕ) (size : ℕ) (event : Event) : Type 0 where
+pub record IsCut (before after : ℕ → List ℕ → Records) (at : ℕ) (bytes : List ℕ) (size : ℕ)
+    (event : Event) : Type 0 where
   pub some : 0 < size
   pub there : size ≤ length bytes
   pub is : before at bytes ≡ next at event (after (at + size) (drop size bytes))
@@ -36,8 +38,10 @@ RefusesAs model (fault.Range at) = model ≡ Err (fault.Range at)
 RefusesAs model (fault.TooMany at) = model ≡ Err (fault.TooMany at)
 RefusesAs model fault.Memory = Unit {0}
 
--- what an answer of reading all records into a design without commands means; its label and its threads stay
+-- what an answer of reading all records into a design without commands means; its label and its
+-- threads stay
 abbrev pub ReadsRecords : Records → DesignValue → Result Bool ReadFault → DesignValue → Type 0
 ReadsRecords records d (Ok ended) d' =
-    SameButCommands d d' × (course_of records ≡ Ok (record { commands = d'.commands; ended = ended }))
+    SameButCommands d d' × (course_of records
+    ≡ Ok (record { commands = d'.commands; ended = ended }))
 ReadsRecords records d (Err f) d' = SameButCommands d d' × RefusesAs (course_of records) f

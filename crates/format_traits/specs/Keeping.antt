@@ -20,7 +20,8 @@ with_commands d more = record d { commands = d.commands ++ more }
 
 -- the commands are in range, and the design has room for them
 abbrev pub Fit : List Command → DesignValue → Type 0
-Fit commands d = IsTrue (list_all is_in_range commands) × (length d.commands + length commands ≤ MAX_COMMANDS)
+Fit commands d = IsTrue (list_all is_in_range commands)
+    × (length d.commands + length commands ≤ MAX_COMMANDS)
 
 -- trying the commands of the record at that offset comes to a refusal
 abbrev pub Refuses : ℕ → List Command → DesignValue → ReadFault → Type 0
@@ -28,7 +29,8 @@ Refuses at commands d f =
     (rest : Result Course ReadFault) → tries at (length d.commands) commands rest ≡ Err f
 
 -- what each answer means
-abbrev pub Keeps : {T : Type 0} → ℕ → List Command → DesignValue → Result T ReadFault → DesignValue → Type 0
+abbrev pub Keeps : {T : Type 0} → ℕ → List Command → DesignValue → Result T ReadFault → DesignValue
+    → Type 0
 Keeps at commands old (Ok _) new = Fit commands old × (new ≡ with_commands old commands)
 Keeps at commands old (Err (fault.Short a)) new = Refuses at commands old (fault.Short a)
 Keeps at commands old (Err (fault.Signature a)) new = Refuses at commands old (fault.Signature a)

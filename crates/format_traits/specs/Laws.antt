@@ -71,10 +71,14 @@ KeepsAllLaws m = (d : DesignValue) → KeepsLimits d → KeepsLaws m d
 pub record IsCodec (m : Meaning) (reach : Reach) (file : DesignValue → List ℕ) : Type 0 where
   pub limit : m.limit ≡ reach.limit
   pub stops : (count : ℕ) → count ≤ 254 → passes reach.stops count ≡ false
-  pub writes : (d : DesignValue) → m.writes d ≡ unless_refused (first_refusal reach (acts_of d)) (file d)
-  pub again : (d : DesignValue) → KeepsLimits d → first_refusal reach (acts_of d) ≡ None → ReadsAgain m d (file d)
-  pub within : (d : DesignValue) → KeepsLimits d → first_refusal reach (acts_of d) ≡ None → MovesWithin m (file d)
+  pub writes : (d : DesignValue) → m.writes d
+      ≡ unless_refused (first_refusal reach (acts_of d)) (file d)
+  pub again : (d : DesignValue) → KeepsLimits d → first_refusal reach (acts_of d) ≡ None
+      → ReadsAgain m d (file d)
+  pub within : (d : DesignValue) → KeepsLimits d → first_refusal reach (acts_of d) ≡ None
+      → MovesWithin m (file d)
 
 -- a format that is so keeps the laws
 abbrev pub CodecsKeepLaws : Type 0
-CodecsKeepLaws = (m : Meaning) (reach : Reach) (file : DesignValue → List ℕ) → IsCodec m reach file → KeepsAllLaws m
+CodecsKeepLaws = (m : Meaning) (reach : Reach) (file : DesignValue → List ℕ) → IsCodec m reach file
+    → KeepsAllLaws m

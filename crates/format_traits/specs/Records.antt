@@ -1,4 +1,5 @@
--- The records of a file, in any format, and the commands that they come to. Each record stands at an
+-- The records of a file, in any format, and the commands that they come to. Each record stands at
+-- an
 -- offset of the file and asks for one event.
 use Rattle.std.specs.Prelude.{ℕ, ◌+◌, Bool, true, false, ◌&&◌, List, [], ◌∷◌, ◌++◌, length, nat_le, Result, Ok, Err, if◌then◌else◌}
 use Rattle.std.specs.List.{list_all}
@@ -22,7 +23,8 @@ pub data Records : Type 0 where
 
 -- a stop, and a jump where the move is not (0, 0)
 abbrev pub stops_by : Point → Point → List Command
-stops_by m there = if is_same_point m origin then command.Stop ∷ [] else command.Stop ∷ command.Jump there ∷ []
+stops_by m there = if is_same_point m origin then command.Stop ∷ []
+    else command.Stop ∷ command.Jump there ∷ []
 
 -- the place after an event
 abbrev pub place_by : Event → Point → Point
@@ -78,7 +80,8 @@ course_of records = reads_from 0 origin records
 
 -- commands of a record that are kept, after so many
 abbrev pub are_kept : ℕ → List Command → Bool
-are_kept count commands = list_all is_in_range commands && nat_le (count + length commands) MAX_COMMANDS
+are_kept count commands = list_all is_in_range commands && nat_le
+    (count + length commands) MAX_COMMANDS
 
 -- the moves of the records that come before the end and before the first refusal
 abbrev pub moves_from : ℕ → Point → Records → List Point

@@ -72,7 +72,8 @@ or_else (Some f) other = Some f
 -- the refusal of an act: by itself, else by the room of all acts up to it
 abbrev pub refusal_at : Reach → Standing → NumberedAct → Option WriteFault
 refusal_at reach before a = or_else (own_refusal reach before a.act a.number)
-    (refused_where (nat_lt MAX_COMMANDS (standing_after reach.limit before a.act).room) (fault.TooLong a.number))
+    (refused_where (nat_lt MAX_COMMANDS (standing_after reach.limit before a.act).room)
+    (fault.TooLong a.number))
 
 -- the first refusal among acts
 abbrev pub refusal_from : Reach → Standing → List NumberedAct → Option WriteFault

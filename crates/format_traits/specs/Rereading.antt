@@ -1,4 +1,5 @@
--- That what is written reads again, in any format: what a reader has to make of the records that its
+-- That what is written reads again, in any format: what a reader has to make of the records that
+-- its
 -- writer spells, and what then follows of all acts.
 use Rattle.std.specs.Prelude.{◌≡◌, ℕ, suc, ◌+◌, ◌-◌, ◌<◌, ◌≤◌, Bool, true, false, ◌⊎◌, List, [], ◌∷◌, ◌++◌, length, Option, Some, None, option_map, Ok, IsTrue, if◌then◌else◌}
 use Rattle.std.specs.List.{concat, list_all}
@@ -17,8 +18,10 @@ use Rattle.format_traits.specs.Records.{Records, over, next, moves_in, course_of
 use Rattle.format_traits.specs.Refusals.{first_refusal}
 use Rattle.format_traits.specs.Spellings.{Spelling, is_most, records_of}
 
--- what a reader takes spelled records for: the most jump records of an unbroken run that it takes for
--- jumps before it takes one for a trim and a jump, where there is a most; what the records of a trim ask
+-- what a reader takes spelled records for: the most jump records of an unbroken run that it takes
+-- for
+-- jumps before it takes one for a trim and a jump, where there is a most; what the records of a
+-- trim ask
 -- for, and how long a run of jump records they leave; and what a stop asks for
 pub record Taken : Type 0 where
   pub most_jumps : Option ℕ
@@ -85,16 +88,20 @@ is_stop _ = false
 -- the records ask for those events in order, and then for what follows
 abbrev pub Ask : List Event → Records → Records → Type 0
 Ask [] records rest = records ≡ rest
-Ask (event ∷ more) records rest = (at : ℕ) × (after : Records) × (records ≡ next at event after) × Ask more after rest
+Ask (event ∷ more) records rest = (at : ℕ) × (after : Records) × (records ≡ next at event after)
+    × Ask more after rest
 
 -- a reader, which knows how many jump records stand in the unbroken run before, takes each spelled
 -- record for what it was spelled for, whatever bytes follow
-pub record RereadsSpelling (read : ℕ → ℕ → List ℕ → Records) (spelling : Spelling) (reach : Reach) (taken : Taken) : Type 0 where
+pub record RereadsSpelling (read : ℕ → ℕ → List ℕ → Records) (spelling : Spelling) (reach : Reach)
+    (taken : Taken) : Type 0 where
   pub stitch : (run at : ℕ) (m : Point) (rest : List ℕ) → IsTrue (is_within reach.limit m)
-      → read run at (spelling.stitch m ++ rest) ≡ next at (event.Stitch m) (read 0 (at + length (spelling.stitch m)) rest)
+      → read run at (spelling.stitch m ++ rest)
+      ≡ next at (event.Stitch m) (read 0 (at + length (spelling.stitch m)) rest)
   pub jump : (run at : ℕ) (m : Point) (rest : List ℕ) → IsTrue (is_within reach.limit m)
       → read run at (spelling.jump m ++ rest)
-      ≡ next at (jump_event taken.most_jumps run m) (read (run + 1) (at + length (spelling.jump m)) rest)
+      ≡ next at (jump_event taken.most_jumps run m)
+      (read (run + 1) (at + length (spelling.jump m)) rest)
   pub trim : (at : ℕ) (rest : List ℕ) → Ask taken.trim (read 0 at (concat spelling.trim ++ rest))
       (read taken.run (at + length (concat spelling.trim)) rest)
   pub stop : (run at before : ℕ) (rest : List ℕ) → read run at (spelling.stop before ++ rest)
@@ -115,8 +122,10 @@ pub record TellActs (records : Records) (acts : List NumberedAct) (limit : ℕ) 
 
 -- the records of a design's acts tell these acts again, where bytes follow that are the end
 abbrev pub SpelledActsReadAgain : Type 0
-SpelledActsReadAgain = (read : ℕ → ℕ → List ℕ → Records) (spelling : Spelling) (reach : Reach) (taken : Taken)
+SpelledActsReadAgain = (read : ℕ → ℕ → List ℕ → Records) (spelling : Spelling) (reach : Reach)
+    (taken : Taken)
     → RereadsSpelling read spelling reach taken
     → (d : DesignValue) → KeepsLimits d → first_refusal reach (acts_of d) ≡ None
     → (at : ℕ) (rest : List ℕ) → ((run at : ℕ) → read run at rest ≡ over true)
-    → TellActs (read 0 at (concat (records_of spelling reach (acts_of d)) ++ rest)) (acts_of d) reach.limit
+    → TellActs (read 0 at (concat (records_of spelling reach (acts_of d)) ++ rest))
+    (acts_of d) reach.limit

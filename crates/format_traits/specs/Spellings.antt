@@ -1,4 +1,5 @@
--- How acts are written, in any format: the records of each act in order. A format says how it spells
+-- How acts are written, in any format: the records of each act in order. A format says how it
+-- spells
 -- its records; which records an act takes is the same for all.
 use Rattle.std.specs.Prelude.{◌≡◌, ℕ, ◌-◌, max, Bool, true, false, List, [], ◌∷◌, ◌++◌, map, Option, Some, None, Result, Ok, Err, ◌==◌, if◌then◌else◌}
 use Rattle.std.specs.List.{concat}
@@ -14,7 +15,8 @@ use Rattle.format_traits.specs.declared.standing.Standing.{Standing}
 use Rattle.format_traits.specs.Placing.{hops, part_of, parts, parts_from}
 use Rattle.format_traits.specs.Refusals.{beginning, standing_after, own_refusal, refusal_at, first_refusal}
 
--- how a format spells its records: a stitch and a jump by their moves, a trim, which may take several,
+-- how a format spells its records: a stitch and a jump by their moves, a trim, which may take
+-- several,
 -- and a stop by the number of stops before it
 pub record Spelling : Type 0 where
   pub stitch : Point → List ℕ
@@ -39,12 +41,14 @@ is_most (Some most) n = n == most
 -- the records of a float of so many jumps; of the most that the format allows, the last is a stitch
 abbrev pub float_records : Spelling → Reach → ℕ → Point → List (List ℕ)
 float_records spelling reach count m =
-    if is_most reach.float_hops count then stitched_records spelling count m else hop_records spelling count m
+    if is_most reach.float_hops count then stitched_records spelling count m
+    else hop_records spelling count m
 
 -- the records of a needle by its move: of a loose one, of a float, of any other
 abbrev pub needle_records : Spelling → Reach → Bool → Bool → Point → List (List ℕ)
 needle_records spelling reach true float m = hop_records spelling (hops reach.limit m) m
-needle_records spelling reach false true m = float_records spelling reach (max 1 (hops reach.limit m)) m
+needle_records spelling reach false true m = float_records spelling reach
+    (max 1 (hops reach.limit m)) m
 needle_records spelling reach false false m = spelling.stitch m ∷ []
 
 -- the records of an act
@@ -67,7 +71,8 @@ records_of spelling reach acts = records_from spelling reach beginning acts
 -- how it stands after all of the acts
 abbrev pub standing_along : ℕ → Standing → List NumberedAct → Standing
 standing_along limit before [] = before
-standing_along limit before (a ∷ rest) = standing_along limit (standing_after limit before a.act) rest
+standing_along limit before (a ∷ rest) = standing_along limit
+    (standing_after limit before a.act) rest
 
 -- the refusal is that of the model, unless memory ran out
 abbrev pub RefusedAs : Option WriteFault → WriteFault → Type 0
@@ -82,7 +87,8 @@ abbrev pub IsAccepted : Reach → Standing → Act → Type 0
 IsAccepted reach before act = (number : ℕ) × (own_refusal reach before act number ≡ None)
 
 -- what an answer of adding the records of an act to bytes means
-abbrev pub PutsAct : {T : Type 0} → Spelling → Reach → Standing → NumberedAct → List ℕ → Result T WriteFault → Standing
+abbrev pub PutsAct : {T : Type 0} → Spelling → Reach → Standing → NumberedAct → List ℕ
+    → Result T WriteFault → Standing
     → List ℕ → Type 0
 PutsAct spelling reach before a old (Ok _) after new = (refusal_at reach before a ≡ None)
     × (new ≡ old ++ concat (records_of_act spelling reach before a.act))
@@ -90,7 +96,8 @@ PutsAct spelling reach before a old (Ok _) after new = (refusal_at reach before 
 PutsAct spelling reach before a old (Err f) after new = RefusedAs (refusal_at reach before a) f
 
 -- what an answer of adding the records of all acts means
-abbrev pub PutsActs : Spelling → Reach → List NumberedAct → List ℕ → Result Standing WriteFault → List ℕ → Type 0
+abbrev pub PutsActs : Spelling → Reach → List NumberedAct → List ℕ → Result Standing WriteFault
+    → List ℕ → Type 0
 PutsActs spelling reach acts old (Ok standing) new = (first_refusal reach acts ≡ None)
     × (new ≡ old ++ concat (records_of spelling reach acts))
     × (standing ≡ standing_along reach.limit beginning acts)

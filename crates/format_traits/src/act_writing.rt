@@ -181,7 +181,8 @@ fn put_hops<W: RecordWriter>(
     requires size { size step ≤ GREATEST_MOVE }
     requires most { count ≤ MOST_HOPS }
     requires enough { size step ≤ (W.reach writer.now).limit * count }
-    ensures { OnOk result (out.new ≡ out.old ++ concat (hop_records (W.spelling writer.now) count step)) }
+    ensures { OnOk result (out.new ≡ out.old ++ concat
+        (hop_records (W.spelling writer.now) count step)) }
 {
     put_jumps(writer, out, count, count, step)?;
     writer.put_stitch(out, Point { x: 0, y: 0 })?;

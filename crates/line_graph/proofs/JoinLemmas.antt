@@ -183,7 +183,8 @@ module _ (lines : List LineValue) where
   cost_kept step =
       let cost : LineValue → ℕ = λ line. line_steps step line.points in
       sum_kept (line_sections lines) cost
-      (λ line. sum_through cost line.block (sections_of (cuts line.block) line.points) ∙ line_steps_kept (cuts line.block) step line.points) lines
+      (λ line. sum_through cost line.block (sections_of (cuts line.block) line.points) ∙ line_steps_kept (cuts line.block) step line.points)
+      lines
 
   -- lines that are whole are their own sections
   own_section : (line : LineValue) → IsLine line.points → is_whole lines line ≡ true → line_sections lines line ≡ line ∷ []

@@ -50,7 +50,8 @@ there n (x ∷ xs) some = by_test (x == n) refl (λ h. there n xs h) some
 -- numbers that differ are each in the list once at most
 pub once : (n : ℕ) (xs : List ℕ) → AllPairs (λ x y. x < y) xs → often n xs ≤ 1
 once n [] pairs = omega arith
-once n (x ∷ xs) pairs = by_test (x == n) refl (once n xs (λ i. λ j. λ d. λ less. λ below. pairs (suc i) (suc j) d (omega (arith, less)) (omega (arith, below))))
+once n (x ∷ xs) pairs = by_test (x == n) refl (once n xs (λ i. λ j. λ d. λ less. λ below. pairs (suc i) (suc j) d (omega (arith, less))
+    (omega (arith, below))))
   where
     none_later : (ys : List ℕ) → ((j : ℕ) → j < length ys → x < get_or ys j 0) → x ≡ n → often n ys ≡ 0
     none_later [] more is = refl
@@ -101,7 +102,8 @@ sum_often f n [] below = omega arith
 sum_often f n (x ∷ xs) below =
     let here = over_one f x 0 n (omega arith) (omega (arith, All-head (λ x. x < n) x xs below)) in
     let rest = sum_often f n xs (All-tail (λ x. x < n) x xs below) in
-    let both = over_both (λ y. cond (x == y) 1 0 * f y) (λ y. often y xs * f y) (λ y. often y (x ∷ xs) * f y) (λ y. spread (cond (x == y) 1 0) (often y xs) (f y)) 0 n in
+    let both = over_both (λ y. cond (x == y) 1 0 * f y) (λ y. often y xs * f y) (λ y. often y (x ∷ xs) * f y)
+    (λ y. spread (cond (x == y) 1 0) (often y xs) (f y)) 0 n in
     omega (arith, sum_by-cons f x xs, here, rest, both)
   where
     spread : (a b k : ℕ) → (a + b) * k ≡ a * k + b * k
@@ -140,7 +142,8 @@ one_block d i j (k ∷ chain) is = step is.0 ∙ one_block d k j chain is.1
   where
     step : TouchAt d i k → block_of d i ≡ block_of d k
     step t =
-        let block = same t.one.block t.other.block (and_parts (t.one.block == t.other.block) (shares_point (ends_of t.one.points) (ends_of t.other.points)) t.touch).0 in
+        let block = same t.one.block t.other.block (and_parts (t.one.block == t.other.block)
+        (shares_point (ends_of t.one.points) (ends_of t.other.points)) t.touch).0 in
         ap block_in t.one_is ∙ block ∙ sym (ap block_in t.other_is)
 
 -- no line is in two pieces
@@ -170,12 +173,14 @@ none_in : (d : DrawingValue) (a : List ℕ) (n : ℕ) → Contains a n → All (
     → ((j : ℕ) → j < length pieces → Joined d (first_line a) (first_line (get_or pieces j [])) → ⊥) → often n (concat pieces) ≡ 0
 none_in d a n in_a joins [] all other = refl
 none_in d a n in_a joins (b ∷ pieces) all other =
-    let rest = none_in d a n in_a joins pieces (All-tail (λ piece. All (Joined d (first_line piece)) piece) b pieces all) (λ j. λ below. other (suc j) (omega (arith, below))) in
+    let rest = none_in d a n in_a joins pieces (All-tail (λ piece. All (Joined d (first_line piece)) piece) b pieces all)
+    (λ j. λ below. other (suc j) (omega (arith, below))) in
     omega (arith, often_append n b (concat pieces), rest, by_number (often n b) refl)
   where
     by_number : (k : ℕ) → often n b ≡ k → often n b ≡ 0
     by_number zero is = is
-    by_number (suc k) is = absurd (apart d a b n joins (All-head (λ piece. All (Joined d (first_line piece)) piece) b pieces all) (other 0 (omega arith)) in_a
+    by_number (suc k) is = absurd (apart d a b n joins (All-head (λ piece. All (Joined d (first_line piece)) piece) b pieces all)
+        (other 0 (omega arith)) in_a
         (there n b (omega (arith, is))))
 
 each_once : (d : DrawingValue) (pieces : List (List ℕ)) → Rest d pieces → (n : ℕ) → often n (concat pieces) ≤ 1
@@ -186,7 +191,8 @@ each_once d (a ∷ pieces) r n = by_number (often n a) refl
     by_number : (k : ℕ) → often n a ≡ k → often n a ≤ 1 → often n (concat pieces) ≤ 1 → often n (a ++ concat pieces) ≤ 1
     by_number zero is few rest = omega (arith, often_append n a (concat pieces), is, rest)
     by_number (suc k) is few rest =
-        let none = none_in d a n (there n a (omega (arith, is))) (All-head (λ piece. All (Joined d (first_line piece)) piece) a pieces r.joined) pieces
+        let none = none_in d a n (there n a (omega (arith, is)))
+        (All-head (λ piece. All (Joined d (first_line piece)) piece) a pieces r.joined) pieces
         (All-tail (λ piece. All (Joined d (first_line piece)) piece) a pieces r.joined)
         (λ j. λ below. r.apart_all 0 (suc j) [] (omega arith) (omega (arith, below))) in
         omega (arith, often_append n a (concat pieces), few, none)
@@ -196,11 +202,13 @@ sum_append f [] ys = omega arith
 sum_append f (x ∷ xs) ys = omega (arith, sum_by-cons f x (xs ++ ys), sum_by-cons f x xs, sum_append f xs ys)
 
 -- what a piece costs is what its lines cost
-pub cost_of_piece : (d : DrawingValue) (js : List _) (lines : List ℕ) → edge_sum cost_of (map (edge_between d js) lines) ≡ sum_by (cost_of_line d) lines
+pub cost_of_piece : (d : DrawingValue) (js : List _) (lines : List ℕ) → edge_sum cost_of (map (edge_between d js) lines)
+    ≡ sum_by (cost_of_line d) lines
 cost_of_piece d js [] = refl
 cost_of_piece d js (line ∷ lines) = omega (arith, cost_of_piece d js lines, sum_by-cons (cost_of_line d) line lines)
 
-pieces_cost : (d : DrawingValue) (pieces : List (List ℕ)) → sum_by (λ lines. piece_cost (piece_of d lines)) pieces ≡ sum_by (cost_of_line d) (concat pieces)
+pieces_cost : (d : DrawingValue) (pieces : List (List ℕ)) → sum_by (λ lines. piece_cost (piece_of d lines)) pieces
+    ≡ sum_by (cost_of_line d) (concat pieces)
 pieces_cost d [] = refl
 pieces_cost d (lines ∷ pieces) =
     omega (
@@ -249,12 +257,14 @@ over_items g f (x ∷ items) at is =
     next at k = omega arith
 
 -- what a line of a drawing costs is its steps
-line_cost : (d : DrawingValue) → KeepsDrawing d → (k : ℕ) (x : LineValue) → slice_get d.lines k ≡ Some x → cost_of_line d k ≡ line_steps d.step x.points
+line_cost : (d : DrawingValue) → KeepsDrawing d → (k : ℕ) (x : LineValue) → slice_get d.lines k ≡ Some x → cost_of_line d k
+    ≡ line_steps d.step x.points
 line_cost d keeps k x here =
     let counted = cost_is d k (slice_get_within d.lines k x here) keeps in
     omega (arith, counted, ap (λ (o : Option LineValue). line_steps d.step (points_in o)) here)
 
-pub lines_cost : (d : DrawingValue) → KeepsDrawing d → sum_over (cost_of_line d) 0 (length d.lines) ≡ sum_by (λ (line : LineValue). line_steps d.step line.points) d.lines
+pub lines_cost : (d : DrawingValue) → KeepsDrawing d → sum_over (cost_of_line d) 0 (length d.lines)
+    ≡ sum_by (λ (line : LineValue). line_steps d.step line.points) d.lines
 lines_cost d keeps = over_items (λ (line : LineValue). line_steps d.step line.points) (cost_of_line d) d.lines 0
     (λ k. λ x. λ here. ap (cost_of_line d) (none k) ∙ line_cost d keeps k x here)
   where
@@ -265,7 +275,8 @@ lines_cost d keeps = over_items (λ (line : LineValue). line_steps d.step line.p
 block_at : (d : DrawingValue) (i : ℕ) → i < length d.lines → block_of d i ≡ get_or (map (λ (line : LineValue). line.block) d.lines) i 0
 block_at d i below = at d.lines i below
   where
-    at : (lines : List LineValue) (i : ℕ) → i < length lines → block_in (slice_get lines i) ≡ get_or (map (λ (line : LineValue). line.block) lines) i 0
+    at : (lines : List LineValue) (i : ℕ) → i < length lines → block_in (slice_get lines i)
+        ≡ get_or (map (λ (line : LineValue). line.block) lines) i 0
     at [] i below = absurd (omega arith)
     at (x ∷ lines) zero below = refl
     at (x ∷ lines) (suc i) below = at lines i (omega arith)
@@ -273,7 +284,8 @@ block_at d i below = at d.lines i below
 -- later lines stand in later blocks, or in the same one
 blocks_rise : (d : DrawingValue) → KeepsDrawing d → (i j : ℕ) → i ≤ j → j < length d.lines → block_of d i ≤ block_of d j
 blocks_rise d keeps i j less below =
-    let wide : length (map (λ (line : LineValue). line.block) d.lines) ≡ length d.lines = length-map d.lines (λ (line : LineValue). line.block) in
+    let wide : length (map (λ (line : LineValue). line.block) d.lines) ≡ length d.lines =
+    length-map d.lines (λ (line : LineValue). line.block) in
     let up = keeps.ordered i j 0 less (omega (arith, wide, below)) in
     omega (arith, block_at d i (omega (arith, less, below)), block_at d j below, up)
 
@@ -290,7 +302,8 @@ walk_block : (d : DrawingValue) (piece : List ℕ) (walk : List Pass) → All (J
     → block_of_walk d walk ≡ block_of d (first_line piece)
 walk_block d piece [] joins along = absurd (omega (arith, along.some))
 walk_block d piece (p ∷ walk) joins along =
-    let to = All-contains (Joined d (first_line piece)) piece p.line joins (All-head (λ (pass : Pass). Contains piece pass.line) p walk along.there) in
+    let to = All-contains (Joined d (first_line piece)) piece p.line joins
+    (All-head (λ (pass : Pass). Contains piece pass.line) p walk along.there) in
     sym (one_block d (first_line piece) p.line to.0 to.1)
 
 first_there : (d : DrawingValue) (a : List ℕ) (pieces : List (List ℕ)) → a ≢ [] → All (λ line. line < length d.lines) (concat (a ∷ pieces))
@@ -313,7 +326,8 @@ few_stops d keeps block within (a ∷ pieces) b (walk ∷ walks) along =
       joined = All-tail (λ piece. All (Joined d (first_line piece)) piece) a pieces b.joined;
       rising = λ k. λ x. λ below_k. blocks_rise d keeps (first_line a) (first_line (get_or pieces k x))
           (less_or_same (b.ordered 0 (suc k) x (omega arith) (omega (arith, below_k))))
-          (first_at d pieces k x below_k (All-tail (λ piece. piece ≢ []) a pieces b.filled) (All-behind (λ line. line < length d.lines) a (concat pieces) b.below));
+          (first_at d pieces k x below_k (All-tail (λ piece. piece ≢ []) a pieces b.filled)
+          (All-behind (λ line. line < length d.lines) a (concat pieces) b.below));
       ordered = λ i. λ j. λ x. λ less. λ below_j. b.ordered (suc i) (suc j) x (omega (arith, less)) (omega (arith, below_j));
     }) walks along.1 in
     stop (block_of_walk d walk) (block_of d (first_line a)) block (length d.threads) (stops_after (block_of_walk d walk) (runs_of d walks))
@@ -334,25 +348,30 @@ few_stops d keeps block within (a ∷ pieces) b (walk ∷ walks) along =
     first_at d [] k x below filled all = absurd (omega arith)
     first_at d (a ∷ pieces) zero x below filled all = first_there d a pieces (All-head (λ piece. piece ≢ []) a pieces filled) all
     first_at d (a ∷ pieces) (suc k) x below filled all =
-        first_at d pieces k x (omega arith) (All-tail (λ piece. piece ≢ []) a pieces filled) (All-behind (λ line. line < length d.lines) a (concat pieces) all)
+        first_at d pieces k x (omega arith) (All-tail (λ piece. piece ≢ []) a pieces filled)
+        (All-behind (λ line. line < length d.lines) a (concat pieces) all)
 
     block_within : (d : DrawingValue) → KeepsDrawing d → (line : ℕ) → line < length d.lines → block_of d line < length d.threads
     block_within d keeps line below = at d.lines line below keeps.there
       where
-        at : (lines : List LineValue) (i : ℕ) → i < length lines → All (λ (line : LineValue). line.block < length d.threads) lines → block_in (slice_get lines i) < length d.threads
+        at : (lines : List LineValue) (i : ℕ) → i < length lines → All (λ (line : LineValue). line.block < length d.threads) lines
+            → block_in (slice_get lines i) < length d.threads
         at [] i below all = absurd (omega arith)
         at (x ∷ lines) zero below all = All-head (λ (line : LineValue). line.block < length d.threads) x lines all
-        at (x ∷ lines) (suc i) below all = at lines i (omega arith) (All-tail (λ (line : LineValue). line.block < length d.threads) x lines all)
+        at (x ∷ lines) (suc i) below all = at lines i (omega arith)
+            (All-tail (λ (line : LineValue). line.block < length d.threads) x lines all)
 
 -- first lines that rise
-pub firsts_rise : (pieces : List (List ℕ)) → IsStrictlyIncreasing (map first_line pieces) → AllPairs (λ a b. first_line a < first_line b) pieces
+pub firsts_rise : (pieces : List (List ℕ)) → IsStrictlyIncreasing (map first_line pieces)
+    → AllPairs (λ a b. first_line a < first_line b) pieces
 firsts_rise pieces up = λ i. λ j. λ x. λ less. λ below.
     let wide = length-map pieces first_line in
     let pairs = AllPairs-from_increasing (map first_line pieces) up i j 0 less (omega (arith, wide, below)) in
     subst (λ (k : ℕ). k < first_line (get_or pieces j x)) (sym (at pieces i x (omega (arith, less, below))))
     (subst (λ (k : ℕ). get_or (map first_line pieces) i 0 < k) (sym (at pieces j x below)) pairs)
   where
-    at : (pieces : List (List ℕ)) (i : ℕ) (x : List ℕ) → i < length pieces → first_line (get_or pieces i x) ≡ get_or (map first_line pieces) i 0
+    at : (pieces : List (List ℕ)) (i : ℕ) (x : List ℕ) → i < length pieces → first_line (get_or pieces i x)
+        ≡ get_or (map first_line pieces) i 0
     at [] i x below = absurd (omega arith)
     at (a ∷ pieces) zero x below = refl
     at (a ∷ pieces) (suc i) x below = at pieces i x (omega arith)
@@ -361,8 +380,22 @@ pub pieces_keep_limits : PiecesKeepLimits
 pieces_keep_limits d pieces keeps are =
     let each = each_once d pieces (record { joined = are.joined; apart_all = are.apart; rising = are.rising }) in
     record {
-      cost = omega (arith, pieces_cost d pieces, sum_once (cost_of_line d) (length d.lines) (concat pieces) are.there each, lines_cost d keeps, keeps.cost);
-      count = omega (arith, pieces_count pieces are.filled, sum_once (λ n. 1) (length d.lines) (concat pieces) are.there each, over_ones 0 (length d.lines), keeps.line_count);
+      cost = omega (
+        arith,
+        pieces_cost d pieces,
+        sum_once (cost_of_line d) (length d.lines)
+            (concat pieces) are.there each,
+        lines_cost d keeps,
+        keeps.cost,
+      );
+      count = omega (
+        arith,
+        pieces_count pieces are.filled,
+        sum_once (λ n. 1) (length d.lines) (concat pieces) are.there each,
+        over_ones 0
+            (length d.lines),
+        keeps.line_count,
+      );
       stops = λ walks. λ along.
           omega (
             arith,

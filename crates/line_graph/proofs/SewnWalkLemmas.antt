@@ -38,7 +38,8 @@ place_holds x (y ∷ ys) below = by_test (is_same_point x y) refl below (λ h. p
         → (place_of x ys < length ys → slice_get ys (place_of x ys) ≡ Some x)
         → slice_get (y ∷ ys) (cond (is_same_point x y) 0 (suc (place_of x ys))) ≡ Some x
     by_test true is below rest = rw is (ap (λ (p : Point). Some p) (sym (same_is x y is)))
-    by_test false is below rest = rw is (rest (less (place_of x ys) (length ys) (subst (λ (t : Bool). cond t 0 (suc (place_of x ys)) < length (y ∷ ys)) is below)))
+    by_test false is below rest = rw is (rest (less (place_of x ys) (length ys)
+        (subst (λ (t : Bool). cond t 0 (suc (place_of x ys)) < length (y ∷ ys)) is below)))
       where
         less : (m n : ℕ) → suc m < suc n → m < n
         less m n h = omega arith
@@ -47,7 +48,9 @@ place_holds x (y ∷ ys) below = by_test (is_same_point x y) refl below (λ h. p
 junction_at : (js : List Point) (o : Option Point) → number_of js o < length js → slice_get js (number_of js o) ≡ o
 junction_at js None below = absurd (omega arith)
 junction_at js (Some x) below =
-    let is : place_of x js ≡ position_or_len (is_same_point x) js = is_position_or_len (place_of x) (is_same_point x) refl (λ y. λ ys. ap (λ (k : ℕ). cond (is_same_point x y) 0 k) (one_more (place_of x ys))) js in
+    let is : place_of x js ≡ position_or_len (is_same_point x) js =
+    is_position_or_len (place_of x) (is_same_point x) refl (λ y. λ ys. ap (λ (k : ℕ). cond (is_same_point x y) 0 k)
+    (one_more (place_of x ys))) js in
     subst (λ (n : ℕ). slice_get js n ≡ Some x) is (place_holds x js (subst (λ (n : ℕ). n < length js) (sym is) below))
   where
     one_more : (n : ℕ) → suc n ≡ 1 + n
@@ -58,7 +61,8 @@ record IsFound (d : DrawingValue) (js : List Point) (lines : List ℕ) (line : �
   is : e ≡ edge_between d js line
   held : Contains lines line
 
-found : (d : DrawingValue) (js : List Point) (lines : List ℕ) (line : ℕ) (e : Edge) → edge_of lines (map (edge_between d js) lines) line ≡ Some e
+found : (d : DrawingValue) (js : List Point) (lines : List ℕ) (line : ℕ) (e : Edge) → edge_of lines (map (edge_between d js) lines) line
+    ≡ Some e
     → IsFound d js lines line e
 found d js [] line e at = absurd (cc)
 found d js (n ∷ lines) line e at = by_test (line == n) refl at (λ h. found d js lines line e h)
@@ -69,7 +73,8 @@ found d js (n ∷ lines) line e at = by_test (line == n) refl at (λ h. found d 
     some_same : (x y : Edge) → Some x ≡ Some y → y ≡ x
     some_same x y is = cc
 
-    by_test : (t : Bool) → (line == n) ≡ t → cond t (Some (edge_between d js n)) (edge_of lines (map (edge_between d js) lines) line) ≡ Some e
+    by_test : (t : Bool) → (line == n) ≡ t → cond t (Some (edge_between d js n)) (edge_of lines (map (edge_between d js) lines) line)
+        ≡ Some e
         → (edge_of lines (map (edge_between d js) lines) line ≡ Some e → IsFound d js lines line e) → IsFound d js (n ∷ lines) line e
     by_test true is at rest = record {
       is = some_same (edge_between d js n) e at ∙ ap (edge_between d js) (sym (same line n is));
@@ -79,7 +84,8 @@ found d js (n ∷ lines) line e at = by_test (line == n) refl at (λ h. found d 
         let r = rest at in
         record { is = r.is; held = (suc r.held.0, omega (arith, r.held.1), r.held.2) }
 
-ends_at : (n : ℕ) (lines : List ℕ) (es : List Edge) (line : ℕ) (e : Edge) → ends_below n es ≡ true → edge_of lines es line ≡ Some e → (e.a < n) × (e.b < n)
+ends_at : (n : ℕ) (lines : List ℕ) (es : List Edge) (line : ℕ) (e : Edge) → ends_below n es ≡ true → edge_of lines es line ≡ Some e
+    → (e.a < n) × (e.b < n)
 ends_at n [] es line e below is = absurd (cc)
 ends_at n (m ∷ lines) [] line e below is = absurd (cc)
 ends_at n (m ∷ lines) (x ∷ es) line e below is =
@@ -169,14 +175,16 @@ passed d keeps law lines there js ends pass e at =
 
     by_ends : e ≡ edge_between d js pass.line → AreNeedlesOf d pass.line (needles_of d pass.line)
         → (x : Option Point) → first_of (points_of d pass.line) ≡ x → slice_get js (number_of js x) ≡ x → number_of js x < length js
-        → (y : Option Point) → last_of (points_of d pass.line) ≡ y → slice_get js (number_of js y) ≡ y → number_of js y < length js → Passed d js pass e
+        → (y : Option Point) → last_of (points_of d pass.line) ≡ y → slice_get js (number_of js y) ≡ y → number_of js y < length js
+        → Passed d js pass e
     by_ends is needles None first at_a a_below y last at_b b_below = absurd (nowhere (length js) a_below)
     by_ends is needles (Some a) first at_a a_below None last at_b b_below = absurd (nowhere (length js) b_below)
     by_ends is needles (Some a) first at_a a_below (Some b) last at_b b_below =
         made (way d.step js e (needles_of d pass.line) a b
         (subst (λ (x : Edge). slice_get js x.a ≡ Some a) (sym is) (ap (λ (o : Option Point). slice_get js (number_of js o)) first ∙ at_a))
         (subst (λ (x : Edge). slice_get js x.b ≡ Some b) (sym is) (ap (λ (o : Option Point). slice_get js (number_of js o)) last ∙ at_b))
-        (trail_of d.step a b (needles_of d pass.line) (needles.along.first ∙ first) (needles.along.last ∙ last) needles.along.close needles.along.in_range)
+        (trail_of d.step a b (needles_of d pass.line) (needles.along.first ∙ first)
+        (needles.along.last ∙ last) needles.along.close needles.along.in_range)
         (needles.count ∙ ap (λ (x : Edge). x.cost + 1) (sym is)) pass.back)
 
 -- the needles behind the first are the rest of a trail
@@ -190,12 +198,15 @@ sewn_more : (d : DrawingValue) (lines : List ℕ) (js : List Point) (pass : Pass
 sewn_more d lines js pass rest e at held p more = record {
   held = All-cons (λ (x : Pass). Contains lines x.line) pass rest held more.held;
   close = subst (λ (ps : List Point). KeepsClose d.step p.from ps) (sym is)
-      (close_on d.step p.from p.trail.rest (later d rest) p.trail.close (subst (λ (q : Point). KeepsClose d.step q (later d rest)) (sym p.trail.last) more.close));
+      (close_on d.step p.from p.trail.rest (later d rest) p.trail.close
+      (subst (λ (q : Point). KeepsClose d.step q (later d rest)) (sym p.trail.last) more.close));
   in_range = subst (λ (ps : List Point). All IsNeedlePoint ps) (sym is)
       (All-append IsNeedlePoint p.trail.rest (later d rest) (All-tail IsNeedlePoint p.from p.trail.rest p.trail.in_range) more.in_range);
   count = counted (length (later d (pass ∷ rest))) (length p.trail.rest) (length (later d rest)) (length (needles_of_pass d pass)) e.cost
-      (pass_sum lines (map (edge_between d js) lines) cost_of rest) (of_edge cost_of (edge_of lines (map (edge_between d js) lines) pass.line))
-      (ap (λ (ps : List Point). length ps) is ∙ length-append p.trail.rest (later d rest)) (ap (λ (ps : List Point). length ps) p.trail.is) p.count more.count
+      (pass_sum lines (map (edge_between d js) lines) cost_of rest)
+      (of_edge cost_of (edge_of lines (map (edge_between d js) lines) pass.line))
+      (ap (λ (ps : List Point). length ps) is ∙ length-append p.trail.rest (later d rest))
+      (ap (λ (ps : List Point). length ps) p.trail.is) p.count more.count
       (ap (of_edge cost_of) at);
 }
   where
@@ -217,7 +228,8 @@ sewn_none d lines js at = record {
 -- a walk from a junction at a point on
 sewn : (d : DrawingValue) → KeepsDrawing d → NeedlesLeadAlong d → (lines : List ℕ) → All (λ line. line < length d.lines) lines
     → (js : List Point) → ends_below (length js) (map (edge_between d js) lines) ≡ true
-    → (walk : List Pass) (j to : ℕ) (at : Point) → slice_get js j ≡ Some at → walk_on lines (map (edge_between d js) lines) (Some j) walk ≡ Some to
+    → (walk : List Pass) (j to : ℕ) (at : Point) → slice_get js j ≡ Some at → walk_on lines (map (edge_between d js) lines) (Some j) walk
+    ≡ Some to
     → Sewn d lines js at walk
 sewn d keeps law lines there js ends [] j to at here is = sewn_none d lines js at
 sewn d keeps law lines there js ends (pass ∷ rest) j to at here is =
@@ -232,7 +244,8 @@ sewn d keeps law lines there js ends (pass ∷ rest) j to at here is =
 
     by_start : (e : Edge) → edge_of lines (map (edge_between d js) lines) pass.line ≡ Some e → (t : Bool) → (start_of e pass.back == j) ≡ t
         → walk_on lines (map (edge_between d js) lines) (cond t (Some (end_of e pass.back)) None) rest ≡ Some to
-        → ((m : ℕ) (q : Point) → slice_get js m ≡ Some q → walk_on lines (map (edge_between d js) lines) (Some m) rest ≡ Some to → Sewn d lines js q rest)
+        → ((m : ℕ) (q : Point) → slice_get js m ≡ Some q → walk_on lines (map (edge_between d js) lines) (Some m) rest ≡ Some to
+        → Sewn d lines js q rest)
         → Sewn d lines js at (pass ∷ rest)
     by_start e found_e false test is more = absurd (lost lines (map (edge_between d js) lines) rest to is)
     by_start e found_e true test is more =
@@ -243,7 +256,8 @@ sewn d keeps law lines there js ends (pass ∷ rest) j to at here is =
 
     by_edge : (o : Option Edge) → edge_of lines (map (edge_between d js) lines) pass.line ≡ o
         → walk_on lines (map (edge_between d js) lines) (after_edge o pass.back j) rest ≡ Some to
-        → ((m : ℕ) (q : Point) → slice_get js m ≡ Some q → walk_on lines (map (edge_between d js) lines) (Some m) rest ≡ Some to → Sewn d lines js q rest)
+        → ((m : ℕ) (q : Point) → slice_get js m ≡ Some q → walk_on lines (map (edge_between d js) lines) (Some m) rest ≡ Some to
+        → Sewn d lines js q rest)
         → Sewn d lines js at (pass ∷ rest)
     by_edge None found_e is more = absurd (lost lines (map (edge_between d js) lines) rest to is)
     by_edge (Some e) found_e is more = by_start e found_e (start_of e pass.back == j) refl is more
@@ -303,7 +317,8 @@ sewable d lines pass rest e p s =
       penetrations = ap (λ (ps : List Point). length ps) is ∙ counted (length (later d (pass ∷ rest))) _ s.count;
       near = subst (λ (ps : List Point). AreNear d.step ps) (sym is) (record {
         some = some p.from (later d (pass ∷ rest));
-        in_range = All-cons IsNeedlePoint p.from (later d (pass ∷ rest)) (All-head IsNeedlePoint p.from p.trail.rest p.trail.in_range) s.in_range;
+        in_range = All-cons IsNeedlePoint p.from (later d (pass ∷ rest))
+            (All-head IsNeedlePoint p.from p.trail.rest p.trail.in_range) s.in_range;
         close = s.close;
       });
     }
@@ -318,12 +333,14 @@ pub fitting_walks_are_sewable : ((d : DrawingValue) → NeedlesLeadAlong d) → 
 fitting_walks_are_sewable law d lines walk keeps there kept fit =
     let parts = and_parts (leads (piece_of d lines) walk) (covers lines walk) fit in
     let some = covers_some lines walk kept.some parts.1 in
-    let g = goes_from (walk_on lines (map (edge_between d (junctions_of d lines)) lines) (begin_of (piece_of d lines) walk) walk) (finish_of (piece_of d lines) walk) parts.0 in
+    let g = goes_from (walk_on lines (map (edge_between d (junctions_of d lines)) lines) (begin_of (piece_of d lines) walk) walk)
+    (finish_of (piece_of d lines) walk) parts.0 in
     led (leading d lines (junctions_of d lines) (begin_of (piece_of d lines) walk) walk g.0 some g.1)
   where
     led : Leading d lines (junctions_of d lines) walk → IsSewable d lines walk
     led l =
         let p = passed d keeps (law d) lines there (junctions_of d lines) kept.ends l.pass l.e l.at in
-        let s = sewn_more d lines (junctions_of d lines) l.pass l.rest l.e l.at (found d (junctions_of d lines) lines l.pass.line l.e l.at).held p
+        let s = sewn_more d lines (junctions_of d lines) l.pass l.rest l.e l.at
+        (found d (junctions_of d lines) lines l.pass.line l.e l.at).held p
         (sewn d keeps (law d) lines there (junctions_of d lines) kept.ends l.rest (end_of l.e l.pass.back) l.to p.to p.to_is l.goes) in
         subst (λ (w : List Pass). IsSewable d lines w) (sym l.is) (sewable d lines l.pass l.rest l.e p s)

@@ -40,7 +40,8 @@ turned limit p q within = rw (same_size q.x p.x, same_size q.y p.y) within
     same_size : (a b : ℤ) → unsigned_abs (b -ℤ a) ≡ unsigned_abs (a -ℤ b)
     same_size a b = omega (arith, ints)
 
-close_back : (step : ℕ) (p : Point) (xs r : List Point) → KeepsClose step p xs → KeepsClose step p r → AreClose step (reverse_aux xs (p ∷ r))
+close_back : (step : ℕ) (p : Point) (xs r : List Point) → KeepsClose step p xs → KeepsClose step p r
+    → AreClose step (reverse_aux xs (p ∷ r))
 close_back step p [] r forth back = back
 close_back step p (x ∷ xs) r forth back = close_back step x xs (p ∷ r) forth.1 (turned step p x forth.0, back)
 
@@ -61,7 +62,8 @@ range_back (x ∷ xs) r forth back =
 pub trail_back : (step : ℕ) (from to : Point) (points : List Point) → Trail step from to points → Trail step to from (reverse points)
 trail_back step from to points t =
     subst (λ (ps : List Point). Trail step to from (reverse ps)) (sym t.is)
-    (trail_of step to from (reverse_aux t.rest (from ∷ [])) (first_back from t.rest [] ∙ ap (λ (q : Point). Some q) t.last) (last_back from t.rest [])
+    (trail_of step to from (reverse_aux t.rest (from ∷ [])) (first_back from t.rest [] ∙ ap (λ (q : Point). Some q) t.last)
+    (last_back from t.rest [])
     (close_back step from t.rest [] t.close tt)
     (range_back t.rest (from ∷ []) (All-tail IsNeedlePoint from t.rest t.in_range)
     (All-cons IsNeedlePoint from [] (All-head IsNeedlePoint from t.rest t.in_range) (All-nil IsNeedlePoint))))

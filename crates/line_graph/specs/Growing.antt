@@ -63,14 +63,16 @@ abbrev pub has_repeat : List Point → Bool
 has_repeat [] = false
 has_repeat (p ∷ rest) = repeats_after p rest
 
--- the steps of the drawing's lines and a further line through these points, or the first fault of that line
+-- the steps of the drawing's lines and a further line through these points, or the first fault of
+-- that line
 abbrev pub steps_with : DrawingValue → List Point → Result ℕ DrawKind
 steps_with d points =
     if nat_lt (length points) 2 then Err kind.FewPoints
     else (if has_repeat points then Err kind.RepeatedPoint
     else (if length d.lines == MAX_LINES then Err kind.TooManyLines
     else (if nat_lt MAX_POINTS (point_count d.lines + length points) then Err kind.TooManyPoints
-    else (if nat_lt MAX_COST (step_count d.step d.lines + line_steps d.step points) then Err kind.TooMuchCost
+    else (if nat_lt MAX_COST (step_count d.step d.lines + line_steps d.step points) then Err
+    kind.TooMuchCost
     else Ok (step_count d.step d.lines + line_steps d.step points)))))
 
 -- the drawing with one line more in its last block

@@ -28,4 +28,5 @@ pub record AreNeedlesOf (d : DrawingValue) (line : ℕ) (points : List Point) : 
 
 -- the needle points of each line of a drawing lead along it
 abbrev pub NeedlesLeadAlong : DrawingValue → Type 0
-NeedlesLeadAlong d = (line : ℕ) → KeepsDrawing d → line < length d.lines → AreNeedlesOf d line (needles_of d line)
+NeedlesLeadAlong d = (line : ℕ) → KeepsDrawing d → line < length d.lines
+    → AreNeedlesOf d line (needles_of d line)

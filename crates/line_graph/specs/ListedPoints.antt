@@ -37,7 +37,8 @@ pub record AreMarked (all left : List Spot) (marks : Marks) : Type 0 where
 
 -- one spot more is marked
 abbrev pub MarksSpot : Spot → Marks → Marks → Type 0
-MarksSpot spot old new = (all left : List Spot) → AreMarked all (spot ∷ left) old → AreMarked all left new
+MarksSpot spot old new = (all left : List Spot) → AreMarked all (spot ∷ left) old
+    → AreMarked all left new
 
 -- and all those of a line
 abbrev pub MarksLine : LineValue → Marks → Marks → Type 0

@@ -18,7 +18,8 @@ pub record IsHead (label : List ℕ) (step : ℕ) : Type 0 where
 pub record AreBlocks (threads : List ℕ) (lines : List LineValue) : Type 0 where
   pub blocks_to : length threads ≤ MAX_BLOCKS
   pub in_range : All (λ thread. thread < 256) threads
-  pub used : (block : ℕ) → block + 1 < length threads → Contains (map (λ line. line.block) lines) block
+  pub used : (block : ℕ) → block + 1 < length threads
+      → Contains (map (λ line. line.block) lines) block
   pub there : All (λ line. line.block < length threads) lines
   pub ordered : IsNonDecreasing (map (λ line. line.block) lines)
 
@@ -29,7 +30,8 @@ pub record AreLines (step : ℕ) (lines : List LineValue) : Type 0 where
   pub points_to : point_count lines ≤ MAX_POINTS
   pub cost : step_count step lines ≤ MAX_COST
 
--- the drawing keeps these limits, and these are what is known of its lines: whether the last block is
+-- the drawing keeps these limits, and these are what is known of its lines: whether the last block
+-- is
 -- empty, and how many points and steps there are
 pub record IsMade (d : DrawingValue) (empty : Bool) (points steps : ℕ) : Type 0 where
   pub head : IsHead d.label d.step

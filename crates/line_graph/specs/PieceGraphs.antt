@@ -1,4 +1,5 @@
--- The graph of a piece: its junctions by number, and its lines between them. Junctions count from 0, lines
+-- The graph of a piece: its junctions by number, and its lines between them. Junctions count from
+-- 0, lines
 -- as in the drawing. Costs count steps.
 use Rattle.std.specs.Prelude.{ℕ, zero, suc, ◌+◌, ◌%◌, ◌==◌, Bool, true, false, List, [], ◌∷◌, ◌++◌, Option, Some, None, length, map, filter, if◌then◌else◌}
 use Rattle.std.specs.List.{flat_map, list_any, position_or_len, range_with_len}
@@ -10,7 +11,8 @@ use Rattle.line_graph.specs.Drawings.{DrawingValue, block_of, first_of, last_of,
 use Rattle.line_graph.specs.Pieces.{ends_of, first_line}
 use Rattle.line_graph.specs.Walks.{cost_of_line}
 
--- lines of one block, the junctions at their ends, an edge for each line, how many line ends are at each
+-- lines of one block, the junctions at their ends, an edge for each line, how many line ends are at
+-- each
 -- junction, and where a walk is to begin and to end, if that is said
 pub record PieceValue : Type 0 where
   pub block : ℕ
@@ -101,7 +103,8 @@ to_of p = option_or p.end p.start
 abbrev pub closed_edges : PieceValue → List Edge
 closed_edges p = closing (from_of p) (to_of p) ++ p.edges
 
--- an odd number of line ends is at the junction, the line back counted with the others; so start and end
+-- an odd number of line ends is at the junction, the line back counted with the others; so start
+-- and end
 -- of a piece change from odd to even or back, where they differ
 abbrev pub is_odd_junction : PieceValue → ℕ → Bool
 is_odd_junction p j = is_odd (degree (closed_edges p) j)

@@ -1,5 +1,7 @@
--- Walks in the graph of a piece, after J. Edmonds and E. L. Johnson, "Matching, Euler tours and the Chinese
--- postman", Mathematical Programming 5 (1973). Lines and edges of a piece stand side by side. Costs count
+-- Walks in the graph of a piece, after J. Edmonds and E. L. Johnson, "Matching, Euler tours and the
+-- Chinese
+-- postman", Mathematical Programming 5 (1973). Lines and edges of a piece stand side by side. Costs
+-- count
 -- steps.
 use Rattle.std.specs.Prelude.{◌≡◌, ℕ, ◌+◌, ◌≤◌, ◌==◌, ◌&&◌, ◌||◌, Bool, true, false, List, [], ◌∷◌, Option, Some, None, nat_lt, if◌then◌else◌}
 use Rattle.std.specs.Option.{option_or}
@@ -31,7 +33,8 @@ abbrev pub after_pass : List ℕ → List Edge → Pass → Option ℕ → Optio
 after_pass lines edges pass None = None
 after_pass lines edges pass (Some at) = after_edge (edge_of lines edges pass.line) pass.back at
 
--- where a walk leads from a junction: nowhere, where a pass is no line of the piece or doesn't start where
+-- where a walk leads from a junction: nowhere, where a pass is no line of the piece or doesn't
+-- start where
 -- the one before ends
 abbrev pub walk_on : List ℕ → List Edge → Option ℕ → List Pass → Option ℕ
 walk_on lines edges at [] = at
@@ -61,7 +64,8 @@ begin_of p walk = option_or (from_of p) (first_start p.lines p.edges walk)
 abbrev pub finish_of : PieceValue → List Pass → Option ℕ
 finish_of p walk = option_or (to_of p) (first_start p.lines p.edges walk)
 
--- the walk leads from where it is to begin to where it is to end; without a start and an end it is closed
+-- the walk leads from where it is to begin to where it is to end; without a start and an end it is
+-- closed
 abbrev pub leads : PieceValue → List Pass → Bool
 leads p walk = are_one (walk_on p.lines p.edges (begin_of p walk) walk) (finish_of p walk)
 
@@ -75,7 +79,8 @@ abbrev pub covers : List ℕ → List Pass → Bool
 covers [] walk = true
 covers (line ∷ lines) walk = passed line walk && covers lines walk
 
--- a fitting walk: it leads from start to end, or is closed where neither is said, and it passes each line
+-- a fitting walk: it leads from start to end, or is closed where neither is said, and it passes
+-- each line
 abbrev pub fits : PieceValue → List Pass → Bool
 fits p walk = leads p walk && covers p.lines walk
 
@@ -92,7 +97,8 @@ of_edge f (Some e) = f e
 -- the sum of a quantity over the passes of a walk
 abbrev pub pass_sum : List ℕ → List Edge → (Edge → ℕ) → List Pass → ℕ
 pass_sum lines edges f [] = 0
-pass_sum lines edges f (pass ∷ rest) = of_edge f (edge_of lines edges pass.line) + pass_sum lines edges f rest
+pass_sum lines edges f (pass ∷ rest) = of_edge f (edge_of lines edges pass.line)
+    + pass_sum lines edges f rest
 
 -- the sum of a quantity over edges
 abbrev pub edge_sum : (Edge → ℕ) → List Edge → ℕ

@@ -11,7 +11,8 @@ use Rattle.line_graph.specs.PieceWalks.{fits, piece_cost, walk_cost}
 use Rattle.line_graph.specs.Runs.{AreNear, runs_of, stops_after}
 use Rattle.line_graph.specs.Walks.{needles_of_walk}
 
--- the passes of a walk go along these lines; its needles are one more than it costs, in range, and each within
+-- the passes of a walk go along these lines; its needles are one more than it costs, in range, and
+-- each within
 -- the step of the one before
 pub record IsSewable (d : DrawingValue) (lines : List ℕ) (walk : List Pass) : Type 0 where
   pub there : All (λ (pass : Pass). Contains lines pass.line) walk
@@ -29,7 +30,8 @@ pub record GoesAlong (lines : List ℕ) (walk : List Pass) : Type 0 where
   pub some : 1 ≤ length walk
   pub there : All (λ (pass : Pass). Contains lines pass.line) walk
 
--- the pieces of a drawing cost no more than the drawing may, are no more than its lines, and walks along them
+-- the pieces of a drawing cost no more than the drawing may, are no more than its lines, and walks
+-- along them
 -- in order have no more stops between them than there are blocks behind the first
 pub record ArePiecesWithin (d : DrawingValue) (pieces : List (List ℕ)) : Type 0 where
   pub cost : sum_by (λ lines. piece_cost (piece_of d lines)) pieces ≤ MAX_COST

@@ -16,7 +16,8 @@ cost_of_line d line = length (needles_of d line) - 1
 
 -- the needle points of a pass: those of its line, reversed where it goes back
 abbrev pub needles_of_pass : DrawingValue → Pass → List Point
-needles_of_pass d pass = if pass.back then reverse (needles_of d pass.line) else needles_of d pass.line
+needles_of_pass d pass = if pass.back then reverse (needles_of d pass.line)
+    else needles_of d pass.line
 
 -- the needle points of a walk: those of its passes, the point that two neighbours share taken once
 abbrev pub needles_of_walk : DrawingValue → List Pass → List Point

@@ -66,7 +66,8 @@ impl Rows {
         requires rows { AreRows (graph_of p.now) self.now }
         requires row { t < length self.now.terminals }
         requires junction { j < length p.now.junctions }
-        ensures { IfOk result (IsPath (graph_of p.now) (terminal_of self.now t) j (cost_at self.now t j)) }
+        ensures { IfOk result (IsPath (graph_of p.now) (terminal_of self.now t) j
+            (cost_at self.now t j)) }
     {
         let places = places(alloc, self.row(t), p.edges.as_slice(), self.terminal(t), j)?;
         Ok(Numbers::from_vec(places))

@@ -1,4 +1,5 @@
--- Stores in memory: an entry for each name that has a file or room, the numbers of the calls that are
+-- Stores in memory: an entry for each name that has a file or room, the numbers of the calls that
+-- are
 -- to fail, the number of calls so far, and the faults.
 use Rattle.std.specs.Prelude.{◌≡◌, ℕ, ◌+◌, ◌==◌, Bool, true, false, not, ◌||◌, List, [], ◌∷◌, ◌++◌, length, take, drop, Option, Some, None, Result, Ok, Err, if◌then◌else◌, is_some, nat_lt, max, min, unwrap_or, option_map, option_and_then, find, bytes_eq}
 use Rattle.std.specs.List.{list_any}
@@ -68,21 +69,37 @@ raised room least = max (unwrap_or room 0) least
 -- the entries where the file of that name has this content, in the room that the name has
 abbrev pub with_content : List EntryValue → List ℕ → List ℕ → List EntryValue
 with_content entries name content =
-    put_in entries (record { name = name; content = Some content; room = unwrap_or (room_in entries name) 0 })
+    put_in entries (record {
+      name = name;
+      content = Some content;
+      room =
+          unwrap_or (room_in entries name) 0;
+    })
 
 -- the entries where these bytes stand behind the content of the file of that name
 abbrev pub with_added : List EntryValue → List ℕ → List ℕ → List EntryValue
-with_added entries name bytes = with_content entries name (unwrap_or (file_in entries name) [] ++ bytes)
+with_added entries name bytes = with_content entries name
+    (unwrap_or (file_in entries name) [] ++ bytes)
 
 -- the entries where the file of that name has this content, and room for it
 abbrev pub with_file : List EntryValue → List ℕ → List ℕ → List EntryValue
 with_file entries name content =
-    put_in entries (record { name = name; content = Some content; room = raised (room_in entries name) (length content) })
+    put_in entries (record {
+      name = name;
+      content = Some content;
+      room =
+          raised (room_in entries name) (length content);
+    })
 
 -- the entries where the name has at least that room
 abbrev pub with_room : List EntryValue → List ℕ → ℕ → List EntryValue
 with_room entries name room =
-    put_in entries (record { name = name; content = file_in entries name; room = raised (room_in entries name) room })
+    put_in entries (record {
+      name = name;
+      content = file_in entries name;
+      room =
+          raised (room_in entries name) room;
+    })
 
 -- the number of the next call is one of those that are to fail
 abbrev pub is_listed : List ℕ → ℕ → Bool
@@ -91,7 +108,8 @@ is_listed failing calls = list_any (λ n. n == counted_on calls) failing
 -- the bytes don't fit behind the content of the file of that name
 abbrev pub overflows : List EntryValue → List ℕ → List ℕ → Bool
 overflows entries name bytes =
-    nat_lt (unwrap_or (room_in entries name) 0) (length (unwrap_or (file_in entries name) []) + length bytes)
+    nat_lt (unwrap_or (room_in entries name) 0)
+    (length (unwrap_or (file_in entries name) []) + length bytes)
 
 -- the store after the file of that name was set
 abbrev pub file_set : MemStoreValue → List ℕ → List ℕ → MemStoreValue
@@ -113,22 +131,27 @@ after_fault store call = record store {
   blame = Some call;
 }
 
--- what each answer to a read means; it fails where its number is listed, and nowhere else. Bytes of the
+-- what each answer to a read means; it fails where its number is listed, and nowhere else. Bytes of
+-- the
 -- content from the offset on stand at the buffer's front, and the others of the buffer stay
-abbrev pub MemReads : MemStoreValue → MemStoreValue → List ℕ → ℕ → (before after : List ℕ) → Result ℕ ReadStop → Type 0
+abbrev pub MemReads : MemStoreValue → MemStoreValue → List ℕ → ℕ → (before after : List ℕ)
+    → Result ℕ ReadStop → Type 0
 MemReads old new name offset before after (Ok count) =
     (is_listed old.failing old.calls ≡ false) × (new ≡ after_call old old.entries)
     × (is_some (files_of old name) ≡ true)
     × (count ≡ min (length before) (length (drop offset (unwrap_or (files_of old name) []))))
     × (after ≡ take count (drop offset (unwrap_or (files_of old name) [])) ++ drop count before)
 MemReads old new name offset before after (Err stop.Missing) =
-    (is_listed old.failing old.calls ≡ false) × (new ≡ after_call old old.entries) × (files_of old name ≡ None)
+    (is_listed old.failing old.calls ≡ false) × (new ≡ after_call old old.entries)
+    × (files_of old name ≡ None)
     × (after ≡ before)
 MemReads old new name offset before after (Err stop.Failed) =
-    (is_listed old.failing old.calls ≡ true) × (new ≡ after_fault old (read_of name)) × (after ≡ before)
+    (is_listed old.failing old.calls ≡ true) × (new ≡ after_fault old (read_of name))
+    × (after ≡ before)
 
 -- what each answer to a create means; it fails where its number is listed or the name has no room
-abbrev pub MemCreates : {T : Type 0} → MemStoreValue → MemStoreValue → List ℕ → Result T Failed → Type 0
+abbrev pub MemCreates : {T : Type 0} → MemStoreValue → MemStoreValue → List ℕ → Result T Failed
+    → Type 0
 MemCreates old new name (Ok _) =
     ((is_listed old.failing old.calls || not (is_some (rooms_of old name))) ≡ false)
     × (new ≡ after_call old (with_content old.entries name []))
@@ -137,7 +160,8 @@ MemCreates old new name (Err _) =
     × (new ≡ after_fault old (write_of name))
 
 -- what each answer to an append means; it fails where its number is listed or the room is too small
-abbrev pub MemAppends : {T : Type 0} → MemStoreValue → MemStoreValue → List ℕ → List ℕ → Result T Failed → Type 0
+abbrev pub MemAppends : {T : Type 0} → MemStoreValue → MemStoreValue → List ℕ → List ℕ
+    → Result T Failed → Type 0
 MemAppends old new name bytes (Ok _) =
     ((is_listed old.failing old.calls || overflows old.entries name bytes) ≡ false)
     × (new ≡ after_call old (with_added old.entries name bytes))

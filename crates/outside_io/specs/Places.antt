@@ -7,9 +7,11 @@ pub record IsPlace (entries : List EntryValue) (name : List ℕ) (place : ℕ) :
   pub within : place < length entries
   pub found : entry_in entries name ≡ slice_get entries place
   pub named : IfSome (slice_get entries place) (λ entry. entry.name ≡ name)
-  pub replaced : (entry : EntryValue) → entry.name ≡ name → put_in entries entry ≡ slice_set entries place entry
+  pub replaced : (entry : EntryValue) → entry.name ≡ name → put_in entries entry
+      ≡ slice_set entries place entry
 
 -- no entry has that name: a new one is put at the end
 pub record IsFree (entries : List EntryValue) (name : List ℕ) : Type 0 where
   pub missing : entry_in entries name ≡ None
-  pub added : (entry : EntryValue) → entry.name ≡ name → put_in entries entry ≡ entries ++ entry ∷ []
+  pub added : (entry : EntryValue) → entry.name ≡ name → put_in entries entry
+      ≡ entries ++ entry ∷ []

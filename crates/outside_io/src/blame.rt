@@ -51,7 +51,8 @@ impl FaultLog {
     pub(crate) fn note(&mut self, kind: Kind, name: &str)
         requires { length name.now ≤ MAX_NAME }
         ensures value { self.new ≡ noted self.old (call_of kind name.now) }
-        ensures cause { Faults (untold_files self.old) (untold_files self.new) (call_of kind name.now) }
+        ensures cause { Faults (untold_files self.old) (untold_files self.new)
+            (call_of kind name.now) }
     {
         self.count = self.count.saturating_add(1);
         self.kind = Some(kind);

@@ -88,7 +88,8 @@ impl<'a, R: Files> Store for DirStore<'a, R> {
     fn create(&mut self, name: &str) -> Result<(), Failed>
         requires name { IsName name.now }
         ensures empty { OnOk result (HoldsNow (untold_files self.new).files name.now []) }
-        ensures others { ChangesOnly (untold_files self.old).files (untold_files self.new).files name.now }
+        ensures others { ChangesOnly (untold_files self.old).files
+            (untold_files self.new).files name.now }
         ensures cause { WriteCause name.now (untold_files self.old) (untold_files self.new) result }
         ensures exact { Notes (write_of name.now) self.old self.new result }
     {
@@ -105,8 +106,10 @@ impl<'a, R: Files> Store for DirStore<'a, R> {
     fn append(&mut self, name: &str, bytes: &[u8]) -> Result<(), Failed>
         requires name { IsName name.now }
         requires there { IsThere (untold_files self.old).files name.now }
-        ensures added { OnOk result (Adds (untold_files self.old).files (untold_files self.new).files name.now bytes.now) }
-        ensures others { ChangesOnly (untold_files self.old).files (untold_files self.new).files name.now }
+        ensures added { OnOk result (Adds (untold_files self.old).files
+            (untold_files self.new).files name.now bytes.now) }
+        ensures others { ChangesOnly (untold_files self.old).files
+            (untold_files self.new).files name.now }
         ensures cause { WriteCause name.now (untold_files self.old) (untold_files self.new) result }
         ensures exact { Notes (write_of name.now) self.old self.new result }
     {

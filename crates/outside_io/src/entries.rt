@@ -51,7 +51,8 @@ pub(crate) fn make_file(entries: &mut Vec<Entry>, name: &[u8]) -> bool
 pub(crate) fn add_to_file(entries: &mut Vec<Entry>, name: &[u8], bytes: &[u8]) -> bool
     requires { IsSome (file_in entries.old.items name.now) }
     ensures fits { result ≡ not (overflows entries.old.items name.now bytes.now) }
-    ensures added { OnTrue result (entries.new.items ≡ with_added entries.old.items name.now bytes.now) }
+    ensures added { OnTrue result (entries.new.items
+        ≡ with_added entries.old.items name.now bytes.now) }
     ensures kept { OnFalse result (entries.new.items ≡ entries.old.items) }
 {
     match place_of(entries, name) {

@@ -31,7 +31,8 @@ impl Model for Entry {
 impl Entry {
     /// A name with that room, and no file.
     pub(crate) fn new(alloc: Global, name: &[u8], room: usize) -> Result<Self, Memory>
-        ensures { IfOk result (λ entry. entry ≡ record { name = name.now; content = None; room = room }) }
+        ensures { IfOk result (λ entry. entry
+            ≡ record { name = name.now; content = None; room = room }) }
     {
         Ok(Entry {
             name: Vec::from_slice(alloc, name)?,
@@ -83,7 +84,8 @@ impl Entry {
     /// The bytes have room behind the file's content.
     pub(crate) fn fits(&self, bytes: &[u8]) -> bool
         requires { IsSome self.now.content }
-        ensures { result ≡ nat_le (length (unwrap_or self.now.content []) + length bytes.now) self.now.room }
+        ensures { result ≡ nat_le (length (unwrap_or self.now.content []) + length bytes.now)
+            self.now.room }
     {
         bytes.len() <= self.room - self.content.len()
     }
@@ -92,7 +94,10 @@ impl Entry {
     pub(crate) fn add(&mut self, bytes: &[u8])
         requires made { IsSome self.old.content }
         requires fits { length (unwrap_or self.old.content []) + length bytes.now ≤ self.old.room }
-        ensures { self.new ≡ record self.old { content = Some (unwrap_or self.old.content [] ++ bytes.now) } }
+        ensures { self.new ≡ record self.old {
+          content =
+              Some (unwrap_or self.old.content [] ++ bytes.now);
+        } }
     {
         self.content.extend_from_slice(bytes).unwrap();
     }

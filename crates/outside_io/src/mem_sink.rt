@@ -61,7 +61,8 @@ impl MemSink {
 
     /// Adds a number to those of the puts that are to fail. A refusal changes nothing.
     pub fn fail_at(&mut self, call: u64) -> Result<(), Memory>
-        ensures ok { OnOk result (self.new ≡ record self.old { failing = self.old.failing ++ call ∷ [] }) }
+        ensures ok { OnOk result (self.new ≡ record self.old
+            { failing = self.old.failing ++ call ∷ [] }) }
         ensures err { OnErr result (self.new ≡ self.old) }
     {
         self.failing.push(call)?;

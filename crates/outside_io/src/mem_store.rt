@@ -90,7 +90,8 @@ impl MemStore {
 
     /// Adds a number to those of the calls that are to fail. A refusal changes nothing.
     pub fn fail_at(&mut self, call: u64) -> Result<(), Memory>
-        ensures ok { OnOk result (self.new ≡ record self.old { failing = self.old.failing ++ call ∷ [] }) }
+        ensures ok { OnOk result (self.new ≡ record self.old
+            { failing = self.old.failing ++ call ∷ [] }) }
         ensures err { OnErr result (self.new ≡ self.old) }
     {
         self.failing.push(call)?;
@@ -136,7 +137,8 @@ impl Store for MemStore {
     fn create(&mut self, name: &str) -> Result<(), Failed>
         requires name { IsName name.now }
         ensures empty { OnOk result (HoldsNow (store_seen self.new).files name.now []) }
-        ensures others { ChangesOnly (store_seen self.old).files (store_seen self.new).files name.now }
+        ensures others { ChangesOnly (store_seen self.old).files
+            (store_seen self.new).files name.now }
         ensures cause { WriteCause name.now (store_seen self.old) (store_seen self.new) result }
         ensures exact { MemCreates self.old self.new name.now result }
     {
@@ -151,8 +153,10 @@ impl Store for MemStore {
     fn append(&mut self, name: &str, bytes: &[u8]) -> Result<(), Failed>
         requires name { IsName name.now }
         requires there { IsThere (store_seen self.old).files name.now }
-        ensures added { OnOk result (Adds (store_seen self.old).files (store_seen self.new).files name.now bytes.now) }
-        ensures others { ChangesOnly (store_seen self.old).files (store_seen self.new).files name.now }
+        ensures added { OnOk result (Adds (store_seen self.old).files
+            (store_seen self.new).files name.now bytes.now) }
+        ensures others { ChangesOnly (store_seen self.old).files
+            (store_seen self.new).files name.now }
         ensures cause { WriteCause name.now (store_seen self.old) (store_seen self.new) result }
         ensures exact { MemAppends self.old self.new name.now bytes.now result }
     {

@@ -40,8 +40,10 @@ impl<W: Write + Drop> Sink for StdSink<W> {
     ghost sight = { λ s. untold_bytes s.faults };
 
     fn put(&mut self, bytes: &[u8]) -> Result<(), Failed>
-        ensures took { Took (untold_bytes self.old.faults) (untold_bytes self.new.faults) bytes.now result }
-        ensures cause { PutCause (untold_bytes self.old.faults) (untold_bytes self.new.faults) result }
+        ensures took { Took (untold_bytes self.old.faults)
+            (untold_bytes self.new.faults) bytes.now result }
+        ensures cause { PutCause (untold_bytes self.old.faults)
+            (untold_bytes self.new.faults) result }
         ensures exact { StreamPuts self.old self.new bytes.now result }
     {
         if write_all(&mut self.writer, bytes) {

@@ -45,7 +45,8 @@ pub trait Store {
     fn append(&mut self, name: &str, bytes: &[u8]) -> Result<(), Failed>
         requires name { IsName name.now }
         requires there { IsThere (sight self.old).files name.now }
-        ensures added { OnOk result (Adds (sight self.old).files (sight self.new).files name.now bytes.now) }
+        ensures added { OnOk result (Adds (sight self.old).files
+            (sight self.new).files name.now bytes.now) }
         ensures others { ChangesOnly (sight self.old).files (sight self.new).files name.now }
         ensures cause { WriteCause name.now (sight self.old) (sight self.new) result };
 }

@@ -1,5 +1,6 @@
 -- The header of a block: its label and the threads of its blocks of colour in 512 bytes, then 16
--- bytes with the distance to the thumbnails and the size of the design. Words have the low byte first.
+-- bytes with the distance to the thumbnails and the size of the design. Words have the low byte
+-- first.
 use Rattle.std.specs.Prelude.{ℕ, ◌+◌, nat_eq, List, [], ◌∷◌, ◌++◌, take, drop, map, replicate, Option, slice_index, ◌==◌, codes, if◌then◌else◌}
 use Rattle.std.specs.List.{range_with_len, starts_with}
 use Rattle.byteorder.specs.Endian.{little_bytes}
@@ -14,7 +15,8 @@ use Rattle.pec_codec.specs.declared.block.TheConstants.{LABELS_LENGTH}
 abbrev pub threads_of : DesignValue → ℕ → List ℕ
 threads_of d count = map (thread_of d) (range_with_len 0 count)
 
--- the label and the threads of a design with so many stops; the number of its blocks is told less one
+-- the label and the threads of a design with so many stops; the number of its blocks is told less
+-- one
 abbrev pub labels_of : DesignValue → ℕ → List ℕ
 labels_of d stops = codes "LA:" ++ label_field d.label ++ 13 ∷ replicate 12 32
     ++ 255 ∷ 0 ∷ 6 ∷ 38 ∷ replicate 12 32 ++ stops ∷ threads_of d (stops + 1)
@@ -31,7 +33,8 @@ size_fields extent = little_bytes 2 (width_of extent) ++ little_bytes 2 (height_
 -- the header of a design with so many stops
 abbrev pub header_of : DesignValue → ℕ → ℕ → List ℕ
 header_of d stops distance =
-    filled_right LABELS_LENGTH (labels_of d stops) ++ distance_field distance ++ size_fields (extent_of d)
+    filled_right LABELS_LENGTH (labels_of d stops) ++ distance_field distance
+    ++ size_fields (extent_of d)
 
 -- the label, where the block begins with `LA:`
 abbrev pub label_of : List ℕ → List ℕ

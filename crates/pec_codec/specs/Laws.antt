@@ -16,12 +16,14 @@ use Rattle.pec_codec.specs.Writing.{writes}
 pub record Restores (d : DesignValue) (loaded : Loaded) : Type 0 where
   pub again : IsAgain d loaded
   pub label : loaded.design.label ≡ d.label
-  pub threads : (block : ℕ) → block ≤ stops_of (acts_of d) → thread_of loaded.design block ≡ thread_of d block
+  pub threads : (block : ℕ) → block ≤ stops_of (acts_of d) → thread_of loaded.design block
+      ≡ thread_of d block
 
 -- a block behind other bytes reads as the design, each move within the limit
 pub record ReadsBack (d : DesignValue) (block before : List ℕ) : Type 0 where
   pub read : IsOkAnd (reads_at (length before) (before ++ block)) (λ loaded. Restores d loaded)
-  pub within : IsTrue (list_all (λ move. is_within LIMIT move) (moves_at (length before) (before ++ block)))
+  pub within : IsTrue (list_all (λ move. is_within LIMIT move)
+      (moves_at (length before) (before ++ block)))
 
 -- what is written reads back, and a plain design is written
 pub record KeepsBlockLaws (d : DesignValue) : Type 0 where

@@ -18,7 +18,8 @@ records_at at bytes = pec_records (at + HEADER_LENGTH) (drop (at + HEADER_LENGTH
 abbrev pub reads_at : ℕ → List ℕ → Result Loaded ReadFault
 reads_at at bytes =
     if nat_lt (length bytes) (at + HEADER_LENGTH) then Err (fault.Short (length bytes))
-    else loaded_with (label_of (drop at bytes)) (threads_in (drop at bytes)) (course_of (records_at at bytes))
+    else loaded_with (label_of (drop at bytes)) (threads_in (drop at bytes))
+    (course_of (records_at at bytes))
 
 -- the moves of the block's records, before its end or its first refusal
 abbrev pub moves_at : ℕ → List ℕ → List Point

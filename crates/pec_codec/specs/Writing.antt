@@ -18,7 +18,13 @@ reach = record { limit = LIMIT; float_hops = None; stops = Some MAX_STOPS }
 
 -- how records are spelled
 abbrev pub spelling : Spelling
-spelling = record { stitch = stitch_record; jump = jump_record; trim = trim_record ∷ []; stop = stop_record }
+spelling = record {
+  stitch = stitch_record;
+  jump = jump_record;
+  trim = trim_record ∷ [];
+  stop =
+      stop_record;
+}
 
 -- the records of a design's acts, and the end
 abbrev pub body_of : DesignValue → List ℕ

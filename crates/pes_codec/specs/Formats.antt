@@ -6,7 +6,21 @@ use Rattle.pes_codec.specs.Reading.{pec_moves, pec_reads, pes_moves, pes_reads}
 use Rattle.pes_codec.specs.Writing.{pec_writes, pes_writes}
 
 abbrev pub pec : Meaning
-pec = record { ending = codes "pec"; limit = LIMIT; reads = pec_reads; writes = pec_writes; moves = pec_moves }
+pec = record {
+  ending = codes "pec";
+  limit = LIMIT;
+  reads = pec_reads;
+  writes = pec_writes;
+  moves =
+      pec_moves;
+}
 
 abbrev pub pes : Meaning
-pes = record { ending = codes "pes"; limit = LIMIT; reads = pes_reads; writes = pes_writes; moves = pes_moves }
+pes = record {
+  ending = codes "pes";
+  limit = LIMIT;
+  reads = pes_reads;
+  writes = pes_writes;
+  moves =
+      pes_moves;
+}

@@ -19,7 +19,8 @@ pec_moves bytes = if is_pec_file bytes then moves_at PEC_BLOCK bytes else []
 abbrev pub pes_reads : List ℕ → Result Loaded ReadFault
 pes_reads bytes =
     if is_pes_file bytes
-    then (if nat_lt (length bytes) OFFSET_END then Err (fault.Short (length bytes)) else reads_at (block_offset bytes) bytes)
+    then (if nat_lt (length bytes) OFFSET_END then Err (fault.Short (length bytes))
+    else reads_at (block_offset bytes) bytes)
     else Err (fault.Signature 0)
 
 abbrev pub pes_moves : List ℕ → List Point

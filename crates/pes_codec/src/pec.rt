@@ -39,7 +39,8 @@ impl Format for Pec {
         ensures value { Writes (pec_meaning.writes design.now) result }
         ensures again { IfOk result (λ bytes. ReadsAgain pec_meaning design.now bytes) }
         ensures within { IfOk result (λ bytes. MovesWithin pec_meaning bytes) }
-        ensures plain { IsPlain pec_meaning.limit design.now → IsOk (pec_meaning.writes design.now) }
+        ensures plain { IsPlain pec_meaning.limit design.now
+            → IsOk (pec_meaning.writes design.now) }
 
         // The label and the thread of each block of colour are read back too.
         ensures whole { IfOk result (λ bytes. ReadsWhole pec_meaning design.now bytes) }

@@ -42,7 +42,8 @@ impl Format for Pes {
         ensures value { Writes (pes_meaning.writes design.now) result }
         ensures again { IfOk result (λ bytes. ReadsAgain pes_meaning design.now bytes) }
         ensures within { IfOk result (λ bytes. MovesWithin pes_meaning bytes) }
-        ensures plain { IsPlain pes_meaning.limit design.now → IsOk (pes_meaning.writes design.now) }
+        ensures plain { IsPlain pes_meaning.limit design.now
+            → IsOk (pes_meaning.writes design.now) }
 
         // The label and the thread of each block of colour are read back too.
         ensures whole { IfOk result (λ bytes. ReadsWhole pes_meaning design.now bytes) }

@@ -35,7 +35,8 @@ more_sum f (e ∷ edges) (c ∷ cs) zero below same = once c (f e) (copies_sum f
     once : (c k u : ℕ) → (c + 1) * k + u ≡ (c * k + u) + k
     once c k u = omega arith
 more_sum f (e ∷ edges) (c ∷ cs) (suc k) below same =
-    later (c * f e) (copies_sum f edges (more_at cs k)) (copies_sum f edges cs) (of_edge f (slice_get edges k)) (more_sum f edges cs k (omega arith) (omega arith))
+    later (c * f e) (copies_sum f edges (more_at cs k)) (copies_sum f edges cs) (of_edge f (slice_get edges k))
+    (more_sum f edges cs k (omega arith) (omega arith))
   where
     later : (m u v k : ℕ) → u ≡ v + k → m + u ≡ (m + v) + k
     later m u v k h = omega arith
@@ -52,7 +53,8 @@ adds_one cs next places rest new k is more below adds = rw is (record {
   sized = omega (arith, a.sized, more_length cs k);
   up = omega (arith, a.up, more_up cs k below);
   sums = λ f. λ edges. λ same.
-      added (copies_sum f edges new) (copies_sum f edges (more_at cs k)) (copies_sum f edges cs) (of_edge f (slice_get edges k)) (place_sum f edges rest)
+      added (copies_sum f edges new) (copies_sum f edges (more_at cs k)) (copies_sum f edges cs) (of_edge f (slice_get edges k))
+      (place_sum f edges rest)
       (a.sums f edges (omega (arith, same, more_length cs k))) (more_sum f edges cs k below same);
 })
   where

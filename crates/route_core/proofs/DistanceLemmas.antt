@@ -109,7 +109,8 @@ pub columns_more : (rows : RowsValue) (n b : ℕ) (t new : TableValue) → b < n
     → HasColumns rows n (b + 1) new
 columns_more rows n b t new within so_far fill = record {
   places = fill.places ∙ so_far.places;
-  entries = λ x. λ y. λ xy. λ yb. λ below. fill.entries x y xy (omega (arith, so_far.places, below)) ∙ by_test x y xy yb below (y == b) refl;
+  entries = λ x. λ y. λ xy. λ yb. λ below. fill.entries x y xy (omega (arith, so_far.places, below))
+      ∙ by_test x y xy yb below (y == b) refl;
   none = λ x. λ below. fill.none x (omega (arith, so_far.places, below)) ∙ so_far.none x below;
 }
   where

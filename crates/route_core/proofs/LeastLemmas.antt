@@ -10,16 +10,19 @@ use Rattle.line_graph.specs.PieceWalks.{after_edge, after_pass, cost_of, edge_of
 use Rattle.odd_paths.specs.LeastRows.{IsLeastCost, RowsValue, cost_at, terminal_of}
 use Rattle.route_core.specs.Distances.{IsTableOf}
 
-walk_append : (ns : List ℕ) (es : List Edge) (at : Option ℕ) (xs ys : List Pass) → walk_on ns es at (xs ++ ys) ≡ walk_on ns es (walk_on ns es at xs) ys
+walk_append : (ns : List ℕ) (es : List Edge) (at : Option ℕ) (xs ys : List Pass) → walk_on ns es at (xs ++ ys)
+    ≡ walk_on ns es (walk_on ns es at xs) ys
 walk_append ns es at [] ys = refl
 walk_append ns es at (x ∷ xs) ys = walk_append ns es (after_pass ns es x at) xs ys
 
-sum_append : (ns : List ℕ) (es : List Edge) (f : Edge → ℕ) (xs ys : List Pass) → pass_sum ns es f (xs ++ ys) ≡ pass_sum ns es f xs + pass_sum ns es f ys
+sum_append : (ns : List ℕ) (es : List Edge) (f : Edge → ℕ) (xs ys : List Pass) → pass_sum ns es f (xs ++ ys)
+    ≡ pass_sum ns es f xs + pass_sum ns es f ys
 sum_append ns es f [] ys = none (pass_sum ns es f ys)
   where
     none : (k : ℕ) → k ≡ 0 + k
     none k = omega arith
-sum_append ns es f (x ∷ xs) ys = rw (sum_append ns es f xs ys) (regroup (of_edge f (edge_of ns es x.line)) (pass_sum ns es f xs) (pass_sum ns es f ys))
+sum_append ns es f (x ∷ xs) ys = rw (sum_append ns es f xs ys) (regroup (of_edge f (edge_of ns es x.line)) (pass_sum ns es f xs)
+    (pass_sum ns es f ys))
   where
     regroup : (x u v : ℕ) → x + (u + v) ≡ (x + u) + v
     regroup x u v = omega arith
@@ -46,7 +49,8 @@ flip_edge (Some e) back j m is = by_test (start_of e back == j) refl is
     turned e true = rw (eq_self e.a) refl
     turned e false = rw (eq_self e.b) refl
 
-    by_test : (t : Bool) → (start_of e back == j) ≡ t → cond t (Some (end_of e back)) None ≡ Some m → after_edge (Some e) (not back) m ≡ Some j
+    by_test : (t : Bool) → (start_of e back == j) ≡ t → cond t (Some (end_of e back)) None ≡ Some m → after_edge (Some e) (not back) m
+        ≡ Some j
     by_test true test is =
         let to : end_of e back ≡ m = cc in
         rw (← to, ← same (start_of e back) j test) (turned e back)
@@ -74,7 +78,8 @@ way_back ns es from to (p ∷ ps) is = by_next (after_pass ns es p (Some from)) 
           walk = r.walk ++ flipped p ∷ [];
           leads = walk_append ns es (Some to) r.walk (flipped p ∷ []) ∙ ap (λ (x : Option ℕ). after_pass ns es (flipped p) x) r.leads
               ∙ flip_edge (edge_of ns es p.line) p.back from m next;
-          costs = sum_append ns es cost_of r.walk (flipped p ∷ []) ∙ turned (pass_sum ns es cost_of r.walk) (of_edge cost_of (edge_of ns es p.line)) _ r.costs;
+          costs = sum_append ns es cost_of r.walk (flipped p ∷ [])
+              ∙ turned (pass_sum ns es cost_of r.walk) (of_edge cost_of (edge_of ns es p.line)) _ r.costs;
         }
       where
         turned : (r k u : ℕ) → r ≡ u → r + (k + 0) ≡ k + u
@@ -105,8 +110,10 @@ least_self p i = record { walk = []; leads = refl; costs = refl; least = λ othe
 
 least_round : (p : PieceValue) (i j k c d e : ℕ) → IsLeastCost p i j c → IsLeastCost p j k d → IsLeastCost p i k e → e ≤ c + d
 least_round p i j k c d e l m n =
-    subst (λ (x : ℕ). e ≤ x) (sum_append p.lines p.edges cost_of l.walk m.walk ∙ both (walk_cost p l.walk) (walk_cost p m.walk) c d l.costs m.costs)
-    (n.least (l.walk ++ m.walk) (walk_append p.lines p.edges (Some i) l.walk m.walk ∙ ap (λ (x : Option ℕ). walk_on p.lines p.edges x m.walk) l.leads ∙ m.leads))
+    subst (λ (x : ℕ). e ≤ x) (sum_append p.lines p.edges cost_of l.walk m.walk
+    ∙ both (walk_cost p l.walk) (walk_cost p m.walk) c d l.costs m.costs)
+    (n.least (l.walk ++ m.walk) (walk_append p.lines p.edges (Some i) l.walk m.walk
+    ∙ ap (λ (x : Option ℕ). walk_on p.lines p.edges x m.walk) l.leads ∙ m.leads))
   where
     both : (x y c d : ℕ) → x ≡ c → y ≡ d → x + y ≡ c + d
     both x y c d h g = omega arith
@@ -139,14 +146,16 @@ entry_least p rows t j a b a_in b_in = by_test (nat_lt a b) refl (nat_lt b a) re
         subst (IsLeastCost p (terminal_of rows c) (terminal_of rows d)) (sym (j.distances.entries c d cd within))
         (j.rows_are.least c (terminal_of rows d) (omega (arith, j.places, cd, within)) (j.there d (omega (arith, j.places, within))))
 
-    by_test : (s : Bool) → nat_lt a b ≡ s → (u : Bool) → nat_lt b a ≡ u → IsLeastCost p (terminal_of rows a) (terminal_of rows b) (entry t a b)
+    by_test : (s : Bool) → nat_lt a b ≡ s → (u : Bool) → nat_lt b a ≡ u
+        → IsLeastCost p (terminal_of rows a) (terminal_of rows b) (entry t a b)
     by_test true is u other = at a b (less a b is) b_in
     by_test false is true other =
         subst (IsLeastCost p (terminal_of rows a) (terminal_of rows b)) (entry_back t b a)
         (least_back p (terminal_of rows b) (terminal_of rows a) (entry t b a) (at b a (less b a other) a_in))
     by_test false is false other =
         subst (λ (k : ℕ). IsLeastCost p (terminal_of rows a) (terminal_of rows k) (entry t a k)) (sym (equal a b is other))
-        (subst (IsLeastCost p (terminal_of rows a) (terminal_of rows a)) (sym (j.distances.none a a_in)) (least_self p (terminal_of rows a)))
+        (subst (IsLeastCost p (terminal_of rows a) (terminal_of rows a)) (sym (j.distances.none a a_in))
+        (least_self p (terminal_of rows a)))
 
 pub triangles : (p : PieceValue) (rows : RowsValue) (t : TableValue) → IsTableOf p rows t → KeepsTriangles t
 triangles p rows t j a b a_in b_in c c_in =

@@ -44,8 +44,10 @@ within n pairs each x some = by_test (nat_lt x n) refl
 pairs_within : (rows : RowsValue) (pairs : List Pair) → PairsEach (length rows.terminals) pairs → All (IsPairOf rows) pairs
 pairs_within rows pairs each = All-from_get_or (IsPairOf rows) pairs (record { a = 0; b = 0 })
     (λ i. λ below. let q = get_or pairs i (record { a = 0; b = 0 }) in record {
-      a_in = within (length rows.terminals) pairs each q.a (first q (ends_of_pairs pairs q.a) (get_or-le-sum_by (ends_in q.a) pairs i (record { a = 0; b = 0 }) below));
-      b_in = within (length rows.terminals) pairs each q.b (second q (ends_of_pairs pairs q.b) (get_or-le-sum_by (ends_in q.b) pairs i (record { a = 0; b = 0 }) below));
+      a_in = within (length rows.terminals) pairs each q.a (first q (ends_of_pairs pairs q.a)
+          (get_or-le-sum_by (ends_in q.a) pairs i (record { a = 0; b = 0 }) below));
+      b_in = within (length rows.terminals) pairs each q.b (second q (ends_of_pairs pairs q.b)
+          (get_or-le-sum_by (ends_in q.b) pairs i (record { a = 0; b = 0 }) below));
     })
   where
     first : (q : Pair) (k : ℕ) → ends_in q.a q ≤ k → 1 ≤ k
@@ -130,13 +132,15 @@ costs_few t table (q ∷ pairs) there =
 ends_within : (rows : RowsValue) (n : ℕ) → n ≡ length rows.terminals → (pairs : List Pair) → All (IsPairOf rows) pairs
     → All (λ (q : Pair). (q.a < n) × (q.b < n)) pairs
 ends_within rows n is pairs there = All-from_get_or (λ (q : Pair). (q.a < n) × (q.b < n)) pairs (record { a = 0; b = 0 })
-    (λ i. λ below. let q = All-get_or (IsPairOf rows) pairs i (record { a = 0; b = 0 }) below there in (omega (arith, is, q.a_in), omega (arith, is, q.b_in)))
+    (λ i. λ below. let q = All-get_or (IsPairOf rows) pairs i (record { a = 0; b = 0 }) below there
+    in (omega (arith, is, q.a_in), omega (arith, is, q.b_in)))
 
 firsts_within : (n : ℕ) (pairs : List Pair) → All (λ (q : Pair). (q.a < n) × (q.b < n)) pairs → All (λ (q : Pair). q.a < n) pairs
 firsts_within n pairs there = All-from_get_or (λ (q : Pair). q.a < n) pairs (record { a = 0; b = 0 })
     (λ i. λ below. (All-get_or (λ (q : Pair). (q.a < n) × (q.b < n)) pairs i (record { a = 0; b = 0 }) below there).0)
 
-few_enough : (moats width cost pairs places : ℕ) → moats ≤ width → width ≡ 2 * cost → cost ≤ pairs * 200000 → pairs ≤ places → places ≤ 1024 → moats < 2 ^ 31
+few_enough : (moats width cost pairs places : ℕ) → moats ≤ width → width ≡ 2 * cost → cost ≤ pairs * 200000 → pairs ≤ places → places ≤ 1024
+    → moats < 2 ^ 31
 few_enough moats width cost pairs places a b c d e = omega arith
 
 -- a matching of the table's places is one of the odd junctions
@@ -157,7 +161,8 @@ is_matched p rows t odd_rows table is_table pairs moats m =
             let b : y < t.places = omega (arith, table.places, y_in) in
             subst (λ (k : ℕ). load_on moats x y ≤ 2 * k) (entry_is p rows t table x y a b) (m.loads x y a b);
       };
-      few = few_enough (length moats) (width_of moats) (matching_cost t pairs) (length pairs) t.places (moats_under t.places moats m.odd) m.paid
+      few = few_enough (length moats) (width_of moats) (matching_cost t pairs) (length pairs) t.places
+          (moats_under t.places moats m.odd) m.paid
           (costs_few t is_table pairs ends) (pairs_few t.places pairs m.paired (firsts_within t.places pairs ends)) is_table.few;
       pairs_are = there;
       each = each;

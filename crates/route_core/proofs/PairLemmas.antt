@@ -37,17 +37,20 @@ begun p rows pairs cs is there few = record {
 pub first_pair : (rows : RowsValue) (pairs rest : List Pair) (q : Pair) → pairs ≡ q ∷ rest → All (IsPairOf rows) pairs → IsPairOf rows q
 first_pair rows pairs rest q is there = All-head (IsPairOf rows) q rest (subst (λ (qs : List Pair). All (IsPairOf rows) qs) is there)
 
-pub room_for_pair : (p : PieceValue) (rows : RowsValue) (pairs : List Pair) (cs : List ℕ) (left rest : List Pair) (q : Pair) → left ≡ q ∷ rest
+pub room_for_pair : (p : PieceValue) (rows : RowsValue) (pairs : List Pair) (cs : List ℕ) (left rest : List Pair) (q : Pair) → left
+    ≡ q ∷ rest
     → LeftPairs p rows pairs cs left → copies_sum cost_of p.edges cs + pair_costs rows (q ∷ []) < 2 ^ 32
 room_for_pair p rows pairs cs left rest q is l = omega (arith, l.few, ap (pair_costs rows) is)
 
-pub goes_on : (p : PieceValue) (rows : RowsValue) (pairs : List Pair) (cs next : List ℕ) (left rest : List Pair) (q : Pair) → left ≡ q ∷ rest
+pub goes_on : (p : PieceValue) (rows : RowsValue) (pairs : List Pair) (cs next : List ℕ) (left rest : List Pair) (q : Pair) → left
+    ≡ q ∷ rest
     → LeftPairs p rows pairs cs left → AddsPairs p rows (q ∷ []) cs next → LeftPairs p rows pairs next rest
 goes_on p rows pairs cs next left rest q is l adds = record {
   there = All-tail (IsPairOf rows) q rest (subst (λ (qs : List Pair). All (IsPairOf rows) qs) is l.there);
   sized = adds.sized ∙ l.sized;
   few = omega (arith, l.few, ap (pair_costs rows) is, adds.costs);
-  whole = λ new. λ more. l.whole new (subst (λ (qs : List Pair). AddsPairs p rows qs cs new) (sym is) (adds_more p rows q rest cs next new adds more));
+  whole = λ new. λ more. l.whole new (subst (λ (qs : List Pair). AddsPairs p rows qs cs new) (sym is)
+      (adds_more p rows q rest cs next new adds more));
 }
 
 pub ended : (p : PieceValue) (rows : RowsValue) (pairs : List Pair) (cs : List ℕ) (left : List Pair) → left ≡ []

@@ -48,18 +48,21 @@ found o at (suc n) v from to is = by_test (at == v) refl (λ (h : at + 1 ≤ v).
     by_kept true rest f = (suc f.0, omega (arith, f.1), f.2)
     by_kept false rest f = f
 
-    by_test : (t : Bool) → (at == v) ≡ t → (at + 1 ≤ v → (a : ℕ) × (a < length (filter o (range_with_len (at + 1) n))) × (get_or (filter o (range_with_len (at + 1) n)) a 0 ≡ v))
+    by_test : (t : Bool) → (at == v) ≡ t → (at + 1 ≤ v → (a : ℕ) × (a < length (filter o (range_with_len (at + 1) n)))
+        × (get_or (filter o (range_with_len (at + 1) n)) a 0 ≡ v))
         → (a : ℕ) × (a < length (cond (o at) (at ∷ filter o (range_with_len (at + 1) n)) (filter o (range_with_len (at + 1) n))))
         × (get_or (cond (o at) (at ∷ filter o (range_with_len (at + 1) n)) (filter o (range_with_len (at + 1) n))) a 0 ≡ v)
     by_test true here rest =
         let e = same at v here in
         let odd : o at ≡ true = ap o e ∙ is in
-        rw odd (subst (λ (k : ℕ). (a : ℕ) × (a < length (at ∷ filter o (range_with_len (at + 1) n))) × (get_or (at ∷ filter o (range_with_len (at + 1) n)) a 0 ≡ k)) e
+        rw odd (subst (λ (k : ℕ). (a : ℕ) × (a < length (at ∷ filter o (range_with_len (at + 1) n)))
+        × (get_or (at ∷ filter o (range_with_len (at + 1) n)) a 0 ≡ k)) e
         (first (filter o (range_with_len (at + 1) n))))
     by_test false other rest = by_kept (o at) (filter o (range_with_len (at + 1) n)) (rest (next at v other from))
 
 -- and those pass it
-passes_test : (o : ℕ → Bool) (at n a : ℕ) → a < length (filter o (range_with_len at n)) → o (get_or (filter o (range_with_len at n)) a 0) ≡ true
+passes_test : (o : ℕ → Bool) (at n a : ℕ) → a < length (filter o (range_with_len at n)) → o (get_or (filter o (range_with_len at n)) a 0)
+    ≡ true
 passes_test o at zero a below = absurd (omega arith)
 passes_test o at (suc n) a below = by_test (o at) refl a below (λ b. λ h. passes_test o (at + 1) n b h)
   where
@@ -68,19 +71,25 @@ passes_test o at (suc n) a below = by_test (o at) refl a below (λ b. λ h. pass
     by_place rest is zero below more = is
     by_place rest is (suc a) below more = more a (omega arith)
 
-    by_test : (t : Bool) → o at ≡ t → (a : ℕ) → a < length (cond (o at) (at ∷ filter o (range_with_len (at + 1) n)) (filter o (range_with_len (at + 1) n)))
+    by_test : (t : Bool) → o at ≡ t → (a : ℕ) → a < length (cond (o at) (at ∷ filter o (range_with_len (at + 1) n))
+        (filter o (range_with_len (at + 1) n)))
         → ((b : ℕ) → b < length (filter o (range_with_len (at + 1) n)) → o (get_or (filter o (range_with_len (at + 1) n)) b 0) ≡ true)
         → o (get_or (cond (o at) (at ∷ filter o (range_with_len (at + 1) n)) (filter o (range_with_len (at + 1) n))) a 0) ≡ true
     by_test true is a below more =
-        subst (λ (t : Bool). o (get_or (cond t (at ∷ filter o (range_with_len (at + 1) n)) (filter o (range_with_len (at + 1) n))) a 0) ≡ true) (sym is)
+        subst (λ (t : Bool). o (get_or (cond t (at ∷ filter o (range_with_len (at + 1) n)) (filter o (range_with_len (at + 1) n))) a 0)
+        ≡ true) (sym is)
         (by_place (filter o (range_with_len (at + 1) n)) is a
-        (subst (λ (t : Bool). a < length (cond t (at ∷ filter o (range_with_len (at + 1) n)) (filter o (range_with_len (at + 1) n)))) is below) more)
+        (subst (λ (t : Bool). a < length (cond t (at ∷ filter o (range_with_len (at + 1) n)) (filter o (range_with_len (at + 1) n)))) is
+        below) more)
     by_test false is a below more =
-        subst (λ (t : Bool). o (get_or (cond t (at ∷ filter o (range_with_len (at + 1) n)) (filter o (range_with_len (at + 1) n))) a 0) ≡ true) (sym is)
-        (more a (subst (λ (t : Bool). a < length (cond t (at ∷ filter o (range_with_len (at + 1) n)) (filter o (range_with_len (at + 1) n)))) is below))
+        subst (λ (t : Bool). o (get_or (cond t (at ∷ filter o (range_with_len (at + 1) n)) (filter o (range_with_len (at + 1) n))) a 0)
+        ≡ true) (sym is)
+        (more a (subst (λ (t : Bool). a < length (cond t (at ∷ filter o (range_with_len (at + 1) n))
+        (filter o (range_with_len (at + 1) n)))) is below))
 
 -- how often pairs end at a terminal
-ends_at_terminal : (p : PieceValue) (rows : RowsValue) → AreTerminals p rows.terminals → (x : ℕ) → x < length rows.terminals → (pairs : List Pair)
+ends_at_terminal : (p : PieceValue) (rows : RowsValue) → AreTerminals p rows.terminals → (x : ℕ) → x < length rows.terminals
+    → (pairs : List Pair)
     → All (IsPairOf rows) pairs → pair_ends rows (terminal_of rows x) pairs ≡ ends_of_pairs pairs x
 ends_at_terminal p rows ts x x_in [] there = refl
 ends_at_terminal p rows ts x x_in (q ∷ pairs) there =
@@ -94,12 +103,14 @@ ends_at_terminal p rows ts x x_in (q ∷ pairs) there =
     less_back : (a x : ℕ) → nat_lt a x ≡ true → a < x
     less_back a x h = grind (arith, nat_tests)
 
-    differ : (a : ℕ) → a < length rows.terminals → (x == a) ≡ false → (s : Bool) → nat_lt a x ≡ s → (terminal_of rows a == terminal_of rows x) ≡ false
+    differ : (a : ℕ) → a < length rows.terminals → (x == a) ≡ false → (s : Bool) → nat_lt a x ≡ s
+        → (terminal_of rows a == terminal_of rows x) ≡ false
     differ a a_in other true is = apart (terminal_of rows a) (terminal_of rows x) (ts.different a x 0 (less_back a x is) x_in)
     differ a a_in other false is =
         apart (terminal_of rows a) (terminal_of rows x) (λ h. ts.different x a 0 (less a x other is) a_in (sym h))
 
-    by_test : (a : ℕ) → a < length rows.terminals → (t : Bool) → (x == a) ≡ t → bit (terminal_of rows a == terminal_of rows x) ≡ cond (x == a) 1 0
+    by_test : (a : ℕ) → a < length rows.terminals → (t : Bool) → (x == a) ≡ t → bit (terminal_of rows a == terminal_of rows x)
+        ≡ cond (x == a) 1 0
     by_test a a_in true is = rw (is, ← same x a is, eq_self (terminal_of rows x)) refl
     by_test a a_in false is = rw (is, differ a a_in is (nat_lt a x) refl) refl
 
@@ -151,10 +162,12 @@ or_below n (Some a) y f t = f
 or_below n None y f t = t
 
 -- the ends of passes are those of the lines, and those of the copies
-ends_are : (es : List Edge) (copies : List ℕ) (v : ℕ) → length copies ≡ length es → pass_ends es copies v ≡ degree es v + copies_sum (ends_at v) es copies
+ends_are : (es : List Edge) (copies : List ℕ) (v : ℕ) → length copies ≡ length es → pass_ends es copies v
+    ≡ degree es v + copies_sum (ends_at v) es copies
 ends_are [] copies v sized = refl
 ends_are (e ∷ es) [] v sized = absurd (omega arith)
-ends_are (e ∷ es) (c ∷ copies) v sized = rw (ends_are es copies v (omega arith)) (regroup c (bit (e.a == v) + bit (e.b == v)) (degree es v) (copies_sum (ends_at v) es copies))
+ends_are (e ∷ es) (c ∷ copies) v sized = rw (ends_are es copies v (omega arith))
+    (regroup c (bit (e.a == v) + bit (e.b == v)) (degree es v) (copies_sum (ends_at v) es copies))
   where
     regroup : (c k u w : ℕ) → (c + 1) * k + (u + w) ≡ (k + u) + (c * k + w)
     regroup c k u w = omega arith
@@ -212,7 +225,8 @@ pairs_parity p kept rows odd_rows pairs there each v = by_range (nat_lt v (lengt
     true_false false h g = cc
 
     not_terminal : is_odd_junction p v ≡ false → (x : ℕ) → x < length rows.terminals → terminal_of rows x ≢ v
-    not_terminal even x below is = true_false (is_odd_junction p v) (subst (λ (k : ℕ). is_odd_junction p k ≡ true) is (terminal_odd x below)) even
+    not_terminal even x below is = true_false (is_odd_junction p v)
+        (subst (λ (k : ℕ). is_odd_junction p k ≡ true) is (terminal_odd x below)) even
 
     by_odd : v < length p.junctions → (t : Bool) → is_odd_junction p v ≡ t → (degree (closed_edges p) v + pair_ends rows v pairs) % 2 ≡ 0
     by_odd below true is =
@@ -232,7 +246,8 @@ pairs_parity p kept rows odd_rows pairs there each v = by_range (nat_lt v (lengt
         let far = beyond v (length p.junctions) is in
         let zero_degree : degree (closed_edges p) v ≡ 0
         = degree_append (closing (from_of p) (to_of p)) p.edges v ∙ both (degree (closing (from_of p) (to_of p)) v) (degree p.edges v)
-        (closing_beyond (length p.junctions) v (from_of p) (to_of p) (or_below _ p.start p.end kept.start_below kept.end_below) (or_below _ p.end p.start kept.end_below kept.start_below) far)
+        (closing_beyond (length p.junctions) v (from_of p) (to_of p) (or_below _ p.start p.end kept.start_below kept.end_below)
+        (or_below _ p.end p.start kept.end_below kept.start_below) far)
         (degree_beyond p.edges (length p.junctions) v kept.ends far) in
         none (degree (closed_edges p) v) (pair_ends rows v pairs) (ap (λ (k : ℕ). k % 2) zero_degree)
         (ends_elsewhere rows v (not_terminal (ap is_odd zero_degree)) pairs there)
@@ -249,11 +264,13 @@ can_pass p kept rows odd_rows pairs there each few copies adds =
     let up = up_within p.edges copies kept.costs sized in
     record {
       beside = sized ∙ sym kept.beside;
-      even = λ v. even (degree (closing (from_of p) (to_of p)) v) (degree p.edges v) (degree (closed_edges p) v) (pass_ends p.edges copies v)
+      even = λ v. even (degree (closing (from_of p) (to_of p)) v) (degree p.edges v) (degree (closed_edges p) v)
+          (pass_ends p.edges copies v)
           (copies_sum (ends_at v) p.edges copies) (copies_sum (ends_at v) p.edges (replicate (length p.edges) 0)) (pair_ends rows v pairs)
           (degree_append (closing (from_of p) (to_of p)) p.edges v) (ends_are p.edges copies v sized)
           (none_cost (ends_at v) p.edges (length p.edges)) (adds.ends v) (pairs_parity p kept rows odd_rows pairs there each v);
-      few = few_passes (pass_count copies) (add_up copies) (length copies) (length p.edges) (length p.lines) (copies_sum cost_of p.edges copies)
+      few = few_passes (pass_count copies) (add_up copies) (length copies) (length p.edges) (length p.lines)
+          (copies_sum cost_of p.edges copies)
           (copies_sum cost_of p.edges (replicate (length p.edges) 0)) (pair_costs rows pairs)
           (count_is copies) up sized kept.beside kept.few adds.costs (none_cost cost_of p.edges (length p.edges)) few;
     }
@@ -261,7 +278,8 @@ can_pass p kept rows odd_rows pairs there each few copies adds =
     even : (c d k e s z q : ℕ) → k ≡ c + d → e ≡ d + s → z ≡ 0 → ((s + z) + q) % 2 ≡ 0 → (k + q) % 2 ≡ 0 → (c + e) % 2 ≡ 0
     even c d k e s z q a b n h g = omega arith
 
-    few_passes : (n up len edges lines sum z cost : ℕ) → n ≡ up + len → up ≤ sum → len ≡ edges → lines ≡ edges → lines ≤ 1024 → sum ≡ z + cost → z ≡ 0
+    few_passes : (n up len edges lines sum z cost : ℕ) → n ≡ up + len → up ≤ sum → len ≡ edges → lines ≡ edges → lines ≤ 1024 → sum
+        ≡ z + cost → z ≡ 0
         → cost ≤ 200000 → n < 4294967296
     few_passes n up len edges lines sum z cost a b c d e f g h = omega arith
 
@@ -271,7 +289,8 @@ pub walk_is : (p : PieceValue) → KeepsPiece p → (rows : RowsValue) (pairs : 
 walk_is p kept rows pairs copies walk adds tour = record {
   fitting = rw (tour.led, tour.covered) refl;
   begins = tour.begins;
-  some = some (length walk) (pass_count copies) (add_up copies) (length copies) (length p.edges) (length p.lines) tour.long (count_is copies)
+  some = some (length walk) (pass_count copies) (add_up copies) (length copies) (length p.edges) (length p.lines) tour.long
+      (count_is copies)
       (adds.sized ∙ length-replicate (length p.edges) 0) kept.beside kept.some;
   costs = costs (walk_cost p walk) (piece_cost p) (copies_cost p.edges copies) (copies_sum cost_of p.edges copies)
       (copies_sum cost_of p.edges (replicate (length p.edges) 0)) (pair_costs rows pairs)

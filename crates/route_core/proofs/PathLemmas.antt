@@ -87,7 +87,8 @@ walk_ends ns es v (p ∷ ps) at to is = by_edge (edge_of ns es p.line) is (λ k.
         → ((k : ℕ) → walk_on ns es (Some k) ps ≡ Some to → ((pass_sum ns es (ends_at v) ps + bit (k == v)) + bit (to == v)) % 2 ≡ 0)
         → (((ends_at v e + pass_sum ns es (ends_at v) ps) + bit (at == v)) + bit (to == v)) % 2 ≡ 0
     by_start e true test is rest =
-        subst (λ (k : ℕ). (((ends_at v e + pass_sum ns es (ends_at v) ps) + bit (k == v)) + bit (to == v)) % 2 ≡ 0) (same (start_of e p.back) at test)
+        subst (λ (k : ℕ). (((ends_at v e + pass_sum ns es (ends_at v) ps) + bit (k == v)) + bit (to == v)) % 2 ≡ 0)
+        (same (start_of e p.back) at test)
         (passed e p.back (rest (end_of e p.back) is))
     by_start e false test is rest = absurd (lost ns es ps to is)
 
@@ -153,7 +154,8 @@ pub adds_pair : (p : PieceValue) → KeepsPiece p → (rows : RowsValue) (q : Pa
     → AddsPlaces old places new → AddsPairs p rows (q ∷ []) old new
 adds_pair p kept rows q old new places sized path adds = record {
   sized = adds.sized;
-  costs = costs (copies_sum cost_of p.edges new) (copies_sum cost_of p.edges old) (place_sum cost_of p.edges places) (cost_at rows q.a (terminal_of rows q.b))
+  costs = costs (copies_sum cost_of p.edges new) (copies_sum cost_of p.edges old) (place_sum cost_of p.edges places)
+      (cost_at rows q.a (terminal_of rows q.b))
       (adds.sums cost_of p.edges (sym sized)) (sym (path_sum p kept cost_of path.walk places path.along path.there) ∙ path.costs);
   ends = λ v. ends (copies_sum (ends_at v) p.edges new) (copies_sum (ends_at v) p.edges old) (place_sum (ends_at v) p.edges places)
       (pass_sum p.lines p.edges (ends_at v) path.walk) (bit (terminal_of rows q.a == v)) (bit (terminal_of rows q.b == v))

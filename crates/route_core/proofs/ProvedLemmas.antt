@@ -30,7 +30,8 @@ use Rattle.route_core.specs.PieceRoutes.{Proves}
 -- the odd junctions are different junctions
 pub odds_are_terminals : (p : PieceValue) → AreTerminals p (odd_junctions p)
 odds_are_terminals p = record {
-  different = AllPairs-filter (λ (t u : ℕ). t ≢ u) (is_odd_junction p) (range_with_len 0 (length p.junctions)) (λ i. λ j. λ d. λ less. λ below.
+  different = AllPairs-filter (λ (t u : ℕ). t ≢ u) (is_odd_junction p) (range_with_len 0 (length p.junctions))
+      (λ i. λ j. λ d. λ less. λ below.
       differ (length p.junctions) i j d less (subst (λ (n : ℕ). j < n) (length-range_with_len 0 (length p.junctions)) below));
   there = All-filter (is_odd_junction p) (λ (t : ℕ). t < length p.junctions) (range_with_len 0 (length p.junctions))
       (All-from_get_or (λ (t : ℕ). t < length p.junctions) (range_with_len 0 (length p.junctions)) 0 (λ i. λ below.
@@ -43,16 +44,19 @@ odds_are_terminals p = record {
         omega (arith, less, get_or-range_with_len 0 n i d (omega (arith, less, below)), get_or-range_with_len 0 n j d below, same)
 
 -- least walks between the pairs cost no more than the lines
-pub pairs_cost_few : (p : PieceValue) → KeepsPiece p → KeepsTotal → (rows : RowsValue) (pairs : List Pair) (moats : List Moat) (cuts : List Cut)
+pub pairs_cost_few : (p : PieceValue) → KeepsPiece p → KeepsTotal
+    → (rows : RowsValue) (pairs : List Pair) (moats : List Moat) (cuts : List Cut)
     → IsMatched p rows pairs moats → IsLifted p moats cuts → pair_costs rows pairs ≤ MAX_COST
 pairs_cost_few p kept law rows pairs moats cuts matched lifted =
-    few (total_of cuts) (width_of moats) (pair_costs rows pairs) (piece_cost p) (law p cuts kept lifted.packing) lifted.total matched.paid kept.cost_few
+    few (total_of cuts) (width_of moats) (pair_costs rows pairs) (piece_cost p)
+    (law p cuts kept lifted.packing) lifted.total matched.paid kept.cost_few
   where
     few : (t w k c : ℕ) → t ≤ 2 * c → t ≡ w → w ≡ 2 * k → c ≤ 200000 → k ≤ 200000
     few t w k c a b d e = omega arith
 
 pub proves : (p : PieceValue) → KeepsPiece p → ProvesLeast → (rows : RowsValue) (pairs : List Pair) (moats : List Moat) (cert : PieceCert)
-    → IsMatched p rows pairs moats → IsLifted p moats cert.cuts → IsWalkBy p rows pairs cert.walk → cert.retraced ≡ pair_costs rows pairs → Proves p cert
+    → IsMatched p rows pairs moats → IsLifted p moats cert.cuts → IsWalkBy p rows pairs cert.walk → cert.retraced ≡ pair_costs rows pairs
+    → Proves p cert
 proves p kept law rows pairs moats cert matched lifted walk retraced = record {
   fitting = walk.fitting;
   begins = walk.begins;
@@ -60,7 +64,8 @@ proves p kept law rows pairs moats cert matched lifted walk retraced = record {
   packing = lifted.packing;
   total = lifted.total ∙ matched.paid ∙ ap (λ (k : ℕ). 2 * k) (sym retraced);
   least = law p cert.cuts cert.walk kept lifted.packing
-      (twice (total_of cert.cuts) (width_of moats) (pair_costs rows pairs) (piece_cost p) (walk_cost p cert.walk) lifted.total matched.paid walk.costs);
+      (twice (total_of cert.cuts) (width_of moats) (pair_costs rows pairs) (piece_cost p)
+      (walk_cost p cert.walk) lifted.total matched.paid walk.costs);
 }
   where
     twice : (t w k c v : ℕ) → t ≡ w → w ≡ 2 * k → v ≡ c + k → t + 2 * c ≡ 2 * v
@@ -77,7 +82,8 @@ line_below n (m ∷ ns) (x ∷ es) line e below is =
     less : (line m n : ℕ) → (line == m) ≡ true → nat_lt m n ≡ true → line < n
     less line m n is below = grind (arith, nat_tests)
 
-    by_test : (t : Bool) → (line == m) ≡ t → cond t (Some x) (edge_of ns es line) ≡ Some e → (edge_of ns es line ≡ Some e → line < n) → line < n
+    by_test : (t : Bool) → (line == m) ≡ t → cond t (Some x) (edge_of ns es line) ≡ Some e → (edge_of ns es line ≡ Some e → line < n)
+        → line < n
     by_test true here is more = less line m n here (and_parts (nat_lt m n) (all_below n ns) below).0
     by_test false other is more = more is
 
@@ -86,14 +92,17 @@ lost ns es [] to is = cc
 lost ns es (p ∷ ps) to is = lost ns es ps to is
 
 -- the passes of a walk go along lines of the piece
-passes_below : (n : ℕ) (ns : List ℕ) (es : List Edge) → all_below n ns ≡ true → (at : Option ℕ) (ps : List Pass) (to : ℕ) → walk_on ns es at ps ≡ Some to
+passes_below : (n : ℕ) (ns : List ℕ) (es : List Edge) → all_below n ns ≡ true → (at : Option ℕ) (ps : List Pass) (to : ℕ)
+    → walk_on ns es at ps ≡ Some to
     → All (λ (pass : Pass). pass.line < n) ps
 passes_below n ns es below at [] to is = λ i. λ d. λ none. absurd (omega (arith, none))
 passes_below n ns es below None (p ∷ ps) to is = absurd (lost ns es ps to is)
-passes_below n ns es below (Some at) (p ∷ ps) to is = by_edge (edge_of ns es p.line) refl is (λ next. λ h. passes_below n ns es below next ps to h)
+passes_below n ns es below (Some at) (p ∷ ps) to is = by_edge (edge_of ns es p.line) refl is
+    (λ next. λ h. passes_below n ns es below next ps to h)
   where
     by_edge : (found : Option Edge) → edge_of ns es p.line ≡ found → walk_on ns es (after_edge found p.back at) ps ≡ Some to
-        → ((next : Option ℕ) → walk_on ns es next ps ≡ Some to → All (λ (pass : Pass). pass.line < n) ps) → All (λ (pass : Pass). pass.line < n) (p ∷ ps)
+        → ((next : Option ℕ) → walk_on ns es next ps ≡ Some to → All (λ (pass : Pass). pass.line < n) ps)
+        → All (λ (pass : Pass). pass.line < n) (p ∷ ps)
     by_edge None here is more = absurd (lost ns es ps to is)
     by_edge (Some e) here is more =
         All-cons (λ (pass : Pass). pass.line < n) p ps (line_below n ns es p.line e below here) (more (after_edge (Some e) p.back at) is)
@@ -108,9 +117,11 @@ spelled p kept rows pairs moats cert lifted walk = record {
   some = some cert.walk walk.some;
   passes = few_passes cert.walk (passes_below MAX_LINES p.lines p.edges kept.lines_below (begin_of p cert.walk) cert.walk there.0 there.1);
   plain = lifted.plain;
-  members = All-from_get_or (λ (cut : Cut). All (λ j. j + 1 < 2 ^ 32) cut.members) cert.cuts (record { weight = 0; members = [] }) (λ i. λ below.
+  members = All-from_get_or (λ (cut : Cut). All (λ j. j + 1 < 2 ^ 32) cut.members) cert.cuts (record { weight = 0; members = [] })
+      (λ i. λ below.
       let cut = All-get_or (IsOddCut p) cert.cuts i (record { weight = 0; members = [] }) below lifted.packing.odd in
-      few_members (length p.junctions) (length p.lines) (get_or cert.cuts i (record { weight = 0; members = [] })).members kept.junctions_few kept.few cut.there);
+      few_members (length p.junctions) (length p.lines) (get_or cert.cuts i (record { weight = 0; members = [] })).members
+      kept.junctions_few kept.few cut.there);
 }
   where
     there : (to : ℕ) × (walk_on p.lines p.edges (begin_of p cert.walk) cert.walk ≡ Some to)
@@ -128,6 +139,7 @@ spelled p kept rows pairs moats cert lifted walk = record {
     few_members n lines js a b few = λ i. λ d. λ below. omega (arith, few i d below, a, b)
 
 -- what is left of the pairs costs what is left
-pub cost_goes_on : (rows : RowsValue) (pairs left rest : List Pair) (q : Pair) (cost one : ℕ) → left ≡ q ∷ rest → one ≡ pair_costs rows (q ∷ [])
+pub cost_goes_on : (rows : RowsValue) (pairs left rest : List Pair) (q : Pair) (cost one : ℕ) → left ≡ q ∷ rest → one
+    ≡ pair_costs rows (q ∷ [])
     → cost + pair_costs rows left ≡ pair_costs rows pairs → cost + one + pair_costs rows rest ≡ pair_costs rows pairs
 cost_goes_on rows pairs left rest q cost one is cost_is whole = omega (arith, ap (pair_costs rows) is, cost_is, whole)

@@ -31,11 +31,13 @@ pub record LeftPieces (pieces : List Piece) (certs : List PieceCert) (rest : Lis
   pub whole : (more : List PieceCert) → AreRouted rest more → AreRouted pieces (certs ++ more)
 
 pub routes_on : (pieces left rest : List Piece) (certs next : List PieceCert) (piece : Piece) (cert : PieceCert) → left ≡ piece ∷ rest
-    → next ≡ certs ++ cert ∷ [] → Proves (graph_of piece) cert → CanBeSpelled cert → LeftPieces pieces certs left → LeftPieces pieces next rest
+    → next ≡ certs ++ cert ∷ [] → Proves (graph_of piece) cert → CanBeSpelled cert → LeftPieces pieces certs left
+    → LeftPieces pieces next rest
 routes_on pieces left rest certs next piece cert is put proved spelled l = record {
   whole = λ more. λ routed.
       subst (AreRouted pieces) (sym (ap (λ (cs : List PieceCert). cs ++ more) put ∙ append_assoc certs (cert ∷ []) more))
-      (l.whole (cert ∷ more) (subst (λ (ps : List Piece). AreRouted ps (cert ∷ more)) (sym is) (record { proved = proved; spelled = spelled }, routed)));
+      (l.whole (cert ∷ more) (subst (λ (ps : List Piece). AreRouted ps (cert ∷ more)) (sym is)
+      (record { proved = proved; spelled = spelled }, routed)));
 }
 
 pub routed_all : (pieces left : List Piece) (certs : List PieceCert) → left ≡ [] → LeftPieces pieces certs left → AreRouted pieces certs
@@ -50,7 +52,8 @@ record Good (d : DrawingValue) (lines : List ℕ) (cert : PieceCert) : Type 0 wh
   below : All (λ line. line < length d.lines) lines
   few : cert.retraced ≤ piece_cost (piece_of d lines)
 
-good : (d : DrawingValue) → KeepsDrawing d → FittingWalksAreSewable → KeepsTotal → (p : Piece) (cert : PieceCert) → All (λ line. line < length d.lines) p.lines
+good : (d : DrawingValue) → KeepsDrawing d → FittingWalksAreSewable → KeepsTotal → (p : Piece) (cert : PieceCert)
+    → All (λ line. line < length d.lines) p.lines
     → graph_of p ≡ piece_of d p.lines → IsRouted p cert → Good d p.lines cert
 good d keeps sews keeps_total p cert below is routed =
     let proved = subst (λ (g : PieceValue). Proves g cert) is routed.proved in
@@ -61,7 +64,8 @@ good d keeps sews keeps_total p cert below is routed =
       spelled = routed.spelled;
       sewable = sewable;
       below = below;
-      few = half (total_of cert.cuts) cert.retraced (piece_cost (piece_of d p.lines)) (keeps_total (piece_of d p.lines) cert.cuts kept proved.packing) proved.total;
+      few = half (total_of cert.cuts) cert.retraced (piece_cost (piece_of d p.lines))
+          (keeps_total (piece_of d p.lines) cert.cuts kept proved.packing) proved.total;
     }
   where
     half : (t r c : ℕ) → t ≤ 2 * c → t ≡ 2 * r → r ≤ c
@@ -74,8 +78,10 @@ all_good d keeps sews keeps_total [] [] below each routed = tt
 all_good d keeps sews keeps_total [] (c ∷ certs) below each routed = absurd routed
 all_good d keeps sews keeps_total (p ∷ pieces) [] below each routed = absurd routed
 all_good d keeps sews keeps_total (p ∷ pieces) (c ∷ certs) below each routed = (
-  good d keeps sews keeps_total p c (front p.lines (concat (lines_of_pieces pieces)) below) (All-head (λ (p : Piece). graph_of p ≡ piece_of d p.lines) p pieces each) routed.0,
-  all_good d keeps sews keeps_total pieces certs (behind p.lines (concat (lines_of_pieces pieces)) below) (All-tail (λ (p : Piece). graph_of p ≡ piece_of d p.lines) p pieces each) routed.1,
+  good d keeps sews keeps_total p c (front p.lines (concat (lines_of_pieces pieces)) below)
+      (All-head (λ (p : Piece). graph_of p ≡ piece_of d p.lines) p pieces each) routed.0,
+  all_good d keeps sews keeps_total pieces certs (behind p.lines (concat (lines_of_pieces pieces)) below)
+      (All-tail (λ (p : Piece). graph_of p ≡ piece_of d p.lines) p pieces each) routed.1,
 )
   where
     front : (xs ys : List ℕ) → All (λ line. line < length d.lines) (xs ++ ys) → All (λ line. line < length d.lines) xs
@@ -88,7 +94,8 @@ all_good d keeps sews keeps_total (p ∷ pieces) (c ∷ certs) below each routed
     behind [] ys all = all
     behind (x ∷ xs) ys all = behind xs ys (All-tail (λ line. line < length d.lines) x (xs ++ ys) all)
 
-best_of : (d : DrawingValue) (pieces : List (List ℕ)) (certs : List PieceCert) → AllZip (Good d) pieces certs → AllZip (IsBest d) pieces certs
+best_of : (d : DrawingValue) (pieces : List (List ℕ)) (certs : List PieceCert) → AllZip (Good d) pieces certs
+    → AllZip (IsBest d) pieces certs
 best_of d [] [] all = tt
 best_of d [] (c ∷ certs) all = absurd all
 best_of d (p ∷ pieces) [] all = absurd all
@@ -100,7 +107,8 @@ spelled_of d [] (c ∷ certs) all = absurd all
 spelled_of d (p ∷ pieces) [] all = absurd all
 spelled_of d (p ∷ pieces) (c ∷ certs) all = All-cons CanBeSpelled c certs all.0.spelled (spelled_of d pieces certs all.1)
 
-along_of : (d : DrawingValue) (pieces : List (List ℕ)) (certs : List PieceCert) → AllZip (Good d) pieces certs → AllZip GoesAlong pieces (walks_of certs)
+along_of : (d : DrawingValue) (pieces : List (List ℕ)) (certs : List PieceCert) → AllZip (Good d) pieces certs
+    → AllZip GoesAlong pieces (walks_of certs)
 along_of d [] [] all = tt
 along_of d [] (c ∷ certs) all = absurd all
 along_of d (p ∷ pieces) [] all = absurd all
@@ -117,7 +125,8 @@ near_of d [] [] all = All-nil (λ (run : Run). AreNear d.step run.needles)
 near_of d [] (c ∷ certs) all = absurd all
 near_of d (p ∷ pieces) [] all = absurd all
 near_of d (p ∷ pieces) (c ∷ certs) all =
-    All-cons (λ (run : Run). AreNear d.step run.needles) (run_of d c.walk) (runs_of d (walks_of certs)) all.0.sewable.near (near_of d pieces certs all.1)
+    All-cons (λ (run : Run). AreNear d.step run.needles) (run_of d c.walk) (runs_of d (walks_of certs)) all.0.sewable.near
+    (near_of d pieces certs all.1)
 
 drawn_of : (d : DrawingValue) (pieces : List (List ℕ)) (certs : List PieceCert) → AllZip (Good d) pieces certs → AllDrawn d certs
 drawn_of d [] [] all = All-nil (λ (piece : PieceCert). AreDrawn d piece.walk)
@@ -135,14 +144,17 @@ drawn_of d (p ∷ pieces) (c ∷ certs) all =
 
 -- the needles are at most twice the cost of the lines, and one for each piece
 needles_few : (d : DrawingValue) (pieces : List (List ℕ)) (certs : List PieceCert) → AllZip (Good d) pieces certs
-    → sum_by (λ (run : Run). length run.needles) (runs_of d (walks_of certs)) ≤ 2 * sum_by (λ lines. piece_cost (piece_of d lines)) pieces + length pieces
+    → sum_by (λ (run : Run). length run.needles) (runs_of d (walks_of certs))
+    ≤ 2 * sum_by (λ lines. piece_cost (piece_of d lines)) pieces + length pieces
 needles_few d [] [] all = omega arith
 needles_few d [] (c ∷ certs) all = absurd all
 needles_few d (p ∷ pieces) [] all = absurd all
 needles_few d (p ∷ pieces) (c ∷ certs) all =
     added (length (needles_of_walk d c.walk)) (walk_cost (piece_of d p) c.walk) (piece_cost (piece_of d p)) c.retraced
-    (sum_by (λ (run : Run). length run.needles) (runs_of d (walks_of certs))) (sum_by (λ lines. piece_cost (piece_of d lines)) pieces) (length pieces)
-    (sum_by (λ (run : Run). length run.needles) (runs_of d (walks_of (c ∷ certs)))) (sum_by (λ lines. piece_cost (piece_of d lines)) (p ∷ pieces))
+    (sum_by (λ (run : Run). length run.needles) (runs_of d (walks_of certs))) (sum_by (λ lines. piece_cost (piece_of d lines)) pieces)
+    (length pieces)
+    (sum_by (λ (run : Run). length run.needles) (runs_of d (walks_of (c ∷ certs))))
+    (sum_by (λ lines. piece_cost (piece_of d lines)) (p ∷ pieces))
     all.0.best.penetrations all.0.best.proved.retraced all.0.few (needles_few d pieces certs all.1)
     (sum_by-cons (λ (run : Run). length run.needles) (run_of d c.walk) (runs_of d (walks_of certs)))
     (sum_by-cons (λ lines. piece_cost (piece_of d lines)) p pieces)
@@ -150,13 +162,15 @@ needles_few d (p ∷ pieces) (c ∷ certs) all =
     added : (n w c r s t k u v : ℕ) → n ≡ w + 1 → w ≡ c + r → r ≤ c → s ≤ 2 * t + k → u ≡ n + s → v ≡ c + t → u ≤ 2 * v + suc k
     added n w c r s t k u v a b e f g h = omega arith
 
-runs_count : (d : DrawingValue) (pieces : List (List ℕ)) (certs : List PieceCert) → AllZip (Good d) pieces certs → length (runs_of d (walks_of certs)) ≡ length pieces
+runs_count : (d : DrawingValue) (pieces : List (List ℕ)) (certs : List PieceCert) → AllZip (Good d) pieces certs
+    → length (runs_of d (walks_of certs)) ≡ length pieces
 runs_count d [] [] all = refl
 runs_count d [] (c ∷ certs) all = absurd all
 runs_count d (p ∷ pieces) [] all = absurd all
 runs_count d (p ∷ pieces) (c ∷ certs) all = ap (λ (n : ℕ). suc n) (runs_count d pieces certs all.1)
 
-writable : (d : DrawingValue) → KeepsDrawing d → (pieces : List (List ℕ)) (certs : List PieceCert) → ArePiecesWithin d pieces → AllZip (Good d) pieces certs
+writable : (d : DrawingValue) → KeepsDrawing d → (pieces : List (List ℕ)) (certs : List PieceCert) → ArePiecesWithin d pieces
+    → AllZip (Good d) pieces certs
     → AreWritable d.step (runs_of d (walks_of certs))
 writable d keeps pieces certs within all = record {
   near = near_of d pieces certs all;
@@ -184,9 +198,11 @@ commands_count block (run ∷ rest) =
 pub record Ready (d : DrawingValue) (pieces : List Piece) (certs : List PieceCert) : Type 0 where
   pub drawn : AllDrawn d certs
   pub room : length (commands_after 0 (runs_of d (walks_of certs))) ≤ 1000000
-  pub route : (routed : Routed) → routed.cert.pieces ≡ certs → routed.design ≡ sewn_design d (walks_of certs) → IsRouteOver d (lines_of_pieces pieces) routed
+  pub route : (routed : Routed) → routed.cert.pieces ≡ certs → routed.design ≡ sewn_design d (walks_of certs)
+      → IsRouteOver d (lines_of_pieces pieces) routed
 
-pub ready : (d : DrawingValue) → KeepsDrawing d → FittingWalksAreSewable → PiecesKeepLimits → KeepsTotal → (pieces : List Piece) (certs : List PieceCert)
+pub ready : (d : DrawingValue) → KeepsDrawing d → FittingWalksAreSewable → PiecesKeepLimits → KeepsTotal
+    → (pieces : List Piece) (certs : List PieceCert)
     → AreCutFrom d pieces → AreRouted pieces certs → Ready d pieces certs
 ready d keeps sews limits keeps_total pieces certs cut routed =
     let all = all_good d keeps sews keeps_total pieces certs cut.are.there cut.each routed in

@@ -28,7 +28,8 @@ later_more d old points left after pass is needles are put =
     ∙ ap (λ (ps : List Point). old ++ ps) (sym (flat_map-cons (λ (next : Pass). drop 1 (needles_of_pass d next)) pass after)
     ∙ ap (later_needles d) (sym is))
 
-pub drawn_first : (d : DrawingValue) (left after : List Pass) (pass : Pass) → left ≡ pass ∷ after → AreDrawn d left → pass.line < length d.lines
+pub drawn_first : (d : DrawingValue) (left after : List Pass) (pass : Pass) → left ≡ pass ∷ after → AreDrawn d left
+    → pass.line < length d.lines
 drawn_first d left after pass is drawn = All-head (λ (p : Pass). p.line < length d.lines) pass after (subst (AreDrawn d) is drawn)
 
 pub drawn_rest : (d : DrawingValue) (left after : List Pass) (pass : Pass) → left ≡ pass ∷ after → AreDrawn d left → AreDrawn d after
@@ -47,10 +48,12 @@ dropped : (ps : List Point) → All IsNeedlePoint ps → All IsNeedlePoint (drop
 dropped [] all = all
 dropped (p ∷ ps) all = All-tail IsNeedlePoint p ps all
 
-pass_in_range : (d : DrawingValue) → KeepsDrawing d → NeedlesLeadAlong d → (pass : Pass) → pass.line < length d.lines → All IsNeedlePoint (needles_of_pass d pass)
+pass_in_range : (d : DrawingValue) → KeepsDrawing d → NeedlesLeadAlong d → (pass : Pass) → pass.line < length d.lines
+    → All IsNeedlePoint (needles_of_pass d pass)
 pass_in_range d keeps law pass below = either (needles_of d pass.line) pass.back (law pass.line keeps below).along.in_range
 
-later_in_range : (d : DrawingValue) → KeepsDrawing d → NeedlesLeadAlong d → (walk : List Pass) → AreDrawn d walk → All IsNeedlePoint (later_needles d walk)
+later_in_range : (d : DrawingValue) → KeepsDrawing d → NeedlesLeadAlong d → (walk : List Pass) → AreDrawn d walk
+    → All IsNeedlePoint (later_needles d walk)
 later_in_range d keeps law [] drawn = All-nil IsNeedlePoint
 later_in_range d keeps law (pass ∷ walk) drawn =
     subst (All IsNeedlePoint) (sym (flat_map-cons (λ (next : Pass). drop 1 (needles_of_pass d next)) pass walk))
@@ -59,7 +62,8 @@ later_in_range d keeps law (pass ∷ walk) drawn =
     (later_in_range d keeps law walk (All-tail (λ (p : Pass). p.line < length d.lines) pass walk drawn)))
 
 -- the needles of walks along a drawing's lines are in range
-pub walk_in_range : (d : DrawingValue) → KeepsDrawing d → NeedlesLeadAlong d → (walk : List Pass) → AreDrawn d walk → All IsNeedlePoint (needles_of_walk d walk)
+pub walk_in_range : (d : DrawingValue) → KeepsDrawing d → NeedlesLeadAlong d → (walk : List Pass) → AreDrawn d walk
+    → All IsNeedlePoint (needles_of_walk d walk)
 walk_in_range d keeps law [] drawn = All-nil IsNeedlePoint
 walk_in_range d keeps law (pass ∷ walk) drawn =
     All-append IsNeedlePoint (needles_of_pass d pass) (later_needles d walk)
@@ -67,15 +71,18 @@ walk_in_range d keeps law (pass ∷ walk) drawn =
     (later_in_range d keeps law walk (All-tail (λ (p : Pass). p.line < length d.lines) pass walk drawn))
 
 -- what is left to sew, after the walks so far
-pub record Left (d : DrawingValue) (pieces : List PieceCert) (begun design : DesignValue) (before : ℕ) (rest : List PieceCert) : Type 0 where
+pub record Left (d : DrawingValue) (pieces : List PieceCert) (begun design : DesignValue) (before : ℕ)
+    (rest : List PieceCert) : Type 0 where
   pub drawn : AllDrawn d rest
   pub room : length design.commands + length (commands_after before (runs_of d (walks_of rest))) ≤ 1000000
-  pub whole : with_commands design (commands_after before (runs_of d (walks_of rest))) ≡ with_commands begun (commands_after 0 (runs_of d (walks_of pieces)))
+  pub whole : with_commands design (commands_after before (runs_of d (walks_of rest)))
+      ≡ with_commands begun (commands_after 0 (runs_of d (walks_of pieces)))
 
 -- the commands of one walk, and those of the walks behind it
 walk_first : (d : DrawingValue) (before : ℕ) (piece : PieceCert) (rest : List PieceCert)
     → commands_after before (runs_of d (walks_of (piece ∷ rest)))
-    ≡ run_commands before (block_of_walk d piece.walk) (needles_of_walk d piece.walk) ++ commands_after (block_of_walk d piece.walk) (runs_of d (walks_of rest))
+    ≡ run_commands before (block_of_walk d piece.walk) (needles_of_walk d piece.walk)
+    ++ commands_after (block_of_walk d piece.walk) (runs_of d (walks_of rest))
 walk_first d before piece rest =
     let later : List Command = commands_after (block_of_walk d piece.walk) (runs_of d (walks_of rest)) in
     let stops : List Command = replicate (block_of_walk d piece.walk - before) Stop in
@@ -83,7 +90,8 @@ walk_first d before piece rest =
     sym (append_assoc stops (stitches ++ Trim ∷ []) later
     ∙ ap (λ (cs : List Command). stops ++ cs) (append_assoc stitches (Trim ∷ []) later))
 
-pub room_for : (d : DrawingValue) (pieces : List PieceCert) (begun design : DesignValue) (before : ℕ) (left rest : List PieceCert) (piece : PieceCert) → left ≡ piece ∷ rest
+pub room_for : (d : DrawingValue) (pieces : List PieceCert) (begun design : DesignValue) (before : ℕ) (left rest : List PieceCert)
+    (piece : PieceCert) → left ≡ piece ∷ rest
     → Left d pieces begun design before left
     → length design.commands + length (run_commands before (block_of_walk d piece.walk) (needles_of_walk d piece.walk)) ≤ 1000000
 room_for d pieces begun design before left rest piece is l =
@@ -92,10 +100,12 @@ room_for d pieces begun design before left rest piece is l =
       l.room,
       ap (λ (ps : List PieceCert). length (commands_after before (runs_of d (walks_of ps)))) is,
       ap (λ (cs : List Command). length cs) (walk_first d before piece rest),
-      length-append (run_commands before (block_of_walk d piece.walk) (needles_of_walk d piece.walk)) (commands_after (block_of_walk d piece.walk) (runs_of d (walks_of rest))),
+      length-append (run_commands before (block_of_walk d piece.walk) (needles_of_walk d piece.walk))
+          (commands_after (block_of_walk d piece.walk) (runs_of d (walks_of rest))),
     )
 
-pub sews_on : (d : DrawingValue) (pieces : List PieceCert) (begun design next : DesignValue) (before block : ℕ) (left rest : List PieceCert) (piece : PieceCert) → left ≡ piece ∷ rest
+pub sews_on : (d : DrawingValue) (pieces : List PieceCert) (begun design next : DesignValue) (before block : ℕ) (left rest : List PieceCert)
+    (piece : PieceCert) → left ≡ piece ∷ rest
     → block ≡ block_of_walk d piece.walk
     → next ≡ with_commands design (run_commands before (block_of_walk d piece.walk) (needles_of_walk d piece.walk))
     → Left d pieces begun design before left → Left d pieces begun next block rest
@@ -107,14 +117,17 @@ sews_on d pieces begun design next before block left rest piece is at put l =
     rw (at, put) (record {
       drawn = All-tail (λ (p : PieceCert). AreDrawn d p.walk) piece rest (subst (AllDrawn d) is l.drawn);
       room = omega (arith, l.room, ap (λ (cs : List Command). length cs) all, length-append run later, length-append design.commands run);
-      whole = ap (λ (cs : List Command). record design { commands = cs }) (append_assoc design.commands run later ∙ ap (λ (cs : List Command). design.commands ++ cs) (sym all)) ∙ l.whole;
+      whole = ap (λ (cs : List Command). record design { commands = cs })
+          (append_assoc design.commands run later ∙ ap (λ (cs : List Command). design.commands ++ cs) (sym all)) ∙ l.whole;
     })
 
 pub sewn_all : (d : DrawingValue) (pieces : List PieceCert) (begun design : DesignValue) (before : ℕ) (left : List PieceCert) → left ≡ []
     → Left d pieces begun design before left → design ≡ with_commands begun (commands_after 0 (runs_of d (walks_of pieces)))
 sewn_all d pieces begun design before left is l =
     ap (λ (cs : List Command). record design { commands = cs }) (sym (append-nil design.commands))
-    ∙ subst (λ (ps : List PieceCert). with_commands design (commands_after before (runs_of d (walks_of ps))) ≡ with_commands begun (commands_after 0 (runs_of d (walks_of pieces)))) is l.whole
+    ∙ subst (λ (ps : List PieceCert). with_commands design (commands_after before (runs_of d (walks_of ps)))
+    ≡ with_commands begun (commands_after 0 (runs_of d (walks_of pieces)))) is l.whole
 
-pub drawn_piece : (d : DrawingValue) (left rest : List PieceCert) (piece : PieceCert) → left ≡ piece ∷ rest → AllDrawn d left → AreDrawn d piece.walk
+pub drawn_piece : (d : DrawingValue) (left rest : List PieceCert) (piece : PieceCert) → left ≡ piece ∷ rest → AllDrawn d left
+    → AreDrawn d piece.walk
 drawn_piece d left rest piece is drawn = All-head (λ (p : PieceCert). AreDrawn d p.walk) piece rest (subst (AllDrawn d) is drawn)

@@ -1,4 +1,5 @@
--- Copies of the lines of a piece, one for each line of the paths between matched junctions. Costs count steps.
+-- Copies of the lines of a piece, one for each line of the paths between matched junctions. Costs
+-- count steps.
 use Rattle.std.specs.Prelude.{◌≡◌, ℕ, zero, suc, ◌+◌, ◌*◌, ◌%◌, ◌<◌, ◌==◌, List, [], ◌∷◌, length, slice_get}
 use Rattle.blossom_match.specs.declared.matching.Pair.{Pair}
 use Rattle.line_graph.specs.declared.edge.Edge.{Edge}
@@ -55,9 +56,13 @@ pub record IsPairOf (rows : RowsValue) (q : Pair) : Type 0 where
   pub a_in : q.a < length rows.terminals
   pub b_in : q.b < length rows.terminals
 
--- further copies for least walks between the pairs: they cost what these walks cost, and change the parity of
+-- further copies for least walks between the pairs: they cost what these walks cost, and change the
+-- parity of
 -- the ends of passes at a junction as often as it is an end of a pair
-pub record AddsPairs (p : PieceValue) (rows : RowsValue) (pairs : List Pair) (old new : List ℕ) : Type 0 where
+pub record AddsPairs (p : PieceValue) (rows : RowsValue) (pairs : List Pair)
+    (old new : List ℕ) : Type 0 where
   pub sized : length new ≡ length old
-  pub costs : copies_sum cost_of p.edges new ≡ copies_sum cost_of p.edges old + pair_costs rows pairs
-  pub ends : (v : ℕ) → ((copies_sum (ends_at v) p.edges new + copies_sum (ends_at v) p.edges old) + pair_ends rows v pairs) % 2 ≡ 0
+  pub costs : copies_sum cost_of p.edges new ≡ copies_sum cost_of p.edges old
+      + pair_costs rows pairs
+  pub ends : (v : ℕ) → ((copies_sum (ends_at v) p.edges new + copies_sum (ends_at v) p.edges old)
+      + pair_ends rows v pairs) % 2 ≡ 0

@@ -1,4 +1,5 @@
--- The odd junctions of a piece in pairs, with moats that pay for them. Costs count steps, widths halves of a step.
+-- The odd junctions of a piece in pairs, with moats that pay for them. Costs count steps, widths
+-- halves of a step.
 use Rattle.std.specs.Prelude.{◌≡◌, ◌*◌, ◌+◌, ◌<◌, ◌≤◌, ◌^◌, true, List, None, length, All}
 use Rattle.blossom_match.specs.declared.matching.Moat.{Moat}
 use Rattle.blossom_match.specs.declared.matching.Pair.{Pair}
@@ -16,8 +17,10 @@ pub record AreOddRows (p : PieceValue) (rows : RowsValue) : Type 0 where
   pub rows_are : AreRows p rows
   pub terminals : rows.terminals ≡ odd_junctions p
 
--- pairs of all odd junctions, and few moats that are twice as wide as least walks between the pairs cost
-pub record IsMatched (p : PieceValue) (rows : RowsValue) (pairs : List Pair) (moats : List Moat) : Type 0 where
+-- pairs of all odd junctions, and few moats that are twice as wide as least walks between the pairs
+-- cost
+pub record IsMatched (p : PieceValue) (rows : RowsValue) (pairs : List Pair)
+    (moats : List Moat) : Type 0 where
   pub moats_are : AreMoats p rows moats
   pub few : length moats < 2 ^ 31
   pub pairs_are : All (IsPairOf rows) pairs
@@ -25,7 +28,8 @@ pub record IsMatched (p : PieceValue) (rows : RowsValue) (pairs : List Pair) (mo
   pub paid : width_of moats ≡ 2 * pair_costs rows pairs
 
 -- a fitting walk that costs as much above the lines as least walks between the pairs
-pub record IsWalkBy (p : PieceValue) (rows : RowsValue) (pairs : List Pair) (walk : List Pass) : Type 0 where
+pub record IsWalkBy (p : PieceValue) (rows : RowsValue) (pairs : List Pair)
+    (walk : List Pass) : Type 0 where
   pub fitting : fits p walk ≡ true
   pub begins : from_of p ≡ None → BeginsWith (first_line p.lines) walk
   pub some : 1 ≤ length walk

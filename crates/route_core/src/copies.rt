@@ -24,7 +24,8 @@ pub(crate) fn copies_of(
     requires terminals { rows.now.terminals ≡ terminals.now }
     requires pairs { All (IsPairOf rows.now) pairs.now }
     requires few { pair_costs rows.now pairs.now < 2 ^ 32 }
-    ensures { IfOk result (λ copies. AddsPairs (graph_of p.now) rows.now pairs.now (replicate (length p.now.edges) 0) copies.items) }
+    ensures { IfOk result (λ copies. AddsPairs (graph_of p.now) rows.now pairs.now
+        (replicate (length p.now.edges) 0) copies.items) }
 {
     let mut copies = vec![in alloc; 0; p.edges.len()]?;
     let mut rest = pairs;
@@ -48,8 +49,10 @@ fn add_pair(
     requires terminals { rows.now.terminals ≡ terminals.now }
     requires pair { IsPairOf rows.now pair }
     requires sized { length copies.old.items ≡ length p.now.edges }
-    requires few { copies_sum cost_of p.now.edges copies.old.items + pair_costs rows.now (pair ∷ []) < 2 ^ 32 }
-    ensures { OnOk result (AddsPairs (graph_of p.now) rows.now (pair ∷ []) copies.old.items copies.new.items) }
+    requires few { copies_sum cost_of p.now.edges copies.old.items + pair_costs rows.now (pair ∷ [])
+        < 2 ^ 32 }
+    ensures { OnOk result (AddsPairs (graph_of p.now) rows.now
+        (pair ∷ []) copies.old.items copies.new.items) }
 {
     let places = path_between(alloc, p, rows, terminals, pair)?;
     add_places(copies, places.as_slice());
@@ -67,7 +70,8 @@ fn path_between(
     requires rows { AreRows (graph_of p.now) rows.now }
     requires terminals { rows.now.terminals ≡ terminals.now }
     requires pair { IsPairOf rows.now pair }
-    ensures { IfOk result (IsPath (graph_of p.now) (terminal_of rows.now pair.a) (terminal_of rows.now pair.b)
+    ensures { IfOk result (IsPath (graph_of p.now) (terminal_of rows.now pair.a)
+        (terminal_of rows.now pair.b)
         (cost_at rows.now pair.a (terminal_of rows.now pair.b))) }
 {
     let places = rows.path(alloc, p, pair.a as usize, terminals[pair.b as usize])?;

@@ -20,7 +20,8 @@ use std::alloc::Global;
 /// blocks, and for each walk the stops up to its block, a stitch at each of its needles, and a trim.
 pub fn sew(alloc: Global, d: &Drawing, cert: &Cert) -> Result<Design, Memory>
     requires there { AllDrawn d.now cert.now.pieces }
-    requires room { length (commands_after 0 (runs_of d.now (walks_of cert.now.pieces))) ≤ MAX_COMMANDS }
+    requires room { length (commands_after 0 (runs_of d.now (walks_of cert.now.pieces)))
+        ≤ MAX_COMMANDS }
     ensures { IfOk result (λ design. design ≡ sewn_design d.now (walks_of cert.now.pieces)) }
 {
     let mut design = unsewn(alloc, d);
@@ -30,7 +31,12 @@ pub fn sew(alloc: Global, d: &Drawing, cert: &Cert) -> Result<Design, Memory>
 
 /// The design with a drawing's label and threads, before anything is sewn.
 fn unsewn(alloc: Global, drawing: &Drawing) -> Design
-    ensures { result ≡ record { label = drawing.now.label; threads = drawing.now.threads; commands = [] } }
+    ensures { result ≡ record {
+      label = drawing.now.label;
+      threads = drawing.now.threads;
+      commands =
+          [];
+    } }
 {
     let mut design = Design::new(alloc);
     design.set_label(drawing.label());
@@ -102,7 +108,8 @@ fn sew_run(design: &mut Design, before: u32, block: u32, points: &[Point]) -> Re
     requires in_range { All IsNeedlePoint points.now }
     requires room { length design.old.commands
         + length (run_commands before block points.now) ≤ MAX_COMMANDS }
-    ensures { OnOk result (design.new ≡ with_commands design.old (run_commands before block points.now)) }
+    ensures { OnOk result (design.new ≡ with_commands design.old
+        (run_commands before block points.now)) }
 {
     add_stops(design, before, block)?;
     add_stitches(design, points)?;
@@ -113,7 +120,8 @@ fn sew_run(design: &mut Design, before: u32, block: u32, points: &[Point]) -> Re
 /// Adds a stop for each block after the one before, up to that block.
 fn add_stops(design: &mut Design, before: u32, block: u32) -> Result<(), Memory>
     requires { length design.old.commands + (block - before) ≤ MAX_COMMANDS }
-    ensures { OnOk result (design.new ≡ with_commands design.old (replicate (block - before) Stop)) }
+    ensures { OnOk result (design.new ≡ with_commands design.old
+        (replicate (block - before) Stop)) }
 {
     for _ in before..block {
         add(design, Command::Stop)?;

@@ -80,7 +80,15 @@ module _ (m : RefitMode) (limit : ℕ) (acts left : List NumberedAct) (out : Lis
       let here : length out ≡ length (commands_of so_far) = ap length g.commands in
       let with : length (refitted_commands m limit (g.before ++ a ∷ [])) ≡ length out + length (commands_of instead) =
       ap length commands_with_act ∙ length-append out (commands_of instead) in (
-        omega (arith, past, ap length whole, here, length-append (commands_of so_far) (commands_of instead ++ commands_of later), length-append (commands_of instead) (commands_of later)),
+        omega (
+          arith,
+          past,
+          ap length whole,
+          here,
+          length-append (commands_of so_far)
+              (commands_of instead ++ commands_of later),
+          length-append (commands_of instead) (commands_of later),
+        ),
         record {
           before = g.before;
           act = a;

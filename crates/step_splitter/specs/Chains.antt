@@ -8,7 +8,8 @@ use Rattle.step_splitter.specs.Steps.{split_points, steps_of}
 -- each point lies within the limit of the one before, on each axis; the first one of p
 abbrev pub KeepsClose : ℕ → Point → List Point → Type 0
 KeepsClose limit p [] = Unit {0}
-KeepsClose limit p (q ∷ rest) = IsTrue (is_within limit (move_between p q)) × KeepsClose limit q rest
+KeepsClose limit p (q ∷ rest) = IsTrue (is_within limit (move_between p q))
+    × KeepsClose limit q rest
 
 -- each point differs from the one before; the first one from p
 abbrev pub KeepsMoving : Point → List Point → Type 0

@@ -16,7 +16,8 @@ abbrev pub with_commands : DesignValue → List Command → DesignValue
 with_commands d more = record d { commands = d.commands ++ more }
 
 -- what each answer means where commands of the act with that number are added
-abbrev pub Adds : {T : Type 0} → ℕ → List Command → DesignValue → Result T RefitFault → DesignValue → Type 0
+abbrev pub Adds : {T : Type 0} → ℕ → List Command → DesignValue → Result T RefitFault → DesignValue
+    → Type 0
 Adds number commands old (Ok _) new =
     (length old.commands + length commands ≤ MAX_COMMANDS) × (new ≡ with_commands old commands)
 Adds number commands old (Err (fault.TooMany n)) new =
@@ -24,7 +25,8 @@ Adds number commands old (Err (fault.TooMany n)) new =
 Adds number commands old (Err fault.Memory) new = Unit {0}
 
 -- the commands of the acts so far are there, and what is refitted goes on from there
-pub record GoesOn (m : RefitMode) (limit : ℕ) (acts : List NumberedAct) (out : List Command) (loose : Bool)
+pub record GoesOn (m : RefitMode) (limit : ℕ) (acts : List NumberedAct) (out : List Command)
+    (loose : Bool)
     (place : Point) (left : List NumberedAct) : Type 0 where
   pub before : List NumberedAct
   pub parts : acts ≡ before ++ left
@@ -38,8 +40,10 @@ RefuseActs m limit acts (fault.TooMany number) =
     (MAX_COMMANDS < length (refitted_commands m limit acts)) × IsFirstPast m limit acts number
 RefuseActs m limit acts fault.Memory = Unit {0}
 
--- what each answer means where the commands of all refitted acts are added to a design without commands
-abbrev pub RefitsAll : {T : Type 0} → RefitMode → ℕ → List NumberedAct → DesignValue → Result T RefitFault
+-- what each answer means where the commands of all refitted acts are added to a design without
+-- commands
+abbrev pub RefitsAll : {T : Type 0} → RefitMode → ℕ → List NumberedAct → DesignValue
+    → Result T RefitFault
     → DesignValue → Type 0
 RefitsAll m limit acts old (Ok _) new = (length (refitted_commands m limit acts) ≤ MAX_COMMANDS)
     × (new ≡ record old { commands = refitted_commands m limit acts })

@@ -26,7 +26,8 @@ is_far limit p q = not (is_within limit (move_between p q))
 abbrev pub needles_at : List Point → List Act
 needles_at points = map (λ p. act.Needle p false) points
 
--- a needle too far from the one before, if neither loose nor a float, gives way to the ends of the steps to it
+-- a needle too far from the one before, if neither loose nor a float, gives way to the ends of the
+-- steps to it
 abbrev pub split_needle : ℕ → Bool → Point → Point → Bool → List Act
 split_needle limit loose place p true = act.Needle p true ∷ []
 split_needle limit loose place p false =
@@ -38,7 +39,8 @@ abbrev pub cut_needle : Point → Bool → List Act
 cut_needle p true = act.Trim ∷ act.Needle p false ∷ []
 cut_needle p false = act.Needle p false ∷ []
 
--- the acts in the place of a needle; the thread is loose or not, and the needle before was at that place
+-- the acts in the place of a needle; the thread is loose or not, and the needle before was at that
+-- place
 abbrev pub refitted_needle : RefitMode → ℕ → Bool → Point → Point → Bool → List Act
 refitted_needle mode.Split limit loose place p float = split_needle limit loose place p float
 refitted_needle mode.Cut limit loose place p float = cut_needle p float
@@ -70,7 +72,8 @@ is_near_act limit loose place act.Stop = true
 abbrev pub KeepsNear : ℕ → Bool → Point → List Act → Type 0
 KeepsNear limit loose place [] = Unit {0}
 KeepsNear limit loose place (a ∷ rest) =
-    IsTrue (is_near_act limit loose place a) × KeepsNear limit (is_loose_after a) (place_after place a) rest
+    IsTrue (is_near_act limit loose place a) × KeepsNear limit (is_loose_after a)
+    (place_after place a) rest
 
 -- an act that is no float
 abbrev pub is_no_float : Act → Bool
@@ -103,8 +106,10 @@ refitted_commands m limit acts = commands_of (refitted_acts m limit (bare acts))
 abbrev pub refitted_design : RefitMode → ℕ → DesignValue → DesignValue
 refitted_design m limit d = record d { commands = refitted_commands m limit (acts_of d) }
 
--- with the act of the command of that number, and with none before, there are more commands than a design may have
-pub record IsFirstPast (m : RefitMode) (limit : ℕ) (acts : List NumberedAct) (number : ℕ) : Type 0 where
+-- with the act of the command of that number, and with none before, there are more commands than a
+-- design may have
+pub record IsFirstPast (m : RefitMode) (limit : ℕ) (acts : List NumberedAct)
+    (number : ℕ) : Type 0 where
   pub before : List NumberedAct
   pub act : NumberedAct
   pub after : List NumberedAct
@@ -117,6 +122,7 @@ pub record IsFirstPast (m : RefitMode) (limit : ℕ) (acts : List NumberedAct) (
 abbrev pub Refits : RefitMode → ℕ → DesignValue → Result DesignValue RefitFault → Type 0
 Refits m limit d (Ok refitted) = (length (refitted_commands m limit (acts_of d)) ≤ MAX_COMMANDS)
     × (refitted ≡ refitted_design m limit d)
-Refits m limit d (Err (fault.TooMany number)) = (MAX_COMMANDS < length (refitted_commands m limit (acts_of d)))
+Refits m limit d (Err (fault.TooMany number)) =
+    (MAX_COMMANDS < length (refitted_commands m limit (acts_of d)))
     × IsFirstPast m limit (acts_of d) number
 Refits m limit d (Err fault.Memory) = Unit {0}

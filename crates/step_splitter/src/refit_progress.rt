@@ -137,7 +137,8 @@ fn put_split(
     requires place { IsNeedlePoint before.now.place }
     requires at { IsNeedlePoint at }
     requires room { length out.old.commands ≤ MAX_COMMANDS }
-    ensures { Adds number (commands_of (split_needle limit before.now.loose before.now.place at float))
+    ensures { Adds number (commands_of (split_needle limit before.now.loose before.now.place at
+        float))
         out.old result out.new }
 {
     if float {
@@ -165,7 +166,8 @@ fn put_steps(
     requires to { IsNeedlePoint to }
     requires differ { from ≢ to }
     requires room { length out.old.commands ≤ MAX_COMMANDS }
-    ensures { Adds number (commands_of (needles_at (split_points from to limit))) out.old result out.new }
+    ensures { Adds number (commands_of (needles_at (split_points from to limit))) out.old result
+        out.new }
 {
     let points = split(alloc, from, to, limit)?;
     put_stitches(out, points.as_slice(), number)

@@ -171,7 +171,8 @@ goes_floats read spelling reach taken b None (Some hop) n at count place p room 
     absurd (let no : ⊥ = cc in no)
 goes_floats read spelling reach taken b (Some most) None n at count place p room rest acts of_most of_hop late passed lies few fits on =
     absurd (let no : ⊥ = cc in no)
-goes_floats read spelling reach taken b (Some most) (Some hop) n at count place p room rest acts of_most of_hop late passed lies few fits on =
+goes_floats read spelling reach taken b (Some most) (Some hop) n at count place p room rest acts of_most of_hop late passed lies few fits
+    on =
     let above : hop ≡ suc most = cc in
     let short : n ≤ hop = ltb-false hop n passed in
     by_test (n == hop) refl above short

@@ -13,7 +13,8 @@ returns-then-is_odd c =
     rw (← c.len.ensures, ← c.as_slice.ensures) c.in_ok-check_members.ensures in
     let told = count_told (graph_of c.args.p.now) c.args.cut.now.members c.held_by-held.result c.args.parities.now c.count_odd-odd.result
     c.args.p.now.kept (rw (← c.as_slice-2.ensures) c.held_by-held.ensures) c.requires.parities c.count_odd-odd.ensures in (
-      cut_right (graph_of c.args.p.now) c.args.number c.args.cut.now c.count_odd-odd.result none told (sym c.is_odd.ensures ∙ c.if-is_odd.true),
+      cut_right (graph_of c.args.p.now) c.args.number c.args.cut.now c.count_odd-odd.result none told
+          (sym c.is_odd.ensures ∙ c.if-is_odd.true),
       rw (← c.as_slice-2.ensures) c.held_by-held.ensures,
     )
 
@@ -23,4 +24,5 @@ returns-else-is_odd c =
     rw (← c.len.ensures, ← c.as_slice.ensures) c.in_ok-check_members.ensures in
     let told = count_told (graph_of c.args.p.now) c.args.cut.now.members c.held_by-held.result c.args.parities.now c.count_odd-odd.result
     c.args.p.now.kept (rw (← c.as_slice-2.ensures) c.held_by-held.ensures) c.requires.parities c.count_odd-odd.ensures in
-    cut_even (graph_of c.args.p.now) c.args.number c.args.cut.now c.count_odd-odd.result none told (sym c.is_odd.ensures ∙ c.if-is_odd.false)
+    cut_even (graph_of c.args.p.now) c.args.number c.args.cut.now c.count_odd-odd.result none told
+    (sym c.is_odd.ensures ∙ c.if-is_odd.false)

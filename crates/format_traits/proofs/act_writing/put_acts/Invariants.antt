@@ -18,7 +18,8 @@ invariant-loop-command g l = let w = g.W.RecordWriter in record {
   stops : l.standing.stops ≤ l.standing.room;
   refusal : refusal_from (w.reach l.writer) l.standing (acts_after l.walk (drop l.command-index l.commands))
       ≡ first_refusal (w.reach l.writer) (acts_along l.commands);
-  written : l.out ++ concat (records_from (w.spelling l.writer) (w.reach l.writer) l.standing (acts_after l.walk (drop l.command-index l.commands)))
+  written : l.out ++ concat (records_from (w.spelling l.writer) (w.reach l.writer) l.standing
+      (acts_after l.walk (drop l.command-index l.commands)))
       ≡ l.fn.out ++ concat (records_of (w.spelling l.writer) (w.reach l.writer) (acts_along l.commands));
   stands : standing_along (w.reach l.writer).limit l.standing (acts_after l.walk (drop l.command-index l.commands))
       ≡ standing_along (w.reach l.writer).limit beginning (acts_along l.commands);

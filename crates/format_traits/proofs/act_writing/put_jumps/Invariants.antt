@@ -5,5 +5,6 @@ use Rattle.format_traits.proofs.act_writing.put_jumps.Given as goal
 
 -- the jumps so far, and those of the parts that are left
 abbrev pub invariant-loop-done : goal.invariant-loop-done
-invariant-loop-done g l = l.out ++ concat (map (g.W.RecordWriter.spelling l.writer).jump (parts_from l.step l.count l.done (l.wanted - l.done)))
+invariant-loop-done g l = l.out ++ concat (map (g.W.RecordWriter.spelling l.writer).jump
+    (parts_from l.step l.count l.done (l.wanted - l.done)))
     ≡ l.fn.out ++ concat (map (g.W.RecordWriter.spelling l.writer).jump (parts_from l.step l.count 0 l.wanted))

@@ -11,7 +11,8 @@ overflow_cast-place c =
 pub loop-at-smaller : goal.loop-at-smaller
 loop-at-smaller c =
     (onward c.args.edges.now c.args.row.now c.args.j c.in-Some.place c.in-Some.before c.loop-at.at c.loop-at.places.items
-    c.requires.row.ends c.requires.row.costs (sym c.last_edge.ensures ∙ c.in-Some.is) c.loop-at.invariant.walk c.loop-at.invariant.cost).less
+    c.requires.row.ends c.requires.row.costs (sym c.last_edge.ensures ∙ c.in-Some.is) c.loop-at.invariant.walk
+    c.loop-at.invariant.cost).less
 
 pub loop-at-preserved : goal.loop-at-preserved
 loop-at-preserved c =

@@ -14,4 +14,5 @@ pub returns : goal.returns
 returns c =
     adds_pair (graph_of c.args.p.now) c.args.p.now.kept c.args.rows.now c.args.pair c.args.copies.now.items c.add_places.new.copies.items
     c.in_ok-places.places c.requires.sized c.in_ok-places.ensures
-    (subst (λ (places : List ℕ). AddsPlaces c.args.copies.now.items places c.add_places.new.copies.items) c.as_slice.ensures c.add_places.ensures)
+    (subst (λ (places : List ℕ). AddsPlaces c.args.copies.now.items places c.add_places.new.copies.items) c.as_slice.ensures
+    c.add_places.ensures)

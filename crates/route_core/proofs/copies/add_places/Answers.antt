@@ -14,6 +14,7 @@ loop-k-preserved c =
     record {
       there = left.there;
       few = left.few;
-      whole = λ new. λ adds. i.whole new (adds_one cs next c.loop-k.rest.now c.in-Some.after.now new c.in-Some.k c.in-Some.ensures.some c.add_one.ensures
+      whole = λ new. λ adds. i.whole new (adds_one cs next c.loop-k.rest.now c.in-Some.after.now new c.in-Some.k c.in-Some.ensures.some
+          c.add_one.ensures
           (first_below cs c.loop-k.rest.now c.in-Some.after.now c.in-Some.k c.in-Some.ensures.some i.there) adds);
     }

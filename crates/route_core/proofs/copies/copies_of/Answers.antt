@@ -6,7 +6,8 @@ use Rattle.route_core.proofs.copies.copies_of.Goals as goal
 pub loop-pair-init : goal.loop-pair-init
 loop-pair-init c =
     begun (graph_of c.args.p.now) c.args.rows.now c.args.pairs.now c.in_ok-copies.copies.items
-    (c.in_ok-copies.ensures.items_if_clones_equal (λ y. λ h. h) ∙ ap (λ (n : ℕ). replicate n 0) c.len.ensures) c.requires.pairs c.requires.few
+    (c.in_ok-copies.ensures.items_if_clones_equal (λ y. λ h. h) ∙ ap (λ (n : ℕ). replicate n 0) c.len.ensures) c.requires.pairs
+    c.requires.few
 
 pub add_pair-requires-clause-pair : goal.add_pair-requires-clause-pair
 add_pair-requires-clause-pair c =
@@ -14,14 +15,17 @@ add_pair-requires-clause-pair c =
 
 pub add_pair-requires-clause-few : goal.add_pair-requires-clause-few
 add_pair-requires-clause-few c =
-    room_for_pair (graph_of c.args.p.now) c.args.rows.now c.args.pairs.now c.loop-pair.copies.items c.loop-pair.rest.now c.in-Some.after.now c.in-Some.pair
+    room_for_pair (graph_of c.args.p.now) c.args.rows.now c.args.pairs.now c.loop-pair.copies.items c.loop-pair.rest.now c.in-Some.after.now
+    c.in-Some.pair
     c.in-Some.ensures.some c.loop-pair.invariant
 
 pub loop-pair-preserved : goal.loop-pair-preserved
 loop-pair-preserved c =
-    goes_on (graph_of c.args.p.now) c.args.rows.now c.args.pairs.now c.loop-pair.copies.items c.add_pair.new.copies.items c.loop-pair.rest.now c.in-Some.after.now c.in-Some.pair
+    goes_on (graph_of c.args.p.now) c.args.rows.now c.args.pairs.now c.loop-pair.copies.items c.add_pair.new.copies.items
+    c.loop-pair.rest.now c.in-Some.after.now c.in-Some.pair
     c.in-Some.ensures.some c.loop-pair.invariant c.in_ok-add_pair.ensures
 
 pub returns : goal.returns
 returns c =
-    ended (graph_of c.args.p.now) c.args.rows.now c.args.pairs.now c.loop-pair.copies.items c.loop-pair.rest.now c.in_default.ensures.none c.loop-pair.invariant
+    ended (graph_of c.args.p.now) c.args.rows.now c.args.pairs.now c.loop-pair.copies.items c.loop-pair.rest.now c.in_default.ensures.none
+    c.loop-pair.invariant

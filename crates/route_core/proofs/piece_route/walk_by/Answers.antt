@@ -7,7 +7,8 @@ use Rattle.route_core.proofs.piece_route.walk_by.Goals as goal
 pub tour-requires : goal.tour-requires
 tour-requires c =
     subst (λ (copies : List ℕ). CanPass (graph_of c.args.p.now) copies) (sym c.deref.ensures.value)
-    (can_pass (graph_of c.args.p.now) c.args.p.now.kept c.args.rows.now c.requires.rows c.args.pairs.now c.requires.pairs c.requires.each c.requires.few
+    (can_pass (graph_of c.args.p.now) c.args.p.now.kept c.args.rows.now c.requires.rows c.args.pairs.now c.requires.pairs c.requires.each
+    c.requires.few
     c.in_ok-copies.copies.items c.in_ok-copies.ensures)
 
 pub returns : goal.returns

@@ -11,7 +11,8 @@ add_to_file-requires c =
 
 pub returns-clause-added : goal.returns-clause-added
 returns-clause-added c =
-    let made : c.add_to_file.new.entries.items ≡ with_content c.args.self.now.entries c.args.name.now (unwrap_or (file_in c.args.self.now.entries c.args.name.now) [] ++ c.args.bytes.now) = search rules in
+    let made : c.add_to_file.new.entries.items ≡ with_content c.args.self.now.entries c.args.name.now
+    (unwrap_or (file_in c.args.self.now.entries c.args.name.now) [] ++ c.args.bytes.now) = search rules in
     λ content holds.
     where_told _ _
     (file_in-with_content _ _ _ _ made
@@ -19,5 +20,6 @@ returns-clause-added c =
 
 pub returns-clause-others : goal.returns-clause-others
 returns-clause-others c =
-    let made : c.add_to_file.new.entries.items ≡ with_content c.args.self.now.entries c.args.name.now (unwrap_or (file_in c.args.self.now.entries c.args.name.now) [] ++ c.args.bytes.now) = search rules in
+    let made : c.add_to_file.new.entries.items ≡ with_content c.args.self.now.entries c.args.name.now
+    (unwrap_or (file_in c.args.self.now.entries c.args.name.now) [] ++ c.args.bytes.now) = search rules in
     λ other differs. file_in-with_content_other _ _ _ _ other made differs
