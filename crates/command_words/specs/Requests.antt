@@ -19,6 +19,7 @@ pub data Asked : Type 0 where
   edit : (input output : List ℕ) → (edits : List Change) → Asked
   hoop : (file : List ℕ) → (width height : ℕ) → Asked
   sample : (number : ℕ) → (drawing : List ℕ) → Asked
+  migrate : (input output : List ℕ) → Asked
 
 -- what a request of the program asks; the words of an edit that spell none ask for none
 abbrev pub asked_by : Request → Asked
@@ -30,6 +31,7 @@ asked_by (request.Edit names edits) = edit names.input.now names.output.now
     (unwrap_or (edits_spelled (map (λ word. string_bytes word) edits.now)) [])
 asked_by (request.Hoop file width height) = hoop file.now width height
 asked_by (request.Sample number drawing) = sample number drawing.now
+asked_by (request.Migrate input output) = migrate input.now output.now
 
 -- the route of three words that are names
 abbrev pub asked_route : List (List ℕ) → Option Asked
@@ -91,6 +93,12 @@ abbrev pub asked_sample : List (List ℕ) → Option Asked
 asked_sample (number ∷ drawing ∷ []) = sample_with (sample_of number) drawing
 asked_sample _ = None
 
+-- the migration from a file to another, for two words that are names
+abbrev pub asked_migrate : List (List ℕ) → Option Asked
+asked_migrate (input ∷ output ∷ []) =
+    if is_name input && is_name output then Some (migrate input output) else None
+asked_migrate _ = None
+
 -- the request that a command's word and the words after it spell
 abbrev pub asked_as : List ℕ → List (List ℕ) → Option Asked
 asked_as command words =
@@ -101,7 +109,8 @@ asked_as command words =
     else (if bytes_eq command (codes "edit") then asked_edit words
     else (if bytes_eq command (codes "hoop") then asked_hoop words
     else (if bytes_eq command (codes "sample") then asked_sample words
-    else None))))))
+    else (if bytes_eq command (codes "migrate") then asked_migrate words
+    else None)))))))
 
 -- the request that the words spell, where they spell one
 abbrev pub asked_of : List (List ℕ) → Option Asked
@@ -139,3 +148,4 @@ IsSound (request.Edit names edits) =
     BothAreNames names × SpellEdits (map (λ word. string_bytes word) edits.now)
 IsSound (request.Hoop file width height) = IsName file.now
 IsSound (request.Sample number drawing) = (1 ≤ number) × (number ≤ MAX_SAMPLE) × IsName drawing.now
+IsSound (request.Migrate input output) = IsName input.now × IsName output.now

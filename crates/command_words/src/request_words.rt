@@ -1,5 +1,5 @@
 ghost use Rattle.std.specs.Prelude.{◌≡◌, IfSome, codes, is_some, map, option_map, string_bytes};
-ghost use Rattle.command_words.specs.Requests.{IsSound, asked_as, asked_by, asked_check, asked_convert, asked_edit, asked_hoop, asked_of, asked_route, asked_sample, asked_show, hoop_with, sample_with};
+ghost use Rattle.command_words.specs.Requests.{IsSound, asked_as, asked_by, asked_check, asked_convert, asked_edit, asked_hoop, asked_migrate, asked_of, asked_route, asked_sample, asked_show, hoop_with, sample_with};
 ghost use Rattle.command_words.specs.Words.{are_both as are_both_words, edits_spelled, is_name as word_is_name, refits_spelled, sample_of, side_of};
 
 use crate::edit_words::edit_spelled;
@@ -14,8 +14,8 @@ pub const MAX_SIDE: u32 = 60_000;
 pub const MAX_SAMPLE: u32 = 999_999;
 
 /// The request that the words spell: `route DRAWING OUT CERT`, `check DRAWING FILE CERT`,
-/// `convert IN OUT [--split] [--cut]`, `show FILE`, `edit IN OUT EDIT...`, `hoop FILE WIDTH HEIGHT` or
-/// `sample N DRAWING`. It takes no memory.
+/// `convert IN OUT [--split] [--cut]`, `show FILE`, `edit IN OUT EDIT...`, `hoop FILE WIDTH HEIGHT`,
+/// `sample N DRAWING` or `migrate DRAWING OUT`. It takes no memory.
 pub fn request(words: &[String]) -> Option<Request<'_>>
     ensures value { option_map asked_by result ≡ asked_of (map (λ word. string_bytes word) words.now) }
     ensures sound { IfSome result IsSound }
@@ -51,6 +51,9 @@ fn request_as<'a>(command: &str, words: &'a [String]) -> Option<Request<'a>>
     }
     if command == "sample" {
         return sample_request(words);
+    }
+    if command == "migrate" {
+        return migrate_request(words);
     }
     None
 }
@@ -236,6 +239,23 @@ fn sample_spelled<'a>(number: &[u8], drawing: &'a str) -> Option<Request<'a>>
     };
     if is_name(drawing) {
         Some(Request::Sample { number, drawing })
+    } else {
+        None
+    }
+}
+
+fn migrate_request(words: &[String]) -> Option<Request<'_>>
+    ensures value { option_map asked_by result ≡ asked_migrate (map (λ word. string_bytes word) words.now) }
+    ensures sound { IfSome result IsSound }
+{
+    let [input, output] = words else {
+        return None;
+    };
+    if is_name(input.as_str()) && is_name(output.as_str()) {
+        Some(Request::Migrate {
+            input: input.as_str(),
+            output: output.as_str(),
+        })
     } else {
         None
     }

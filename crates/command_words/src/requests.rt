@@ -29,6 +29,11 @@ pub enum Request<'a> {
         number: u32,
         drawing: &'a str,
     },
+    /// Write a drawing in the newest version of its text.
+    Migrate {
+        input: &'a str,
+        output: &'a str,
+    },
 }
 
 /// The files of a route: the drawing that is read, the design and the certificate that are written.

@@ -37,4 +37,5 @@ mod outside;
 mod rewrites;
 mod routes;
 mod rows;
+mod versions;
 mod words;

@@ -5,7 +5,7 @@ use Rattle.cut_certificate.specs.declared.certificate.PieceCert.{PieceCert}
 use Rattle.certificate_text.specs.ReadCertificates.{cert_of}
 use Rattle.design_model.specs.Designs.{DesignValue}
 use Rattle.drawing_text.specs.declared.draw_fault.DrawFault.{DrawFault}
-use Rattle.drawing_text.specs.DrawingText.{drawing_of}
+use Rattle.drawing_text.specs.DrawingText.{drawing_as2, drawing_of}
 use Rattle.format_traits.specs.declared.fault.ReadFault.{ReadFault}
 use Rattle.format_traits.specs.declared.loaded.Loaded.{Loaded}
 use Rattle.hoop_check.specs.declared.fitting.Fit.{Fit}
@@ -27,7 +27,8 @@ use Rattle.stitch_cli.specs.Checks.{IsDisproved, IsProved, check_cert, check_des
 use Rattle.stitch_cli.specs.Commands.{plan_of}
 use Rattle.stitch_cli.specs.Endings.{Ends, Halts, OrderEnds, all, but_report, halted, made, status_of, up_to}
 use Rattle.stitch_cli.specs.Hoops.{hoop_fitted, hoop_read}
-use Rattle.stitch_cli.specs.Orders.{CheckOrder, HoopOrder, Order, RewriteOrder, RouteOrder, ShowOrder, checking, hooping, rewriting, routing, sampling, showing}
+use Rattle.stitch_cli.specs.Migrations.{migrate_read}
+use Rattle.stitch_cli.specs.Orders.{CheckOrder, HoopOrder, MigrateOrder, Order, RewriteOrder, RouteOrder, ShowOrder, checking, hooping, migrating, rewriting, routing, sampling, showing}
 use Rattle.stitch_cli.specs.Plans.{ComesTo, IsAccepted, IsInput, IsTooLong, Makes, Misses, Plan, Refuses, accepts, decides, reads, refuses}
 use Rattle.stitch_cli.specs.Products.{ProductValue}
 use Rattle.stitch_cli.specs.Refusals.{RefusalValue, refusal_of}
@@ -122,6 +123,10 @@ rewrite_exact : (order : RewriteOrder) (read : Result Loaded ReadFault) → IsEx
 rewrite_exact order (Ok loaded) = λ product why made refused. rewritten_not_both order loaded product why made refused
 rewrite_exact order (Err fault) = tt
 
+migrate_exact : (order : MigrateOrder) (read : Result DrawingValue DrawFault) → IsExact (migrate_read order read)
+migrate_exact order (Ok d) = tt
+migrate_exact order (Err fault) = tt
+
 show_exact : (order : ShowOrder) (read : Result Loaded ReadFault) → IsExact (show_read order read)
 show_exact order (Ok loaded) = tt
 show_exact order (Err fault) = tt
@@ -140,6 +145,7 @@ order_exact : PiecesAreOne → (order : Order) → IsExact (plan_of order)
 order_exact one (routing order) = λ bytes. route_exact order (drawing_of bytes)
 order_exact one (checking order) = λ bytes. check_exact one order (drawing_of bytes)
 order_exact one (sampling order) = tt
+order_exact one (migrating order) = λ bytes. migrate_exact order (drawing_as2 bytes)
 order_exact one (rewriting order) = λ bytes. rewrite_exact order (order.source.reads bytes)
 order_exact one (showing order) = λ bytes. show_exact order (order.format.reads bytes)
 order_exact one (hooping order) = λ bytes. hoop_exact order (order.format.reads bytes)

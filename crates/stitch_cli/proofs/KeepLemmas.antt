@@ -5,7 +5,7 @@ use Rattle.cut_certificate.specs.declared.certificate.PieceCert.{PieceCert}
 use Rattle.certificate_text.specs.ReadCertificates.{cert_of}
 use Rattle.design_model.specs.Designs.{DesignValue}
 use Rattle.drawing_text.specs.declared.draw_fault.DrawFault.{DrawFault}
-use Rattle.drawing_text.specs.DrawingText.{drawing_of}
+use Rattle.drawing_text.specs.DrawingText.{drawing_as2, drawing_of}
 use Rattle.format_traits.specs.declared.fault.ReadFault.{ReadFault}
 use Rattle.format_traits.specs.declared.loaded.Loaded.{Loaded}
 use Rattle.hoop_check.specs.declared.fitting.Fit.{Fit}
@@ -20,7 +20,8 @@ use Rattle.stitch_cli.specs.Checks.{check_cert, check_design, check_drawing}
 use Rattle.stitch_cli.specs.Commands.{plan_of}
 use Rattle.stitch_cli.specs.Endings.{Delivers, Ends, Halts, all, but_report, halted, made, up_to}
 use Rattle.stitch_cli.specs.Hoops.{hoop_fitted, hoop_read}
-use Rattle.stitch_cli.specs.Orders.{CheckOrder, HoopOrder, Order, RewriteOrder, RouteOrder, ShowOrder, checking, hooping, outputs_of, rewriting, routing, sampling, showing}
+use Rattle.stitch_cli.specs.Migrations.{migrate_read}
+use Rattle.stitch_cli.specs.Orders.{CheckOrder, HoopOrder, MigrateOrder, Order, RewriteOrder, RouteOrder, ShowOrder, checking, hooping, migrating, outputs_of, rewriting, routing, sampling, showing}
 use Rattle.stitch_cli.specs.Plans.{Makes, Plan}
 use Rattle.stitch_cli.specs.Products.{ChangesAmong, IsNoneOf, ProductValue, names_of}
 use Rattle.stitch_cli.specs.Rewrites.{rewrite_read}
@@ -58,6 +59,11 @@ rewrite_outputs : (order : RewriteOrder) (files : Option Files) (product : Produ
 rewrite_outputs order files product (Ok loaded) makes = ap (λ (p : ProductValue). names_of p.outputs) makes.made
 rewrite_outputs order files product (Err fault) never = absurd never
 
+migrate_outputs : (order : MigrateOrder) (files : Option Files) (product : ProductValue) (read : Result DrawingValue DrawFault)
+    → Makes (migrate_read order read) files product → names_of product.outputs ≡ order.output ∷ []
+migrate_outputs order files product (Ok d) makes = ap (λ (p : ProductValue). names_of p.outputs) makes.made
+migrate_outputs order files product (Err fault) never = absurd never
+
 show_outputs : (order : ShowOrder) (files : Option Files) (product : ProductValue) (read : Result Loaded ReadFault)
     → Makes (show_read order read) files product → names_of product.outputs ≡ []
 show_outputs order files product (Ok loaded) is = ap (λ (p : ProductValue). names_of p.outputs) is
@@ -78,6 +84,7 @@ makes_outputs : (order : Order) (files : Option Files) (product : ProductValue) 
 makes_outputs (routing order) files product (bytes, input, makes) = route_outputs order files product (drawing_of bytes) makes
 makes_outputs (checking order) files product (bytes, input, makes) = check_outputs order files product (drawing_of bytes) makes
 makes_outputs (sampling order) files product is = ap (λ (p : ProductValue). names_of p.outputs) is.made
+makes_outputs (migrating order) files product (bytes, input, makes) = migrate_outputs order files product (drawing_as2 bytes) makes
 makes_outputs (rewriting order) files product (bytes, input, makes) =
     rewrite_outputs order files product (order.source.reads bytes) makes
 makes_outputs (showing order) files product (bytes, input, makes) = show_outputs order files product (order.format.reads bytes) makes

@@ -8,7 +8,7 @@ use Rattle.design_model.specs.Designs.{DesignValue, empty_design}
 use Rattle.format_traits.specs.Meanings.{Meaning}
 use Rattle.stitch_cli.specs.declared.changing.ChangeFault.TheVariants as reason
 use Rattle.stitch_cli.specs.ChangedDesigns.{shifted_unless, threaded}
-use Rattle.stitch_cli.specs.Orders.{checking, hooping, order_of, outputs_of, rewriting, routing, sampling, showing}
+use Rattle.stitch_cli.specs.Orders.{checking, hooping, migrating, order_of, outputs_of, rewriting, routing, sampling, showing}
 
 -- a format with another ending
 abbrev ending_as : Meaning → List ℕ → Meaning
@@ -50,6 +50,14 @@ known_certificate_onto_design m = refl
 pub known_certificate_onto_drawing : (m : Meaning)
     → order_of (dst_and_exp m) (codes "route" ∷ codes "a" ∷ codes "b.dst" ∷ codes "a" ∷ []) ≡ None
 known_certificate_onto_drawing m = refl
+
+-- a migration needs no format, and two names
+pub known_migrate : (m : Meaning) → order_of (dst_and_exp m) (codes "migrate" ∷ codes "a.rw" ∷ codes "b" ∷ [])
+    ≡ Some (migrating (record { input = codes "a.rw"; output = codes "b" }))
+known_migrate m = refl
+
+pub known_migration_onto_itself : (m : Meaning) → order_of (dst_and_exp m) (codes "migrate" ∷ codes "a.rw" ∷ codes "a.rw" ∷ []) ≡ None
+known_migration_onto_itself m = refl
 
 -- a conversion reads by the format of the first name and writes by that of the second
 pub known_convert : (m : Meaning)

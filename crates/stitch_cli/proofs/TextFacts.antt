@@ -28,7 +28,7 @@ pub known_too_long : refusal_line (too_long (codes "a")) ≡ codes "stitch: a: l
 known_too_long = refl
 
 -- each fault of a drawing
-pub known_bad_header : draw_text kind.BadHeader ≡ codes "not a redwork 1 drawing"
+pub known_bad_header : draw_text kind.BadHeader ≡ codes "not a redwork drawing"
 known_bad_header = refl
 
 pub known_bad_word : draw_text kind.BadWord ≡ codes "word not understood"

@@ -14,6 +14,7 @@ pub mod Texts
 pub mod Routes
 pub mod Checks
 pub mod Samples
+pub mod Migrations
 pub mod Shows
 pub mod Hoops
 pub mod Rewrites

@@ -5,7 +5,7 @@ use Rattle.command_words.specs.declared.requests.CheckNames.{CheckNames}
 use Rattle.command_words.specs.declared.requests.Names.{Names}
 use Rattle.command_words.specs.declared.requests.RouteNames.{RouteNames}
 use Rattle.command_words.specs.Changes.{Change}
-use Rattle.command_words.specs.Requests.{Asked, asked_of, check, convert, edit, hoop, route, sample, show}
+use Rattle.command_words.specs.Requests.{Asked, asked_of, check, convert, edit, hoop, migrate, route, sample, show}
 use Rattle.command_words.specs.Words.{refits}
 use Rattle.format_traits.specs.Meanings.{Meaning}
 use Rattle.format_traits.specs.Endings.{found_in}
@@ -28,6 +28,11 @@ pub record CheckOrder : Type 0 where
 pub record SampleOrder : Type 0 where
   pub number : ℕ
   pub drawing : List ℕ
+
+-- the drawing that is read, and the file that it is written to
+pub record MigrateOrder : Type 0 where
+  pub input : List ℕ
+  pub output : List ℕ
 
 -- the file that is shown, and what its format means
 pub record ShowOrder : Type 0 where
@@ -71,6 +76,10 @@ check_order names format = record {
 abbrev pub sample_order : ℕ → List ℕ → SampleOrder
 sample_order number drawing = record { number = number; drawing = drawing }
 
+-- the order of a migration by its names
+abbrev pub migrate_order : (input output : List ℕ) → MigrateOrder
+migrate_order input output = record { input = input; output = output }
+
 -- the order of showing a file by what its format means
 abbrev pub show_order : List ℕ → Meaning → ShowOrder
 show_order file format = record { file = file; format = format }
@@ -103,6 +112,7 @@ pub data Order : Type 0 where
   routing : RouteOrder → Order
   checking : CheckOrder → Order
   sampling : SampleOrder → Order
+  migrating : MigrateOrder → Order
   rewriting : RewriteOrder → Order
   showing : ShowOrder → Order
   hooping : HoopOrder → Order
@@ -119,6 +129,11 @@ abbrev pub checking_by : (drawing file cert : List ℕ) → Option Meaning → O
 checking_by drawing file cert None = None
 checking_by drawing file cert (Some format) =
     Some (checking (record { drawing = drawing; file = file; cert = cert; format = format }))
+
+-- the migration between those files, where their names differ
+abbrev pub migrating_to : (input output : List ℕ) → Option Order
+migrating_to input output =
+    if bytes_eq input output then None else Some (migrating (migrate_order input output))
 
 -- the showing of that file by that format, where there is one
 abbrev pub showing_by : List ℕ → Option Meaning → Option Order
@@ -152,6 +167,7 @@ completed formats (Some (route drawing out cert)) =
     routing_to drawing out cert (format_of formats out)
 completed formats (Some (check drawing file cert)) = checking_by drawing file cert (format_of formats file)
 completed formats (Some (sample number drawing)) = Some (sampling (sample_order number drawing))
+completed formats (Some (migrate input output)) = migrating_to input output
 completed formats (Some (convert input output splits cuts)) =
     rewriting_by input output (refits splits cuts) (format_of formats input) (format_of formats output)
 completed formats (Some (show file)) = showing_by file (format_of formats file)
@@ -168,6 +184,7 @@ abbrev pub outputs_of : Order → List (List ℕ)
 outputs_of (routing order) = order.cert ∷ order.out ∷ []
 outputs_of (checking order) = []
 outputs_of (sampling order) = order.drawing ∷ []
+outputs_of (migrating order) = order.output ∷ []
 outputs_of (rewriting order) = order.output ∷ []
 outputs_of (showing order) = []
 outputs_of (hooping order) = []

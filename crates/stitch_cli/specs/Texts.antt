@@ -26,6 +26,7 @@ usage_text = codes "usage: stitch route DRAWING OUT CERT" ++ line_end
     ++ codes "       stitch edit IN OUT EDIT..." ++ line_end
     ++ codes "       stitch hoop FILE WIDTH HEIGHT" ++ line_end
     ++ codes "       stitch sample N DRAWING" ++ line_end
+    ++ codes "       stitch migrate DRAWING OUT" ++ line_end
 
 -- how often the needle goes down in a piece
 abbrev pub penetrations_of : PieceReport → ℕ
@@ -78,6 +79,11 @@ summary_costs s = codes "retraced " ++ (decimal s.retraced ++ (line_end ++ (code
 abbrev pub summary_text : Summary → List ℕ
 summary_text s = summary_counts s ++ (summary_odds s ++ summary_costs s)
 
+-- the report of a migration: how many lines and pieces there are, and what the lines cost
+abbrev pub migrate_report : (lines pieces cost : ℕ) → List ℕ
+migrate_report lines pieces cost = codes "lines " ++ (decimal lines ++ (codes " pieces "
+    ++ (decimal pieces ++ (codes " cost " ++ (decimal cost ++ line_end)))))
+
 -- a line about a file
 abbrev pub line_about : List ℕ → List ℕ → List ℕ
 line_about name text = codes "stitch: " ++ (name ++ (codes ": " ++ (text ++ line_end)))
@@ -98,7 +104,7 @@ line_at name word digits text =
 
 -- what is wrong with a drawing text; a refusal is never for want of memory
 abbrev pub draw_text : DrawKind → List ℕ
-draw_text kind.BadHeader = codes "not a redwork 1 drawing"
+draw_text kind.BadHeader = codes "not a redwork drawing"
 draw_text kind.BadWord = codes "word not understood"
 draw_text kind.BadNumber = codes "not a number"
 draw_text kind.OutOfRange = codes "number out of range"

@@ -3,13 +3,14 @@ ghost use Rattle.std.specs.Bool.{OnTrue};
 ghost use Rattle.command_words.specs.Requests.{AreCheckNames, AreNames, BothAreNames};
 ghost use Rattle.outside_io.specs.Files.{IsName};
 ghost use Rattle.stitch_cli.specs.Endings.{Answers};
-ghost use Rattle.stitch_cli.specs.Orders.{are_apart as names_are_apart, checking_by, format_of, hooping_by, order_of, rewriting_by, routing_to, showing_by};
+ghost use Rattle.stitch_cli.specs.Orders.{are_apart as names_are_apart, checking_by, format_of, hooping_by, migrating_to, order_of, rewriting_by, routing_to, showing_by};
 ghost use Rattle.stitch_cli.specs.RewriteSteps.{AreSound, changes_by};
 
 use crate::changing::Changes;
 use crate::checking::check;
 use crate::halt::Halt;
 use crate::hooping::hoop;
+use crate::migrating::migrate;
 use crate::product::Product;
 use crate::rewriting::rewrite;
 use crate::routing::route;
@@ -54,6 +55,7 @@ pub(crate) fn make<'a, S: Store>(
             },
         ) => make_hoop(alloc, file, width, height, formats, store),
         Some(Request::Sample { number, drawing }) => sample(alloc, number, drawing),
+        Some(Request::Migrate { input, output }) => make_migration(alloc, input, output, store),
         None => Err(Halt::Unasked),
     }
 }
@@ -154,6 +156,22 @@ fn make_hoop<'a, S: Store>(
         Some(format) => hoop(alloc, file, format, width, height, store),
         None => Err(Halt::Unasked),
     }
+}
+
+fn make_migration<'a, S: Store>(
+    alloc: Global,
+    input: &'a str,
+    output: &'a str,
+    store: &mut S,
+) -> Result<Product<'a>, Halt<'a>>
+    requires input { IsName input.now }
+    requires output { IsName output.now }
+    ensures { Answers (migrating_to input.now output.now) (S.sight store.old) (S.sight store.new) result }
+{
+    if input == output {
+        return Err(Halt::Unasked);
+    }
+    migrate(alloc, input, output, store)
 }
 
 /// The first format whose ending the name has.

@@ -10,6 +10,7 @@ mod design_reports;
 mod halt;
 mod hooping;
 mod messages;
+mod migrating;
 mod product;
 mod putting;
 mod reading;

@@ -99,7 +99,7 @@ fn draw_text(kind: DrawKind) -> &'static [u8]
     ensures { result.now ≡ draw_text_of kind }
 {
     match kind {
-        DrawKind::BadHeader => b"not a redwork 1 drawing",
+        DrawKind::BadHeader => b"not a redwork drawing",
         DrawKind::BadWord => b"word not understood",
         DrawKind::BadNumber => b"not a number",
         DrawKind::OutOfRange => b"number out of range",

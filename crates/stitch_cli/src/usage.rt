@@ -9,6 +9,7 @@ pub const USAGE: &[u8] = b"usage: stitch route DRAWING OUT CERT
        stitch edit IN OUT EDIT...
        stitch hoop FILE WIDTH HEIGHT
        stitch sample N DRAWING
+       stitch migrate DRAWING OUT
 ";
 
 /// The usage text.

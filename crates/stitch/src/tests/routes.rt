@@ -258,7 +258,7 @@ const NOT_ROUTED: &[Row] = &[
     },
     Row {
         before: &[("a.rw", Holds::Bytes(b""))],
-        steps: &[refused!(TO_DST, "stitch: a.rw: line 1: not a redwork 1 drawing\n")],
+        steps: &[refused!(TO_DST, "stitch: a.rw: line 1: not a redwork drawing\n")],
     },
     Row {
         before: &[("a.rw", Holds::Bytes(b"redwork 1\ncolor 1\n"))],

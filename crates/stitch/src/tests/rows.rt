@@ -64,7 +64,7 @@ pub fn stocked(alloc: Global, before: &[(&'static str, Holds)]) -> Result<MemSto
         put(alloc, &mut store, name, *holds)?;
     }
     for name in WRITTEN {
-        store.prepare(name, 10_000)?;
+        store.prepare(name, 20_000)?;
     }
     Ok(store)
 }

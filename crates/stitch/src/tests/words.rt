@@ -9,6 +9,7 @@ const USAGE: &str = "usage: stitch route DRAWING OUT CERT
        stitch edit IN OUT EDIT...
        stitch hoop FILE WIDTH HEIGHT
        stitch sample N DRAWING
+       stitch migrate DRAWING OUT
 ";
 
 /// A step whose words ask for nothing.
@@ -44,6 +45,8 @@ const UNASKED: &[Row] = &[Row {
         unasked!(&["hoop", "a.dst", "40", "60001"]),
         unasked!(&["check", "a.rw", "b.jef", "c"]),
         unasked!(&["sample", "0", "a.rw"]),
+        unasked!(&["migrate", "a.rw", "a.rw"]),
+        unasked!(&["migrate", "a.rw"]),
     ],
 }];
 

@@ -1,0 +1,100 @@
+ghost use Rattle.std.specs.Prelude.{◌≡◌, ◌≤◌, IfOk, length, string_bytes, true};
+ghost use Rattle.drawing_text.specs.DrawingText.{drawing_as2};
+ghost use Rattle.line_graph.specs.Sections.{is_joined};
+ghost use Rattle.outside_io.specs.declared.limits.TheConstants.{MAX_FILE};
+ghost use Rattle.outside_io.specs.Files.{IsName};
+ghost use Rattle.stitch_cli.specs.Endings.{Prepares, Settles};
+ghost use Rattle.stitch_cli.specs.Migrations.{IsMigrated, migrate_plan, migrate_read};
+ghost use Rattle.stitch_cli.specs.Orders.{migrate_order};
+ghost use Rattle.stitch_cli.specs.Products.{product_of};
+ghost use Rattle.stitch_cli.specs.Texts.{migrate_report};
+
+use crate::halt::{Halt, Refusal};
+use crate::product::{Output, Product, one_output};
+use crate::reading::read_input;
+use design_model::{Bytes, Memory};
+use drawing_text::{DrawFault, print_drawing2, read_as2};
+use line_graph::{DrawKind, Drawing, drawing_cost, pieces};
+use outside_io::Store;
+use std::alloc::Global;
+
+/// A drawing as version 2 of its text, in the plain spelling of that version, and what is told of it.
+pub(crate) fn migrate<'a, S: Store>(
+    alloc: Global,
+    input: &'a str,
+    output: &'a str,
+    store: &mut S,
+) -> Result<Product<'a>, Halt<'a>>
+    requires input { IsName input.now }
+    requires output { IsName output.now }
+    ensures { Prepares (migrate_plan (migrate_order input.now output.now))
+        (S.sight store.old) (S.sight store.new) result }
+{
+    let bytes = read_input(alloc, store, input)?;
+    migrate_text(alloc, input, output, bytes.as_slice())
+}
+
+fn migrate_text<'a>(
+    alloc: Global,
+    input: &'a str,
+    output: &'a str,
+    bytes: &[u8],
+) -> Result<Product<'a>, Halt<'a>>
+    requires output { IsName output.now }
+    requires short { length bytes.now ≤ MAX_FILE }
+    ensures { Settles (migrate_read (migrate_order input.now output.now) (drawing_as2 bytes.now)) result }
+{
+    match read_as2(alloc, bytes) {
+        Ok(drawing) => {
+            let product = migrated(alloc, output, &drawing)?;
+            Ok(product)
+        }
+        Err(
+            DrawFault {
+                kind: DrawKind::Memory,
+                number: _,
+            },
+        ) => Err(Halt::Memory),
+        Err(fault) => Err(Halt::Refused(Refusal::Undrawn { name: input, fault })),
+    }
+}
+
+fn migrated<'a>(
+    alloc: Global,
+    output: &'a str,
+    drawing: &Drawing,
+) -> Result<Product<'a>, Memory>
+    requires { is_joined drawing.now ≡ true }
+    ensures { IfOk result (λ product. IsMigrated output.now drawing.now (product_of product)) }
+{
+    let pieces = pieces(alloc, drawing)?;
+    let report = report_of(
+        alloc,
+        drawing.line_count(),
+        pieces.len(),
+        drawing_cost(drawing),
+    )?;
+    let content = print_drawing2(alloc, drawing)?;
+    let written = Output {
+        name: output,
+        content,
+    };
+    let product = one_output(alloc, written, report)?;
+    Ok(product)
+}
+
+fn report_of(alloc: Global, lines: u32, pieces: usize, cost: u32) -> Result<Bytes, Memory>
+    ensures { IfOk result (λ text. text ≡ migrate_report lines pieces cost) }
+{
+    let line = report_line(alloc, lines, pieces, cost)?;
+    let mut text = Bytes::new(alloc);
+    text.append(line.as_bytes())?;
+    Ok(text)
+}
+
+fn report_line(alloc: Global, lines: u32, pieces: usize, cost: u32) -> Result<String, Memory>
+    ensures { IfOk result (λ text. string_bytes text ≡ migrate_report lines pieces cost) }
+{
+    let text = format!(in alloc; "lines {lines} pieces {pieces} cost {cost}\n")?;
+    Ok(text)
+}
