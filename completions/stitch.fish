@@ -6,6 +6,7 @@ complete -c stitch -n __fish_use_subcommand -f -a show -d 'print what a file hol
 complete -c stitch -n __fish_use_subcommand -f -a edit -d 'shift, turn, mirror, or give a thread'
 complete -c stitch -n __fish_use_subcommand -f -a hoop -d 'say whether a design fits a hoop'
 complete -c stitch -n __fish_use_subcommand -f -a sample -d 'write the sample drawing of a number'
+complete -c stitch -n __fish_use_subcommand -f -a migrate -d 'write a drawing as version 2'
 complete -c stitch -n '__fish_seen_subcommand_from convert' -a '--split' -d 'sew a stitch that is too long as several'
 complete -c stitch -n '__fish_seen_subcommand_from convert' -a '--cut' -d 'cut a float that is too long'
 complete -c stitch -n '__fish_seen_subcommand_from edit' -a 'shift= turn= mirror=x mirror=y thread=' -d edit

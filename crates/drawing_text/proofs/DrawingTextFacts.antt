@@ -5,9 +5,14 @@ use Rattle.line_graph.specs.declared.draw_kind.DrawKind.{DrawKind}
 use Rattle.line_graph.specs.declared.draw_kind.DrawKind.TheVariants as kind
 use Rattle.line_graph.specs.Drawings.{DrawingValue, LineValue}
 use Rattle.line_graph.specs.Sections.{lines_through}
+use Rattle.drawing_text.specs.declared.limits.TheConstants.{MAX_TEXT}
 use Rattle.drawing_text.specs.DrawingText.{drawing_as2, drawing_of}
 use Rattle.drawing_text.specs.Words.{text_lines, without_return, words_in}
 use Rattle.drawing_text.proofs.SpellingFacts.{place}
+
+-- the longest text that is read, in bytes
+pub known_limit : MAX_TEXT ≡ 67108864
+known_limit = refl
 
 -- lines with their ends
 abbrev text : List (List ℕ) → List ℕ

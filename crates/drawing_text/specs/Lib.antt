@@ -2,7 +2,6 @@
 pub use Rattle.line_graph.specs.Drawings
 pub use Rattle.line_graph.specs.Growing
 pub use Rattle.line_graph.specs.Sections
-pub mod Limits
 pub mod Words
 pub mod Spelling
 pub mod TextLines

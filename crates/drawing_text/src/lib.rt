@@ -16,7 +16,7 @@ mod text_words;
 mod version;
 
 pub use draw_fault::DrawFault;
-pub use laws::{the_limit_of_texts, the_plain_spelling_says, the_plain_spelling2_says};
+pub use laws::{the_plain_spelling_says, the_plain_spelling2_says};
 pub use limits::MAX_TEXT;
 pub use reading::{read_as2, read_drawing};
 pub use spelling::{print_drawing, print_drawing2};
