@@ -76,7 +76,8 @@ asked_edit _ = None
 abbrev pub hoop_with : List ℕ → Option ℕ → Option ℕ → Option Asked
 hoop_with file None height = None
 hoop_with file (Some width) None = None
-hoop_with file (Some width) (Some height) = if is_name file then Some (hoop file width height) else None
+hoop_with file (Some width) (Some height) = if is_name file then Some (hoop file width height)
+    else None
 
 -- the hoop of a word that is a name, and of two words for the sides
 abbrev pub asked_hoop : List (List ℕ) → Option Asked

@@ -85,10 +85,12 @@ thread_by (Some place) (Some number) = Some (thread place number)
 thread_by None number = None
 thread_by (Some place) None = None
 
--- a thread by the numbers before and after a comma: a place from 1 to 255, and a thread from 0 to 255
+-- a thread by the numbers before and after a comma: a place from 1 to 255, and a thread from 0 to
+-- 255
 abbrev pub thread_in : Option (List ℕ × List ℕ) → Option Change
 thread_in None = None
-thread_in (Some (place, number)) = thread_by (bounded 1 255 (whole_of place)) (bounded 0 255 (whole_of number))
+thread_in (Some (place, number)) = thread_by (bounded 1 255 (whole_of place))
+    (bounded 0 255 (whole_of number))
 
 -- the change that a word of this name and this value spells; a turn has 0 to 3 quarters
 abbrev pub edit_of : List ℕ → List ℕ → Option Change

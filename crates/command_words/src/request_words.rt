@@ -17,7 +17,8 @@ pub const MAX_SAMPLE: u32 = 999_999;
 /// `convert IN OUT [--split] [--cut]`, `show FILE`, `edit IN OUT EDIT...`, `hoop FILE WIDTH HEIGHT`,
 /// `sample N DRAWING` or `migrate DRAWING OUT`. It takes no memory.
 pub fn request(words: &[String]) -> Option<Request<'_>>
-    ensures value { option_map asked_by result ≡ asked_of (map (λ word. string_bytes word) words.now) }
+    ensures value { option_map asked_by result
+        ≡ asked_of (map (λ word. string_bytes word) words.now) }
     ensures sound { IfSome result IsSound }
 {
     match words {
@@ -59,7 +60,8 @@ fn request_as<'a>(command: &str, words: &'a [String]) -> Option<Request<'a>>
 }
 
 fn route_request(words: &[String]) -> Option<Request<'_>>
-    ensures value { option_map asked_by result ≡ asked_route (map (λ word. string_bytes word) words.now) }
+    ensures value { option_map asked_by result
+        ≡ asked_route (map (λ word. string_bytes word) words.now) }
     ensures sound { IfSome result IsSound }
 {
     let [drawing, out, cert] = words else {
@@ -77,7 +79,8 @@ fn route_request(words: &[String]) -> Option<Request<'_>>
 }
 
 fn check_request(words: &[String]) -> Option<Request<'_>>
-    ensures value { option_map asked_by result ≡ asked_check (map (λ word. string_bytes word) words.now) }
+    ensures value { option_map asked_by result
+        ≡ asked_check (map (λ word. string_bytes word) words.now) }
     ensures sound { IfSome result IsSound }
 {
     let [drawing, file, cert] = words else {
@@ -95,7 +98,8 @@ fn check_request(words: &[String]) -> Option<Request<'_>>
 }
 
 fn convert_request(words: &[String]) -> Option<Request<'_>>
-    ensures value { option_map asked_by result ≡ asked_convert (map (λ word. string_bytes word) words.now) }
+    ensures value { option_map asked_by result
+        ≡ asked_convert (map (λ word. string_bytes word) words.now) }
     ensures sound { IfSome result IsSound }
 {
     let [input, output, flags @ ..] = words else {
@@ -138,7 +142,8 @@ fn are_both(first: &str, second: &str) -> bool
 }
 
 fn show_request(words: &[String]) -> Option<Request<'_>>
-    ensures value { option_map asked_by result ≡ asked_show (map (λ word. string_bytes word) words.now) }
+    ensures value { option_map asked_by result
+        ≡ asked_show (map (λ word. string_bytes word) words.now) }
     ensures sound { IfSome result IsSound }
 {
     let [file] = words else {
@@ -153,7 +158,8 @@ fn show_request(words: &[String]) -> Option<Request<'_>>
 
 #[tactic(auto, using(crate::proofs::WordLemmas::few_no_edit))]
 fn edit_request(words: &[String]) -> Option<Request<'_>>
-    ensures value { option_map asked_by result ≡ asked_edit (map (λ word. string_bytes word) words.now) }
+    ensures value { option_map asked_by result
+        ≡ asked_edit (map (λ word. string_bytes word) words.now) }
     ensures sound { IfSome result IsSound }
 {
     let [input, output, edits @ ..] = words else {
@@ -189,7 +195,8 @@ fn are_edits(words: &[String]) -> bool
 }
 
 fn hoop_request(words: &[String]) -> Option<Request<'_>>
-    ensures value { option_map asked_by result ≡ asked_hoop (map (λ word. string_bytes word) words.now) }
+    ensures value { option_map asked_by result
+        ≡ asked_hoop (map (λ word. string_bytes word) words.now) }
     ensures sound { IfSome result IsSound }
 {
     match words {
@@ -221,7 +228,8 @@ fn hoop_spelled<'a>(file: &'a str, width: &[u8], height: &[u8]) -> Option<Reques
 }
 
 fn sample_request(words: &[String]) -> Option<Request<'_>>
-    ensures value { option_map asked_by result ≡ asked_sample (map (λ word. string_bytes word) words.now) }
+    ensures value { option_map asked_by result
+        ≡ asked_sample (map (λ word. string_bytes word) words.now) }
     ensures sound { IfSome result IsSound }
 {
     match words {
@@ -245,7 +253,8 @@ fn sample_spelled<'a>(number: &[u8], drawing: &'a str) -> Option<Request<'a>>
 }
 
 fn migrate_request(words: &[String]) -> Option<Request<'_>>
-    ensures value { option_map asked_by result ≡ asked_migrate (map (λ word. string_bytes word) words.now) }
+    ensures value { option_map asked_by result
+        ≡ asked_migrate (map (λ word. string_bytes word) words.now) }
     ensures sound { IfSome result IsSound }
 {
     let [input, output] = words else {

@@ -8,7 +8,7 @@ use Rattle.step_splitter.specs.declared.refitting.RefitMode.TheVariants as mode
 use Rattle.stitch_cli.specs.declared.changing.ChangeFault.{ChangeFault}
 use Rattle.stitch_cli.specs.declared.changing.ChangeFault.TheVariants as reason
 use Rattle.stitch_cli.specs.ChangedDesigns.{Becomes, BecomesAll, RefitsTo}
-use Rattle.stitch_cli.specs.Orders.{RewriteOrder}
+use Rattle.stitch_cli.specs.OrderNames.{RewriteOrder}
 use Rattle.stitch_cli.specs.Products.{ProductValue}
 use Rattle.stitch_cli.specs.Refusals.{RefusalValue}
 use Rattle.stitch_cli.specs.Rewrites.{RewriteOf, not_changed, not_written}

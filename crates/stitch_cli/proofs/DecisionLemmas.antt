@@ -28,13 +28,15 @@ use Rattle.stitch_cli.specs.Commands.{plan_of}
 use Rattle.stitch_cli.specs.Endings.{Ends, Halts, OrderEnds, all, but_report, halted, made, status_of, up_to}
 use Rattle.stitch_cli.specs.Hoops.{hoop_fitted, hoop_read}
 use Rattle.stitch_cli.specs.Migrations.{migrate_read}
-use Rattle.stitch_cli.specs.Orders.{CheckOrder, HoopOrder, MigrateOrder, Order, RewriteOrder, RouteOrder, ShowOrder, checking, hooping, migrating, rewriting, routing, sampling, showing}
+use Rattle.stitch_cli.specs.OrderNames.{CheckOrder, HoopOrder, MigrateOrder, RewriteOrder, RouteOrder, ShowOrder}
+use Rattle.stitch_cli.specs.Orders.{Order, checking, hooping, migrating, rewriting, routing, sampling, showing}
 use Rattle.stitch_cli.specs.Plans.{ComesTo, IsAccepted, IsInput, IsTooLong, Makes, Misses, Plan, Refuses, accepts, decides, reads, refuses}
 use Rattle.stitch_cli.specs.Products.{ProductValue}
 use Rattle.stitch_cli.specs.Refusals.{RefusalValue, refusal_of}
 use Rattle.stitch_cli.specs.Rewrites.{rewrite_read}
 use Rattle.stitch_cli.specs.Routes.{route_above, route_read}
-use Rattle.stitch_cli.specs.Runs.{AsksFor, IsDecided, IsOrMemory, IsQuietRun, Sights}
+use Rattle.stitch_cli.specs.RunSights.{IsQuietRun, Sights}
+use Rattle.stitch_cli.specs.Runs.{AsksFor, IsDecided, IsOrMemory}
 use Rattle.stitch_cli.specs.Shows.{show_read}
 use Rattle.stitch_cli.proofs.ChangeLemmas.{rewritten_not_both}
 
@@ -67,7 +69,8 @@ not_longer (Some files) name bytes told holds short longer = less (files name) (
   where
     less : (content : Option (List ℕ)) → content ≡ Some bytes → IsLonger content MAX_FILE → ⊥
     less None is more = more
-    less (Some held) is more = let same : held ≡ bytes = cc in let count : length held ≡ length bytes = ap length same in omega (arith, count, more, short)
+    less (Some held) is more = let same : held ≡ bytes = cc in let count : length held ≡ length bytes = ap length same
+        in omega (arith, count, more, short)
 
 -- a file that is too long is there
 longer_is_there : (files : Option Files) (name : List ℕ) → IsTooLong files name

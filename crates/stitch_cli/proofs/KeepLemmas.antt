@@ -21,12 +21,14 @@ use Rattle.stitch_cli.specs.Commands.{plan_of}
 use Rattle.stitch_cli.specs.Endings.{Delivers, Ends, Halts, all, but_report, halted, made, up_to}
 use Rattle.stitch_cli.specs.Hoops.{hoop_fitted, hoop_read}
 use Rattle.stitch_cli.specs.Migrations.{migrate_read}
-use Rattle.stitch_cli.specs.Orders.{CheckOrder, HoopOrder, MigrateOrder, Order, RewriteOrder, RouteOrder, ShowOrder, checking, hooping, migrating, outputs_of, rewriting, routing, sampling, showing}
+use Rattle.stitch_cli.specs.OrderNames.{CheckOrder, HoopOrder, MigrateOrder, RewriteOrder, RouteOrder, ShowOrder}
+use Rattle.stitch_cli.specs.Orders.{Order, checking, hooping, migrating, outputs_of, rewriting, routing, sampling, showing}
 use Rattle.stitch_cli.specs.Plans.{Makes, Plan}
 use Rattle.stitch_cli.specs.Products.{ChangesAmong, IsNoneOf, ProductValue, names_of}
 use Rattle.stitch_cli.specs.Rewrites.{rewrite_read}
 use Rattle.stitch_cli.specs.Routes.{route_above, route_read}
-use Rattle.stitch_cli.specs.Runs.{KeepsOthers, Sights}
+use Rattle.stitch_cli.specs.RunSights.{Sights}
+use Rattle.stitch_cli.specs.Runs.{KeepsOthers}
 use Rattle.stitch_cli.specs.Shows.{show_read}
 use Rattle.stitch_cli.proofs.DeliveryLemmas.{none_before}
 

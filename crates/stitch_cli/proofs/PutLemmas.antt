@@ -76,7 +76,8 @@ pub puts_on : (whole left piece rest : List ℕ) (before now next : SinkSight) �
     → left ≡ piece ++ rest → next ≡ fed now piece → PutsOn whole rest before next
 puts_on whole left piece rest before now next on is taken = record {
   ok = λ after more. on.ok after (subst (λ (xs : List ℕ). after ≡ fed now xs) (sym is) (fed-append now next after piece rest taken more));
-  err = λ after broke. on.err after (subst (λ (xs : List ℕ). Broke now after xs) (sym is) (broke-after now next after piece rest taken broke));
+  err = λ after broke. on.err after (subst (λ (xs : List ℕ). Broke now after xs) (sym is)
+      (broke-after now next after piece rest taken broke));
 }
 
 pub puts_broke : (whole left piece rest : List ℕ) (before now next : SinkSight) → PutsOn whole left before now

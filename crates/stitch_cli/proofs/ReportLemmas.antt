@@ -17,7 +17,7 @@ use Rattle.route_core.specs.Routes.{IsBest, walks_of}
 use Rattle.stitch_cli.specs.declared.reports.PieceReport.{PieceReport}
 use Rattle.stitch_cli.specs.RouteSteps.{reports_from}
 use Rattle.stitch_cli.specs.Routes.{piece_report, piece_reports}
-use Rattle.stitch_cli.specs.Texts.{penetrations_of}
+use Rattle.stitch_cli.specs.Reports.{penetrations_of}
 
 -- the reports of pieces are those of their lines
 pub reports_are : (d : DrawingValue) (number : ℕ) (pieces : List Piece) (certs : List PieceCert)

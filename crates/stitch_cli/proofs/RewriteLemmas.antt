@@ -9,7 +9,7 @@ use Rattle.stitch_cli.specs.declared.halt.Halt.{Halt}
 use Rattle.stitch_cli.specs.declared.halt.Halt.TheVariants as halt
 use Rattle.stitch_cli.specs.declared.product.Product.{Product}
 use Rattle.stitch_cli.specs.Endings.{IsPrepared, Settles}
-use Rattle.stitch_cli.specs.Orders.{RewriteOrder}
+use Rattle.stitch_cli.specs.OrderNames.{RewriteOrder}
 use Rattle.stitch_cli.specs.Plans.{decides}
 use Rattle.stitch_cli.specs.RewriteSteps.{ChangesTo, IsUnchangedFor, WriteOf}
 use Rattle.stitch_cli.specs.Rewrites.{RewriteOf, not_changed, not_written}

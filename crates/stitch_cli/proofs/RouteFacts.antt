@@ -7,7 +7,7 @@ use Rattle.certificate_text.specs.CertificateTexts.{line_end}
 use Rattle.design_model.specs.declared.point.Point.{Point}
 use Rattle.line_graph.specs.Drawings.{DrawingValue}
 use Rattle.stitch_cli.specs.Routes.{piece_reports}
-use Rattle.stitch_cli.specs.Texts.{route_report}
+use Rattle.stitch_cli.specs.Reports.{route_report}
 
 abbrev at : ℕ → ℕ → Point
 at x y = record { x = pos x; y = pos y }

@@ -13,11 +13,11 @@ use Rattle.line_graph.specs.Runs.{runs_of}
 use Rattle.route_core.specs.declared.routed.Routed.{Routed}
 use Rattle.route_core.specs.Routes.{IsBest, IsRouteOver, walks_of}
 use Rattle.stitch_cli.specs.declared.reports.PieceReport.{PieceReport}
-use Rattle.stitch_cli.specs.Orders.{RouteOrder}
+use Rattle.stitch_cli.specs.OrderNames.{RouteOrder}
 use Rattle.stitch_cli.specs.Products.{ProductValue, two_outputs}
 use Rattle.stitch_cli.specs.RouteSteps.{reports_from}
 use Rattle.stitch_cli.specs.Routes.{RouteMakes, SewsIn, piece_reports}
-use Rattle.stitch_cli.specs.Texts.{penetrations_of, route_report}
+use Rattle.stitch_cli.specs.Reports.{penetrations_of, route_report}
 use Rattle.stitch_cli.proofs.ReportLemmas.{penetrations_are, reports_are}
 use Rattle.stitch_cli.proofs.SewnDesigns.{runs_are_plain}
 

@@ -10,12 +10,15 @@ use Rattle.stitch_cli.specs.declared.status.Status.{Status}
 use Rattle.stitch_cli.specs.declared.status.Status.TheVariants as status
 use Rattle.stitch_cli.specs.Commands.{plan_of}
 use Rattle.stitch_cli.specs.Endings.{Answers, Delivers, Ends, Halts, IsPrepared, OrderEnds, Tells, all, but_report, halted, made, status_of, up_to}
-use Rattle.stitch_cli.specs.Orders.{Order, are_apart, hoop_order, hooping, hooping_by, rewriting, rewriting_by, routing, routing_to, show_order, showing, showing_by}
+use Rattle.stitch_cli.specs.OrderNames.{hoop_order, show_order}
+use Rattle.stitch_cli.specs.Orders.{Order, are_apart, hooping, hooping_by, rewriting, rewriting_by, routing, routing_to, showing, showing_by}
 use Rattle.stitch_cli.specs.Plans.{Makes}
 use Rattle.stitch_cli.specs.Products.{ProductValue, product_of}
 use Rattle.stitch_cli.specs.Refusals.{refusal_of}
-use Rattle.stitch_cli.specs.Runs.{CallsFor, IsDone, IsFault, IsMemory, IsRefused, IsUsage, RunEnds, Sights, failed, memory, missing, not_read, not_written, refused, seen, unprinted, usage}
-use Rattle.stitch_cli.specs.Texts.{halt_text, memory_line, refusal_line, unprinted_line, unread_line, unwritten_line, usage_text}
+use Rattle.stitch_cli.specs.RunSights.{Sights, seen}
+use Rattle.stitch_cli.specs.Runs.{CallsFor, IsDone, IsFault, IsMemory, IsRefused, IsUsage, RunEnds, failed, memory, missing, not_read, not_written, refused, unprinted, usage}
+use Rattle.stitch_cli.specs.UsageText.{usage_text}
+use Rattle.stitch_cli.specs.Texts.{halt_text, memory_line, refusal_line, unprinted_line, unread_line, unwritten_line}
 use Rattle.line_graph.specs.OnePieces.{PiecesAreOne}
 use Rattle.stitch_cli.proofs.DecisionLemmas.{decided}
 use Rattle.stitch_cli.proofs.KeepLemmas.{keeps_others}
@@ -28,7 +31,8 @@ ends_made None product store mid out err after s (never, same) delivers = absurd
 ends_made (Some order) product store mid out err after s prepared delivers = delivered prepared.is
   where
     delivered : IsPrepared (plan_of order) store mid (Ok product) → Ends (Some order) (seen store out err) after s
-    delivered (makes, fit, same) = made (product_of product) makes (subst (λ (t : StoreSight). Delivers (product_of product) (seen t out err) after s) same delivers)
+    delivered (makes, fit, same) = made (product_of product) makes
+        (subst (λ (t : StoreSight). Delivers (product_of product) (seen t out err) after s) same delivers)
 
 -- what halted is told
 pub ends_halted : (asked : Option Order) (store store' : StoreSight) (out err err' : SinkSight) (why : Halt) (s : Status)
@@ -176,7 +180,8 @@ fault_means asked before after s ends is =
     fault_out asked before after (comes_out asked before after status.Fault (subst (λ (t : Status). Ends asked before after t) is ends))
 
 -- how a run ends, in the words of its contract
-pub run_ends : PiecesAreOne → (asked : Option Order) (before after : Sights) (s : Status) → Ends asked before after s → RunEnds asked before after s
+pub run_ends : PiecesAreOne → (asked : Option Order) (before after : Sights) (s : Status) → Ends asked before after s
+    → RunEnds asked before after s
 run_ends one asked before after s ends = record {
   done = done_means asked before after s ends;
   refused = refused_means asked before after s ends;

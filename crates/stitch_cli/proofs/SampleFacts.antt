@@ -7,7 +7,7 @@ use Rattle.certificate_text.specs.CertificateTexts.{line_end}
 use Rattle.design_model.specs.declared.point.Point.{Point}
 use Rattle.line_graph.specs.Drawings.{DrawingValue}
 use Rattle.stitch_cli.specs.Samples.{summary_of}
-use Rattle.stitch_cli.specs.Texts.{summary_text}
+use Rattle.stitch_cli.specs.Reports.{summary_text}
 
 abbrev at : ℤ → ℤ → Point
 at x y = record { x = x; y = y }

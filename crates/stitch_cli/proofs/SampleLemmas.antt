@@ -16,13 +16,13 @@ use Rattle.route_core.specs.declared.routed.Routed.{Routed}
 use Rattle.route_core.specs.Routes.{IsBest, IsRouteOver}
 use Rattle.stitch_cli.specs.declared.reports.PieceReport.{PieceReport}
 use Rattle.stitch_cli.specs.declared.summary.Summary.{Summary}
-use Rattle.stitch_cli.specs.Orders.{SampleOrder}
+use Rattle.stitch_cli.specs.OrderNames.{SampleOrder}
 use Rattle.stitch_cli.specs.Products.{ProductValue, one_output}
 use Rattle.stitch_cli.specs.RouteSteps.{reports_from}
 use Rattle.stitch_cli.specs.Routes.{piece_report, piece_reports}
 use Rattle.stitch_cli.specs.SampleSteps.{junction_sum, odd_sum, summed}
 use Rattle.stitch_cli.specs.Samples.{TellsOf, cut_sum, junction_count, odd_count, over_pieces, retraced_sum, summary_of}
-use Rattle.stitch_cli.specs.Texts.{penetrations_of, summary_text}
+use Rattle.stitch_cli.specs.Reports.{penetrations_of, summary_text}
 use Rattle.stitch_cli.proofs.ReportLemmas.{reports_are}
 
 -- a sum over pieces that are cut from a drawing is one over their lines
@@ -97,7 +97,8 @@ summary_is number d pieces certs cut best =
     let told = report_sums d 1 (lines_of_pieces pieces) certs best in
     let same : reports_from 1 pieces certs ≡ piece_reports d 1 (lines_of_pieces pieces) certs = reports_are d 1 pieces certs cut.each in
     ap (summed number (length d.lines) pieces) same
-    ∙ all_same number (length d.lines) (sums_are junction_count d pieces cut.each) (sums_are odd_count d pieces cut.each) (lines_count pieces)
+    ∙ all_same number (length d.lines) (sums_are junction_count d pieces cut.each) (sums_are odd_count d pieces cut.each)
+    (lines_count pieces)
     told.cost told.retraced told.penetrations (ap (λ (n : ℕ). 2 * n) told.retraced ∙ sym told.cuts)
 
 -- a sample makes its drawing's spelling and the summary
@@ -111,5 +112,6 @@ sample_makes order d pieces routed s text report product cut route told spelled 
   pieces_are = route.pieces_are;
   best = route.best;
   made = made ∙ ap (λ (t : List ℕ). one_output order.drawing t report) spelled
-      ∙ ap (one_output order.drawing (plain_spelling d)) (reported ∙ ap summary_text (told ∙ summary_is order.number d pieces routed.cert.pieces cut route.best));
+      ∙ ap (one_output order.drawing (plain_spelling d)) (reported
+      ∙ ap summary_text (told ∙ summary_is order.number d pieces routed.cert.pieces cut route.best));
 }

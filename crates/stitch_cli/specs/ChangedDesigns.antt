@@ -14,7 +14,8 @@ use Rattle.stitch_cli.specs.declared.changing.ChangeFault.TheVariants as reason
 -- what a refit at that limit makes of a design
 abbrev pub RefitsTo : RefitMode → ℕ → DesignValue → Result DesignValue ChangeFault → Type 0
 RefitsTo m limit d (Ok refitted) = Refits m limit d (Ok refitted)
-RefitsTo m limit d (Err (reason.RefitTooMany number)) = Refits m limit d (Err (fault.TooMany number))
+RefitsTo m limit d (Err (reason.RefitTooMany number)) =
+    Refits m limit d (Err (fault.TooMany number))
 RefitsTo m limit d (Err _) = ⊥
 
 -- a shifted design, unless the point of a command would be out of range
@@ -31,7 +32,8 @@ threaded place number d = if nat_lt (place - 1) (place_count d)
 abbrev pub Becomes : ℕ → Change → DesignValue → Result DesignValue ChangeFault → Type 0
 Becomes limit split d r = RefitsTo mode.Split limit d r
 Becomes limit cut d r = RefitsTo mode.Cut limit d r
-Becomes limit (shift dx dy) d r = r ≡ shifted_unless (first_outside (shifted dx dy d).commands) (shifted dx dy d)
+Becomes limit (shift dx dy) d r = r ≡ shifted_unless (first_outside (shifted dx dy d).commands)
+    (shifted dx dy d)
 Becomes limit (turn quarters) d r = r ≡ Ok (turned quarters d)
 Becomes limit (mirror axis) d r = r ≡ Ok (mirrored axis d)
 Becomes limit (thread place number) d r = r ≡ threaded place number d

@@ -1,4 +1,5 @@
--- What the command `check` comes to: whether a design sews a drawing by the walks of a certificate, and the
+-- What the command `check` comes to: whether a design sews a drawing by the walks of a certificate,
+-- and the
 -- certificate proves that none undercuts them.
 use Rattle.std.specs.Prelude.{◌≡◌, ℕ, List, ◌++◌, Result, Ok, Err, codes}
 use Rattle.cut_certificate.specs.declared.certificate.PieceCert.{PieceCert}
@@ -13,12 +14,13 @@ use Rattle.line_graph.specs.Drawings.{DrawingValue}
 use Rattle.route_core.specs.declared.verdict.Reason.{Reason}
 use Rattle.route_core.specs.declared.verdict.Verdict.TheVariants as verdict
 use Rattle.route_core.specs.Verdicts.{IsVerdict, SewsLeast}
-use Rattle.stitch_cli.specs.Orders.{CheckOrder}
+use Rattle.stitch_cli.specs.OrderNames.{CheckOrder}
 use Rattle.stitch_cli.specs.Plans.{Plan, decides, reads, refuses}
 use Rattle.stitch_cli.specs.Products.{ProductValue, only_report}
 use Rattle.stitch_cli.specs.Refusals.{RefusalValue, disproved, uncertified, undrawn, unread}
 
--- the verdict is yes: the design sews for each piece of the drawing a fitting walk that none undercuts
+-- the verdict is yes: the design sews for each piece of the drawing a fitting walk that none
+-- undercuts
 pub record IsProved (d : DrawingValue) (design : DesignValue) (certs : List PieceCert)
     (product : ProductValue) : Type 0 where
   pub verdict : IsVerdict d design certs verdict.Yes
@@ -33,7 +35,8 @@ pub record IsDisproved (d : DrawingValue) (design : DesignValue) (certs : List P
   pub is : why ≡ disproved reason
 
 -- what comes of a drawing, a design and a certificate
-abbrev pub CheckOf : DrawingValue → DesignValue → List PieceCert → Result ProductValue RefusalValue → Type 0
+abbrev pub CheckOf : DrawingValue → DesignValue → List PieceCert → Result ProductValue RefusalValue
+    → Type 0
 CheckOf d design certs (Ok product) = IsProved d design certs product
 CheckOf d design certs (Err why) = IsDisproved d design certs why
 
@@ -44,12 +47,14 @@ check_cert order d design (Err number) = refuses (uncertified order.cert number)
 
 -- the certificate is read where the second file is one of its format
 abbrev pub check_design : CheckOrder → DrawingValue → Result Loaded ReadFault → Plan
-check_design order d (Ok loaded) = reads order.cert (λ bytes. check_cert order d loaded.design (cert_of bytes))
+check_design order d (Ok loaded) = reads order.cert
+    (λ bytes. check_cert order d loaded.design (cert_of bytes))
 check_design order d (Err fault) = refuses (unread order.file fault)
 
 -- the design is read where the first text says a drawing
 abbrev pub check_drawing : CheckOrder → Result DrawingValue DrawFault → Plan
-check_drawing order (Ok d) = reads order.file (λ bytes. check_design order d (order.format.reads bytes))
+check_drawing order (Ok d) = reads order.file
+    (λ bytes. check_design order d (order.format.reads bytes))
 check_drawing order (Err fault) = refuses (undrawn order.drawing fault)
 
 -- the plan of a check: the drawing, the design and the certificate are read in this order

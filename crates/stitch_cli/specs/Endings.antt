@@ -15,7 +15,7 @@ use Rattle.stitch_cli.specs.Plans.{ComesTo, IsInput, IsTooLong, Makes, Misses, P
 use Rattle.stitch_cli.specs.Products.{AreApart, AreNamed, ProductValue, Wrote, WroteUpTo, product_of}
 use Rattle.stitch_cli.specs.Puts.{Broke, fed}
 use Rattle.stitch_cli.specs.Refusals.{refusal_of, too_long}
-use Rattle.stitch_cli.specs.Runs.{Sights}
+use Rattle.stitch_cli.specs.RunSights.{Sights}
 use Rattle.stitch_cli.specs.Texts.{halt_text, unprinted_line, unwritten_line}
 
 -- the status of an order that came to no product
@@ -38,7 +38,8 @@ Halts plan store store' halt.Unasked = ⊥
 Halts plan store store' (halt.Missing name) = Misses plan store.files name.now × (store' ≡ store)
 Halts plan store store' (halt.NotRead name) = ComesTo plan store.files name.now
     × Faults store store' (read_of name.now) × (store'.files ≡ store.files)
-Halts plan store store' (halt.Refused why) = Refuses plan store.files (refusal_of why) × (store' ≡ store)
+Halts plan store store' (halt.Refused why) = Refuses plan store.files (refusal_of why)
+    × (store' ≡ store)
 Halts plan store store' halt.Memory = store' ≡ store
 
 -- a product that can be delivered
@@ -53,14 +54,16 @@ IsPrepared plan store store' (Ok product) = Makes plan store.files (product_of p
 IsPrepared plan store store' (Err why) = Halts plan store store' why
 
 -- the answer to a plan over a store
-pub record Prepares (plan : Plan) (store store' : StoreSight) (result : Result Product Halt) : Type 0 where
+pub record Prepares (plan : Plan) (store store' : StoreSight)
+    (result : Result Product Halt) : Type 0 where
   pub is : IsPrepared plan store store' result
 
 -- the answer to a plan that reads no file
 pub record Settles (plan : Plan) (result : Result Product Halt) : Type 0 where
   pub at : (store : StoreSight) → IsPrepared plan store store result
 
--- what words come to: nothing where they ask for none, and else what the plan of their order comes to
+-- what words come to: nothing where they ask for none, and else what the plan of their order comes
+-- to
 abbrev pub Answers : Option Order → StoreSight → StoreSight → Result Product Halt → Type 0
 Answers None store store' result = (result ≡ Err halt.Unasked) × (store' ≡ store)
 Answers (Some order) store store' result = Prepares (plan_of order) store store' result
@@ -86,18 +89,24 @@ Prints report out out' err err' s =
 -- a product is delivered, or a write or the print of its report failed and its line is told
 pub data Delivers (product : ProductValue) (before after : Sights) (s : Status) : Type 0 where
   all : s ≡ status.Done → Wrote product.outputs before.store after.store
-      → after.out ≡ fed before.out product.report → after.err ≡ before.err → Delivers product before after s
-  up_to : (name : List ℕ) → WroteUpTo product.outputs name before.store after.store → after.out ≡ before.out
-      → Tells (unwritten_line name) status.Fault before.err after.err s → Delivers product before after s
-  but_report : Wrote product.outputs before.store after.store → Broke before.out after.out product.report
+      → after.out ≡ fed before.out product.report → after.err ≡ before.err
+      → Delivers product before after s
+  up_to : (name : List ℕ) → WroteUpTo product.outputs name before.store after.store → after.out
+      ≡ before.out
+      → Tells (unwritten_line name) status.Fault before.err after.err s
+      → Delivers product before after s
+  but_report : Wrote product.outputs before.store after.store
+      → Broke before.out after.out product.report
       → Tells unprinted_line status.Fault before.err after.err s → Delivers product before after s
 
 -- an order ends: what its plan makes is delivered, or it came to no product and says why
 pub data OrderEnds (order : Order) (before after : Sights) (s : Status) : Type 0 where
   made : (product : ProductValue) → Makes (plan_of order) before.store.files product
       → Delivers product before after s → OrderEnds order before after s
-  halted : (why : Halt) → Halts (plan_of order) before.store after.store why → after.out ≡ before.out
-      → Tells (halt_text why) (status_of why) before.err after.err s → OrderEnds order before after s
+  halted : (why : Halt) → Halts (plan_of order) before.store after.store why → after.out
+      ≡ before.out
+      → Tells (halt_text why) (status_of why) before.err after.err s
+      → OrderEnds order before after s
 
 -- how the program ends, where the words spell this complete request, or none
 abbrev pub Ends : Option Order → Sights → Sights → Status → Type 0

@@ -6,15 +6,17 @@ use Rattle.hoop_check.specs.declared.fitting.Fit.{Fit}
 use Rattle.hoop_check.specs.declared.fitting.Fit.TheVariants as fit
 use Rattle.hoop_check.specs.Fits.{fit_of}
 use Rattle.certificate_text.specs.CertificateTexts.{line_end}
-use Rattle.stitch_cli.specs.Orders.{HoopOrder}
+use Rattle.stitch_cli.specs.OrderNames.{HoopOrder}
 use Rattle.stitch_cli.specs.Plans.{Plan, accepts, reads, refuses}
 use Rattle.stitch_cli.specs.Products.{only_report}
 use Rattle.stitch_cli.specs.Refusals.{too_large, unread}
 
 -- a design that fits into a hoop is told so; else by how much it is too large
 abbrev pub hoop_fitted : Fit → Plan
-hoop_fitted fit.Upright = accepts (λ product. product ≡ only_report (codes "fits upright" ++ line_end))
-hoop_fitted fit.Turned = accepts (λ product. product ≡ only_report (codes "fits turned" ++ line_end))
+hoop_fitted fit.Upright = accepts (λ product. product
+    ≡ only_report (codes "fits upright" ++ line_end))
+hoop_fitted fit.Turned = accepts (λ product. product
+    ≡ only_report (codes "fits turned" ++ line_end))
 hoop_fitted (fit.No over_x over_y) = refuses (too_large over_x over_y)
 
 -- a file that was read is held against the hoop, and one that was not is refused

@@ -7,8 +7,11 @@ pub mod Products
 pub mod Puts
 pub mod Plans
 pub mod ChangedDesigns
+pub mod OrderNames
 pub mod Orders
 pub mod Reasons
+pub mod Reports
+pub mod UsageText
 pub mod Texts
 -- read these first: what each command does, and what each status of the program means
 pub mod Routes
@@ -19,6 +22,8 @@ pub mod Shows
 pub mod Hoops
 pub mod Rewrites
 pub mod Commands
+pub mod RunSights
+pub mod RunFailures
 pub mod Runs
 pub mod Endings
 pub mod RewriteSteps

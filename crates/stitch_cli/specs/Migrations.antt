@@ -6,13 +6,14 @@ use Rattle.drawing_text.specs.Spelling.{plain_spelling2}
 use Rattle.line_graph.specs.Drawings.{DrawingValue}
 use Rattle.line_graph.specs.Growing.{step_count}
 use Rattle.line_graph.specs.Pieces.{ArePieces}
-use Rattle.stitch_cli.specs.Orders.{MigrateOrder}
+use Rattle.stitch_cli.specs.OrderNames.{MigrateOrder}
 use Rattle.stitch_cli.specs.Plans.{Plan, accepts, reads, refuses}
 use Rattle.stitch_cli.specs.Products.{ProductValue, one_output}
 use Rattle.stitch_cli.specs.Refusals.{undrawn}
-use Rattle.stitch_cli.specs.Texts.{migrate_report}
+use Rattle.stitch_cli.specs.Reports.{migrate_report}
 
--- a drawing is written in its plain spelling of version 2, and the report counts its lines and its pieces and
+-- a drawing is written in its plain spelling of version 2, and the report counts its lines and its
+-- pieces and
 -- tells what the lines cost
 pub record IsMigrated (output : List ℕ) (d : DrawingValue) (product : ProductValue) : Type 0 where
   pub pieces : List (List ℕ)

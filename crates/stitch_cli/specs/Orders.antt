@@ -1,103 +1,12 @@
 -- Requests that are complete: the formats that they need are there, and their names differ.
 use Rattle.std.specs.Prelude.{ℕ, Bool, ◌&&◌, not, List, [], ◌∷◌, Option, Some, None, bytes_eq, slice_get, if◌then◌else◌}
 use Rattle.std.specs.Option.{option_and_then}
-use Rattle.command_words.specs.declared.requests.CheckNames.{CheckNames}
-use Rattle.command_words.specs.declared.requests.Names.{Names}
-use Rattle.command_words.specs.declared.requests.RouteNames.{RouteNames}
 use Rattle.command_words.specs.Changes.{Change}
 use Rattle.command_words.specs.Requests.{Asked, asked_of, check, convert, edit, hoop, migrate, route, sample, show}
 use Rattle.command_words.specs.Words.{refits}
 use Rattle.format_traits.specs.Meanings.{Meaning}
 use Rattle.format_traits.specs.Endings.{found_in}
-
--- the files that a route names, and what the format of its output means
-pub record RouteOrder : Type 0 where
-  pub drawing : List ℕ
-  pub out : List ℕ
-  pub cert : List ℕ
-  pub format : Meaning
-
--- the files that a check reads, and what the format of the design means
-pub record CheckOrder : Type 0 where
-  pub drawing : List ℕ
-  pub file : List ℕ
-  pub cert : List ℕ
-  pub format : Meaning
-
--- the number of a sample drawing, and the file that it is written to
-pub record SampleOrder : Type 0 where
-  pub number : ℕ
-  pub drawing : List ℕ
-
--- the drawing that is read, and the file that it is written to
-pub record MigrateOrder : Type 0 where
-  pub input : List ℕ
-  pub output : List ℕ
-
--- the file that is shown, and what its format means
-pub record ShowOrder : Type 0 where
-  pub file : List ℕ
-  pub format : Meaning
-
--- the file that is read and the one that is written, what their formats mean, and the changes between
-pub record RewriteOrder : Type 0 where
-  pub input : List ℕ
-  pub output : List ℕ
-  pub source : Meaning
-  pub target : Meaning
-  pub changes : List Change
-
--- the file whose design is to fit into a hoop, what its format means, and the hoop's sides
-pub record HoopOrder : Type 0 where
-  pub file : List ℕ
-  pub format : Meaning
-  pub width : ℕ
-  pub height : ℕ
-
--- the order of a route by its names and by what its format means
-abbrev pub route_order : RouteNames → Meaning → RouteOrder
-route_order names format = record {
-  drawing = names.drawing.now;
-  out = names.out.now;
-  cert = names.cert.now;
-  format = format;
-}
-
--- the order of a check by its names and by what its format means
-abbrev pub check_order : CheckNames → Meaning → CheckOrder
-check_order names format = record {
-  drawing = names.drawing.now;
-  file = names.file.now;
-  cert = names.cert.now;
-  format = format;
-}
-
--- the order of a sample by its number and the name of its file
-abbrev pub sample_order : ℕ → List ℕ → SampleOrder
-sample_order number drawing = record { number = number; drawing = drawing }
-
--- the order of a migration by its names
-abbrev pub migrate_order : (input output : List ℕ) → MigrateOrder
-migrate_order input output = record { input = input; output = output }
-
--- the order of showing a file by what its format means
-abbrev pub show_order : List ℕ → Meaning → ShowOrder
-show_order file format = record { file = file; format = format }
-
--- the order of a rewriting by its names, by what their formats mean, and by its changes
-abbrev pub rewrite_order : Names → Meaning → Meaning → List Change → RewriteOrder
-rewrite_order names source target changes = record {
-  input = names.input.now;
-  output = names.output.now;
-  source = source;
-  target = target;
-  changes = changes;
-}
-
--- the order of checking a hoop
-abbrev pub hoop_order : List ℕ → Meaning → ℕ → ℕ → HoopOrder
-hoop_order file format width height =
-    record { file = file; format = format; width = width; height = height }
+use Rattle.stitch_cli.specs.OrderNames.{RouteOrder, CheckOrder, SampleOrder, MigrateOrder, ShowOrder, RewriteOrder, HoopOrder, sample_order, migrate_order}
 
 -- no two of the three names are equal
 abbrev pub are_apart : List ℕ → List ℕ → List ℕ → Bool
@@ -141,7 +50,8 @@ showing_by file None = None
 showing_by file (Some format) = Some (showing (record { file = file; format = format }))
 
 -- the rewriting between those files by these formats, where there are both and the names differ
-abbrev pub rewriting_by : (input output : List ℕ) → List Change → Option Meaning → Option Meaning → Option Order
+abbrev pub rewriting_by : (input output : List ℕ) → List Change → Option Meaning → Option Meaning
+    → Option Order
 rewriting_by input output changes None target = None
 rewriting_by input output changes (Some source) None = None
 rewriting_by input output changes (Some source) (Some target) =
@@ -165,15 +75,18 @@ abbrev pub completed : List Meaning → Option Asked → Option Order
 completed formats None = None
 completed formats (Some (route drawing out cert)) =
     routing_to drawing out cert (format_of formats out)
-completed formats (Some (check drawing file cert)) = checking_by drawing file cert (format_of formats file)
+completed formats (Some (check drawing file cert)) =
+    checking_by drawing file cert (format_of formats file)
 completed formats (Some (sample number drawing)) = Some (sampling (sample_order number drawing))
 completed formats (Some (migrate input output)) = migrating_to input output
 completed formats (Some (convert input output splits cuts)) =
-    rewriting_by input output (refits splits cuts) (format_of formats input) (format_of formats output)
+    rewriting_by input output (refits splits cuts) (format_of formats input)
+    (format_of formats output)
 completed formats (Some (show file)) = showing_by file (format_of formats file)
 completed formats (Some (edit input output edits)) =
     rewriting_by input output edits (format_of formats input) (format_of formats output)
-completed formats (Some (hoop file width height)) = hooping_by file width height (format_of formats file)
+completed formats (Some (hoop file width height)) =
+    hooping_by file width height (format_of formats file)
 
 -- the complete request that the words spell, where they spell one
 abbrev pub order_of : List Meaning → List (List ℕ) → Option Order

@@ -1,4 +1,5 @@
--- What a command does with the files that it reads: one after another, and the first step that does not succeed
+-- What a command does with the files that it reads: one after another, and the first step that does
+-- not succeed
 -- decides.
 use Rattle.std.specs.Prelude.{◌≡◌, ◌⊎◌, ℕ, ◌≤◌, List, length, Option, Result, Ok, Err}
 use Rattle.outside_io.specs.Causes.{IsLonger}
@@ -7,7 +8,8 @@ use Rattle.outside_io.specs.declared.limits.TheConstants.{MAX_FILE}
 use Rattle.stitch_cli.specs.Products.{ProductValue}
 use Rattle.stitch_cli.specs.Refusals.{RefusalValue, too_long}
 
--- a plan: to read a file and go on by its bytes; to be refused; to be accepted, and to make a product of which
+-- a plan: to read a file and go on by its bytes; to be refused; to be accepted, and to make a
+-- product of which
 -- this holds; or to be decided, by a relation that tells the product or the reason
 pub data Plan : Type 1 where
   reads : (name : List ℕ) → (List ℕ → Plan) → Plan
@@ -26,14 +28,16 @@ IsTooLong files name = WhereTold files (λ told. IsLonger (told name) MAX_FILE)
 
 -- with these files the plan makes this product
 abbrev pub Makes : Plan → Option Files → ProductValue → Type 0
-Makes (reads name next) files product = (bytes : List ℕ) × IsInput files name bytes × Makes (next bytes) files product
+Makes (reads name next) files product = (bytes : List ℕ) × IsInput files name bytes
+    × Makes (next bytes) files product
 Makes (refuses why) files product = ⊥
 Makes (accepts Is) files product = Is product
 Makes (decides Is) files product = Is (Ok product)
 
 -- with these files the plan is accepted
 abbrev pub IsAccepted : Plan → Option Files → Type 0
-IsAccepted (reads name next) files = (bytes : List ℕ) × IsInput files name bytes × IsAccepted (next bytes) files
+IsAccepted (reads name next) files = (bytes : List ℕ) × IsInput files name bytes
+    × IsAccepted (next bytes) files
 IsAccepted (refuses why) files = ⊥
 IsAccepted (accepts Is) files = Unit {0}
 IsAccepted (decides Is) files = (product : ProductValue) × Is (Ok product)
@@ -49,7 +53,8 @@ Refuses (decides Is) files why = Is (Err why)
 -- with these files the plan comes to read that one
 abbrev pub ComesTo : Plan → Option Files → List ℕ → Type 0
 ComesTo (reads name next) files asked =
-    (asked ≡ name) ⊎ ((bytes : List ℕ) × IsInput files name bytes × ComesTo (next bytes) files asked)
+    (asked ≡ name) ⊎ ((bytes : List ℕ) × IsInput files name bytes
+    × ComesTo (next bytes) files asked)
 ComesTo (refuses why) files asked = ⊥
 ComesTo (accepts Is) files asked = ⊥
 ComesTo (decides Is) files asked = ⊥

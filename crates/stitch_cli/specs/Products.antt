@@ -66,7 +66,8 @@ AreApart (o ∷ rest) = IsNoneOf (names_of rest) o.name × AreApart rest
 -- every file but the named ones stays; what is told stays told, and what is untold stays untold
 abbrev pub ChangesAmong : List (List ℕ) → Option Files → Option Files → Type 0
 ChangesAmong names None None = Unit {0}
-ChangesAmong names (Some old) (Some new) = (name : List ℕ) → IsNoneOf names name → new name ≡ old name
+ChangesAmong names (Some old) (Some new) = (name : List ℕ) → IsNoneOf names name → new name
+    ≡ old name
 ChangesAmong names None (Some new) = ⊥
 ChangesAmong names (Some old) None = ⊥
 
@@ -84,7 +85,8 @@ pub record Wrote (outputs : List Written) (before after : StoreSight) : Type 0 w
 
 -- the file of that name, one of the outputs, could not be written: those before it are written, and
 -- those after it aren't
-pub record WroteUpTo (outputs : List Written) (name : List ℕ) (before after : StoreSight) : Type 0 where
+pub record WroteUpTo (outputs : List Written) (name : List ℕ)
+    (before after : StoreSight) : Type 0 where
   pub done : List Written
   pub lost : Written
   pub left : List Written

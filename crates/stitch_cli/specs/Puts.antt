@@ -18,6 +18,7 @@ pub record Broke (before after : SinkSight) (bytes : List ℕ) : Type 0 where
   pub rose : Rose before.faults after.faults
 
 -- what an answer to putting these bytes means
-pub record Puts {T : Type 0} (bytes : List ℕ) (before after : SinkSight) (result : Result T Failed) : Type 0 where
+pub record Puts {T : Type 0} (bytes : List ℕ) (before after : SinkSight)
+    (result : Result T Failed) : Type 0 where
   pub ok : OnOk result (after ≡ fed before bytes)
   pub err : OnErr result (Broke before after bytes)

@@ -1,4 +1,5 @@
--- Why a check says no, as a line on the standard error. Pieces, passes, cuts, junctions, lines and acts are told by
+-- Why a check says no, as a line on the standard error. Pieces, passes, cuts, junctions, lines and
+-- acts are told by
 -- number, from 1.
 use Rattle.std.specs.Prelude.{ℕ, List, [], ◌++◌, codes, decimal}
 use Rattle.cut_certificate.specs.declared.faults.CutFault.{CutFault}
@@ -33,15 +34,18 @@ two_no piece before one between two after =
 -- a line about a piece with three further numbers
 abbrev pub three_no : (piece before one between two behind three : List ℕ) → List ℕ
 three_no piece before one between two behind three =
-    piece_no piece (with_number before one (with_number between two (with_number behind three line_end)))
+    piece_no piece (with_number before one (with_number between two
+    (with_number behind three line_end)))
 
 -- what is wrong with the walk of a piece
 abbrev pub walk_no : ℕ → WalkFault → List ℕ
 walk_no piece (walk.Stranger pass) =
     one_no (decimal piece) (codes ": pass ") (decimal pass) (codes " is not a line of the piece")
 walk_no piece (walk.Broken pass) =
-    one_no (decimal piece) (codes ": pass ") (decimal pass) (codes " does not start where the one before ends")
-walk_no piece walk.WrongStart = plain_no (decimal piece) (codes ": walk does not begin at its start")
+    one_no (decimal piece) (codes ": pass ") (decimal pass)
+    (codes " does not start where the one before ends")
+walk_no piece walk.WrongStart = plain_no (decimal piece)
+    (codes ": walk does not begin at its start")
 walk_no piece walk.WrongEnd = plain_no (decimal piece) (codes ": walk does not end at its end")
 walk_no piece walk.Open = plain_no (decimal piece) (codes ": walk is not closed")
 walk_no piece (walk.Missing line) =
@@ -49,11 +53,13 @@ walk_no piece (walk.Missing line) =
 
 -- what is wrong with the cuts of a piece
 abbrev pub cuts_no : ℕ → CutFault → List ℕ
-cuts_no piece (cut.Stranger number junction) = two_no (decimal piece) (codes ": cut ") (decimal number)
+cuts_no piece (cut.Stranger number junction) =
+    two_no (decimal piece) (codes ": cut ") (decimal number)
     (codes " names junction ") (decimal junction) []
 cuts_no piece (cut.EvenCut number odd) = two_no (decimal piece) (codes ": cut ") (decimal number)
     (codes " holds ") (decimal odd) (codes " odd junctions")
-cuts_no piece (cut.Overload line load allowed) = three_no (decimal piece) (codes ": line ") (decimal line)
+cuts_no piece (cut.Overload line load allowed) =
+    three_no (decimal piece) (codes ": line ") (decimal line)
     (codes " carries ") (decimal load) (codes " halves, allowed ") (decimal allowed)
 cuts_no piece (cut.Total sum needed) = two_no (decimal piece) (codes ": cuts give ") (decimal sum)
     (codes " halves, needed ") (decimal needed) []
@@ -71,7 +77,8 @@ act_no number = with_number (codes "stitch: no: act ") number (codes " differs" 
 abbrev pub reason_line : Reason → List ℕ
 reason_line (reason.Pieces found drawn) = counts_no (decimal found) (decimal drawn)
 reason_line (reason.Walk piece fault) = walk_no piece fault
-reason_line (reason.Retraced piece said found) = two_no (decimal piece) (codes ": retraced ") (decimal said)
+reason_line (reason.Retraced piece said found) =
+    two_no (decimal piece) (codes ": retraced ") (decimal said)
     (codes " said, ") (decimal found) (codes " found")
 reason_line (reason.Cuts piece fault) = cuts_no piece fault
 reason_line (reason.Acts number) = act_no (decimal number)

@@ -1,4 +1,5 @@
--- Why an order is refused: each reason with what its line says. A name is the bytes of a file's name.
+-- Why an order is refused: each reason with what its line says. A name is the bytes of a file's
+-- name.
 use Rattle.std.specs.Prelude.{ℕ, List}
 use Rattle.drawing_text.specs.declared.draw_fault.DrawFault.{DrawFault}
 use Rattle.format_traits.specs.declared.fault.ReadFault.{ReadFault}
@@ -24,7 +25,8 @@ pub data RefusalValue : Type 0 where
 abbrev pub refusal_of : Refusal → RefusalValue
 refusal_of (refusal.TooLong name) = too_long name.now
 refusal_of (refusal.Undrawn name fault) = undrawn name.now fault
-refusal_of (refusal.StepTooLong name step limit ending) = step_too_long name.now step limit ending.now
+refusal_of (refusal.StepTooLong name step limit ending) =
+    step_too_long name.now step limit ending.now
 refusal_of (refusal.Unread name fault) = unread name.now fault
 refusal_of (refusal.Unchanged names fault) = unchanged names.input.now names.output.now fault
 refusal_of (refusal.Unwritten name limit fault) = unwritten name.now limit fault

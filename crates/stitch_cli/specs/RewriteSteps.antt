@@ -46,12 +46,14 @@ ChangesTo limit changes d (Err (unchanged.For fault)) = BecomesAll limit changes
 ChangesTo limit changes d (Err unchanged.Memory) = Unit {0}
 
 -- what one edit makes of a design in place
-abbrev pub EditsTo : {T : Type 0} → ℕ → Change → DesignValue → Result T ChangeFault → DesignValue → Type 0
+abbrev pub EditsTo : {T : Type 0} → ℕ → Change → DesignValue → Result T ChangeFault → DesignValue
+    → Type 0
 EditsTo limit change old (Ok _) new = Becomes limit change old (Ok new)
 EditsTo limit change old (Err why) new = Becomes limit change old (Err why)
 
 -- the file of a design and the report on it are the product
-pub record IsWrittenAs (name : List ℕ) (target : Meaning) (d : DesignValue) (product : ProductValue) : Type 0 where
+pub record IsWrittenAs (name : List ℕ) (target : Meaning) (d : DesignValue)
+    (product : ProductValue) : Type 0 where
   pub out : List ℕ
   pub written : target.writes d ≡ Ok out
   pub again : ReadsAgain target d out
@@ -59,7 +61,8 @@ pub record IsWrittenAs (name : List ℕ) (target : Meaning) (d : DesignValue) (p
   pub made : product ≡ one_output name out (written_report (counts_of d))
 
 -- the format can't write the design
-pub record IsNotWritten (name : List ℕ) (target : Meaning) (d : DesignValue) (why : RefusalValue) : Type 0 where
+pub record IsNotWritten (name : List ℕ) (target : Meaning) (d : DesignValue)
+    (why : RefusalValue) : Type 0 where
   pub fault : WriteFault
   pub is : why ≡ unwritten name target.limit fault
   pub refuses : target.writes d ≡ Err fault
@@ -77,4 +80,5 @@ IsRefusedAs reason _ = ⊥
 -- the halt of a design that was not changed
 abbrev pub IsUnchangedFor : (input output : List ℕ) → Unchanged → Halt → Type 0
 IsUnchangedFor input output unchanged.Memory why = why ≡ halt.Memory
-IsUnchangedFor input output (unchanged.For fault) why = IsRefusedAs (refused.unchanged input output fault) why
+IsUnchangedFor input output (unchanged.For fault) why =
+    IsRefusedAs (refused.unchanged input output fault) why

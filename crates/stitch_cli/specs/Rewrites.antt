@@ -9,7 +9,7 @@ use Rattle.format_traits.specs.declared.loaded.Loaded.{Loaded}
 use Rattle.format_traits.specs.Laws.{MovesWithin, ReadsAgain}
 use Rattle.stitch_cli.specs.declared.changing.ChangeFault.{ChangeFault}
 use Rattle.stitch_cli.specs.ChangedDesigns.{BecomesAll}
-use Rattle.stitch_cli.specs.Orders.{RewriteOrder}
+use Rattle.stitch_cli.specs.OrderNames.{RewriteOrder}
 use Rattle.stitch_cli.specs.Plans.{Plan, decides, reads, refuses}
 use Rattle.stitch_cli.specs.Products.{ProductValue, one_output}
 use Rattle.stitch_cli.specs.Refusals.{RefusalValue, unchanged, unread, unwritten}
@@ -20,9 +20,11 @@ abbrev pub written_report : Counts → List ℕ
 written_report counts = number_text (codes "needles ") counts.needles
     ++ (number_text (codes " trims ") counts.trims ++ number_line (codes " stops ") counts.stops)
 
--- the design becomes another by the changes, and that is written: what is written reads again as the same
+-- the design becomes another by the changes, and that is written: what is written reads again as
+-- the same
 -- acts, and no record of it moves farther than the limit
-pub record Rewritten (order : RewriteOrder) (loaded : Loaded) (product : ProductValue) : Type 0 where
+pub record Rewritten (order : RewriteOrder) (loaded : Loaded)
+    (product : ProductValue) : Type 0 where
   pub design : DesignValue
   pub becomes : BecomesAll order.target.limit order.changes loaded.design (Ok design)
   pub out : List ℕ
@@ -34,7 +36,8 @@ pub record Rewritten (order : RewriteOrder) (loaded : Loaded) (product : Product
 -- a change is refused, or what the design became can't be written
 pub data NotRewritten (order : RewriteOrder) (loaded : Loaded) (why : RefusalValue) : Type 0 where
   not_changed : (fault : ChangeFault) → why ≡ unchanged order.input order.output fault
-      → BecomesAll order.target.limit order.changes loaded.design (Err fault) → NotRewritten order loaded why
+      → BecomesAll order.target.limit order.changes loaded.design (Err fault)
+      → NotRewritten order loaded why
   not_written : (design : DesignValue) (fault : WriteFault)
       → why ≡ unwritten order.output order.target.limit fault
       → BecomesAll order.target.limit order.changes loaded.design (Ok design)

@@ -16,15 +16,16 @@ use Rattle.drawing_text.specs.declared.draw_fault.DrawFault.{DrawFault}
 use Rattle.drawing_text.specs.DrawingText.{drawing_of}
 use Rattle.route_core.specs.Routes.{IsBest, walks_of}
 use Rattle.stitch_cli.specs.declared.reports.PieceReport.{PieceReport}
-use Rattle.stitch_cli.specs.Orders.{RouteOrder}
+use Rattle.stitch_cli.specs.OrderNames.{RouteOrder}
 use Rattle.stitch_cli.specs.Plans.{Plan, accepts, reads, refuses}
 use Rattle.stitch_cli.specs.Products.{ProductValue, two_outputs}
 use Rattle.stitch_cli.specs.Refusals.{step_too_long, undrawn}
-use Rattle.stitch_cli.specs.Texts.{route_report}
+use Rattle.stitch_cli.specs.Reports.{route_report}
 
 -- the bytes are what the format writes for the sewn design; read by the format's meaning they have
 -- an end and sew the drawing by the walks, and no record moves farther than the format's limit
-pub record SewsIn (format : Meaning) (d : DrawingValue) (walks : List (List Pass)) (bytes : List ℕ) : Type 0 where
+pub record SewsIn (format : Meaning) (d : DrawingValue) (walks : List (List Pass))
+    (bytes : List ℕ) : Type 0 where
   pub written : format.writes (sewn_design d walks) ≡ Ok bytes
   pub read : IsOkAnd (format.reads bytes)
       (λ loaded. (loaded.ended ≡ true) × Sews d walks (acts_of loaded.design))
@@ -40,7 +41,8 @@ piece_report p number cert = record {
   retraced = cert.retraced;
 }
 
--- what the report says of pieces of a drawing, each with its certificate, numbered from that number on
+-- what the report says of pieces of a drawing, each with its certificate, numbered from that number
+-- on
 abbrev pub piece_reports : DrawingValue → ℕ → List (List ℕ) → List PieceCert → List PieceReport
 piece_reports d number [] certs = []
 piece_reports d number (lines ∷ pieces) [] = []
@@ -48,7 +50,8 @@ piece_reports d number (lines ∷ pieces) (cert ∷ certs) =
     piece_report (piece_of d lines) number cert ∷ piece_reports d (number + 1) pieces certs
 
 -- a drawing is sewn by best walks over its pieces: its design, its certificate and its report
-pub record IsRouted (format : Meaning) (d : DrawingValue) (bytes cert report : List ℕ) : Type 0 where
+pub record IsRouted (format : Meaning) (d : DrawingValue)
+    (bytes cert report : List ℕ) : Type 0 where
   pub pieces : List (List ℕ)
   pub certs : List PieceCert
   pub pieces_are : ArePieces d pieces
@@ -57,9 +60,11 @@ pub record IsRouted (format : Meaning) (d : DrawingValue) (bytes cert report : L
   pub cert_is : cert ≡ certificate_text certs
   pub report_is : report ≡ route_report (piece_reports d 1 pieces certs)
 
--- what an accepted drawing makes: the certificate of best walks, which is written first, the file of the
+-- what an accepted drawing makes: the certificate of best walks, which is written first, the file
+-- of the
 -- design that sews it by them, and the report
-pub record RouteMakes (order : RouteOrder) (d : DrawingValue) (product : ProductValue) : Type 0 where
+pub record RouteMakes (order : RouteOrder) (d : DrawingValue)
+    (product : ProductValue) : Type 0 where
   pub design : List ℕ
   pub cert : List ℕ
   pub report : List ℕ

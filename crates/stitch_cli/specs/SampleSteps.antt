@@ -5,7 +5,7 @@ use Rattle.line_graph.specs.CutPieces.{graph_of}
 use Rattle.stitch_cli.specs.declared.reports.PieceReport.{PieceReport}
 use Rattle.stitch_cli.specs.declared.summary.Summary.{Summary}
 use Rattle.stitch_cli.specs.Samples.{junction_count, odd_count}
-use Rattle.stitch_cli.specs.Texts.{penetrations_of}
+use Rattle.stitch_cli.specs.Reports.{penetrations_of}
 
 -- the junctions of pieces
 abbrev pub junction_sum : List Piece → ℕ

@@ -11,10 +11,10 @@ use Rattle.line_graph.specs.PieceWalks.{piece_cost}
 use Rattle.route_core.specs.Routes.{IsBest}
 use Rattle.sample_drawings.specs.Samples.{sample_of}
 use Rattle.stitch_cli.specs.declared.summary.Summary.{Summary}
-use Rattle.stitch_cli.specs.Orders.{SampleOrder}
+use Rattle.stitch_cli.specs.OrderNames.{SampleOrder}
 use Rattle.stitch_cli.specs.Plans.{Plan, accepts}
 use Rattle.stitch_cli.specs.Products.{ProductValue, one_output}
-use Rattle.stitch_cli.specs.Texts.{summary_text}
+use Rattle.stitch_cli.specs.Reports.{summary_text}
 
 -- the sum of a number over pieces of a drawing
 abbrev pub over_pieces : (PieceValue → ℕ) → DrawingValue → List (List ℕ) → ℕ
@@ -35,7 +35,8 @@ retraced_sum certs = sum_by (λ cert. cert.retraced) certs
 abbrev pub cut_sum : List PieceCert → ℕ
 cut_sum certs = sum_by (λ cert. total_of cert.cuts) certs
 
--- what is told of the drawing with that number and of a route over its pieces: each walk puts the needle down
+-- what is told of the drawing with that number and of a route over its pieces: each walk puts the
+-- needle down
 -- once more often than it costs steps
 abbrev pub summary_of : ℕ → DrawingValue → List (List ℕ) → List PieceCert → Summary
 summary_of number d pieces certs = record {
@@ -56,7 +57,8 @@ pub record TellsOf (order : SampleOrder) (d : DrawingValue) (product : ProductVa
   pub certs : List PieceCert
   pub pieces_are : ArePieces d pieces
   pub best : AllZip (IsBest d) pieces certs
-  pub made : product ≡ one_output order.drawing (plain_spelling d) (summary_text (summary_of order.number d pieces certs))
+  pub made : product ≡ one_output order.drawing (plain_spelling d)
+      (summary_text (summary_of order.number d pieces certs))
 
 -- the plan of a sample: no number is refused
 abbrev pub sample_plan : SampleOrder → Plan

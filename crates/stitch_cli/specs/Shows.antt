@@ -11,7 +11,7 @@ use Rattle.design_model.specs.Extents.{extent_of}
 use Rattle.format_traits.specs.declared.fault.ReadFault.{ReadFault}
 use Rattle.format_traits.specs.declared.loaded.Loaded.{Loaded}
 use Rattle.certificate_text.specs.CertificateTexts.{line_end}
-use Rattle.stitch_cli.specs.Orders.{ShowOrder}
+use Rattle.stitch_cli.specs.OrderNames.{ShowOrder}
 use Rattle.stitch_cli.specs.Plans.{Plan, accepts, reads, refuses}
 use Rattle.stitch_cli.specs.Products.{only_report}
 use Rattle.stitch_cli.specs.Refusals.{unread}
@@ -71,7 +71,8 @@ show_report ending loaded = title_lines ending loaded.design.label
 
 -- a file that was read is shown, and one that was not is refused
 abbrev pub show_read : ShowOrder → Result Loaded ReadFault → Plan
-show_read order (Ok loaded) = accepts (λ product. product ≡ only_report (show_report order.format.ending loaded))
+show_read order (Ok loaded) = accepts (λ product. product
+    ≡ only_report (show_report order.format.ending loaded))
 show_read order (Err fault) = refuses (unread order.file fault)
 
 -- the plan of showing a file

@@ -1,5 +1,5 @@
 -- The program's own texts: reports on standard output, one line or the usage on standard error.
-use Rattle.std.specs.Prelude.{ℕ, ◌+◌, List, [], ◌∷◌, ◌++◌, codes, decimal, sum_by, length}
+use Rattle.std.specs.Prelude.{ℕ, ◌+◌, List, ◌++◌, codes, decimal}
 use Rattle.format_traits.specs.declared.fault.ReadFault.{ReadFault}
 use Rattle.format_traits.specs.declared.fault.ReadFault.TheVariants as read
 use Rattle.format_traits.specs.declared.fault.WriteFault.{WriteFault}
@@ -8,81 +8,13 @@ use Rattle.certificate_text.specs.CertificateTexts.{line_end}
 use Rattle.line_graph.specs.declared.draw_kind.DrawKind.{DrawKind}
 use Rattle.line_graph.specs.declared.draw_kind.DrawKind.TheVariants as kind
 use Rattle.drawing_text.specs.declared.draw_fault.DrawFault.{DrawFault}
-use Rattle.stitch_cli.specs.declared.reports.PieceReport.{PieceReport}
-use Rattle.stitch_cli.specs.declared.summary.Summary.{Summary}
 use Rattle.stitch_cli.specs.declared.changing.ChangeFault.{ChangeFault}
 use Rattle.stitch_cli.specs.declared.changing.ChangeFault.TheVariants as reason
 use Rattle.stitch_cli.specs.declared.halt.Halt.{Halt}
 use Rattle.stitch_cli.specs.declared.halt.Halt.TheVariants as halt
 use Rattle.stitch_cli.specs.Reasons.{reason_line}
 use Rattle.stitch_cli.specs.Refusals.{RefusalValue, disproved, refusal_of, step_too_long, too_large, too_long, uncertified, unchanged, undrawn, unread, unwritten}
-
--- what the words may be
-abbrev pub usage_text : List ℕ
-usage_text = codes "usage: stitch route DRAWING OUT CERT" ++ line_end
-    ++ codes "       stitch check DRAWING FILE CERT" ++ line_end
-    ++ codes "       stitch convert IN OUT [--split] [--cut]" ++ line_end
-    ++ codes "       stitch show FILE" ++ line_end
-    ++ codes "       stitch edit IN OUT EDIT..." ++ line_end
-    ++ codes "       stitch hoop FILE WIDTH HEIGHT" ++ line_end
-    ++ codes "       stitch sample N DRAWING" ++ line_end
-    ++ codes "       stitch migrate DRAWING OUT" ++ line_end
-
--- how often the needle goes down in a piece
-abbrev pub penetrations_of : PieceReport → ℕ
-penetrations_of piece = piece.cost + piece.retraced + 1
-
--- where a piece stands, and how many lines it has
-abbrev pub piece_place : PieceReport → List ℕ
-piece_place piece = codes "block " ++ (decimal piece.block ++ (codes " piece "
-    ++ (decimal piece.piece ++ (codes " lines " ++ decimal piece.lines))))
-
--- what a piece costs, and how often the needle goes down
-abbrev pub cost_text : PieceReport → List ℕ
-cost_text piece = codes " cost " ++ (decimal piece.cost ++ (codes " retraced "
-    ++ (decimal piece.retraced ++ (codes " penetrations " ++ (decimal (penetrations_of piece) ++ line_end)))))
-
--- the line of a piece
-abbrev pub piece_line : PieceReport → List ℕ
-piece_line piece = piece_place piece ++ cost_text piece
-
--- the lines of the pieces
-abbrev pub piece_lines : List PieceReport → List ℕ
-piece_lines [] = []
-piece_lines (piece ∷ rest) = piece_line piece ++ piece_lines rest
-
--- the line of the sums
-abbrev pub totals_line : ℕ → ℕ → List ℕ
-totals_line pieces penetrations = codes "pieces " ++ (decimal pieces
-    ++ (codes " penetrations " ++ (decimal penetrations ++ line_end)))
-
--- the report of a route: a line for each piece, and the sums
-abbrev pub route_report : List PieceReport → List ℕ
-route_report pieces = piece_lines pieces ++ totals_line (length pieces) (sum_by penetrations_of pieces)
-
--- how large a sample drawing is
-abbrev pub summary_counts : Summary → List ℕ
-summary_counts s = codes "sample " ++ (decimal s.number ++ (line_end ++ (codes "lines " ++ (decimal s.lines
-    ++ (line_end ++ (codes "junctions " ++ (decimal s.junctions ++ line_end)))))))
-
--- what is to be routed
-abbrev pub summary_odds : Summary → List ℕ
-summary_odds s = codes "odd " ++ (decimal s.odd ++ (line_end ++ (codes "pieces " ++ (decimal s.pieces
-    ++ (line_end ++ (codes "cost " ++ (decimal s.cost ++ line_end)))))))
-
--- what its route costs
-abbrev pub summary_costs : Summary → List ℕ
-summary_costs s = codes "retraced " ++ (decimal s.retraced ++ (line_end ++ (codes "penetrations "
-    ++ (decimal s.penetrations ++ (line_end ++ (codes "cuts " ++ (decimal s.cuts ++ line_end)))))))
-
--- the report of a sample: a line for each number
-abbrev pub summary_text : Summary → List ℕ
-summary_text s = summary_counts s ++ (summary_odds s ++ summary_costs s)
-
--- the report of a migration: how many lines and pieces there are, and what the lines cost
-abbrev pub migrate_report : (lines pieces cost : ℕ) → List ℕ
-migrate_report lines pieces cost = codes "lines " ++ (decimal lines ++ (codes " pieces "
-    ++ (decimal pieces ++ (codes " cost " ++ (decimal cost ++ line_end)))))
+use Rattle.stitch_cli.specs.UsageText.{usage_text}
 
 -- a line about a file
 abbrev pub line_about : List ℕ → List ℕ → List ℕ
@@ -140,21 +72,26 @@ read_line name read.Memory = memory_line
 abbrev pub command_line : List ℕ → ℕ → List ℕ → List ℕ
 command_line name number text = line_at name (codes ": command ") (decimal number) text
 
--- a line about a command that is too long a stitch for a format with that limit, the numbers as digits
+-- a line about a command that is too long a stitch for a format with that limit, the numbers as
+-- digits
 abbrev pub long_text : (name number limit : List ℕ) → List ℕ
 long_text name number limit = codes "stitch: " ++ (name ++ (codes ": command " ++ (number
     ++ (codes ": stitch longer than " ++ (limit ++ line_end)))))
 
--- why a design was not written, the limit of its format being that; want of memory has a line of its own
+-- why a design was not written, the limit of its format being that; want of memory has a line of
+-- its own
 abbrev pub write_line : List ℕ → ℕ → WriteFault → List ℕ
 write_line name limit (write.StitchTooLong number) = long_text name (decimal number) (decimal limit)
-write_line name limit (write.FloatTooLong number) = command_line name number (codes "float too long")
-write_line name limit (write.TooManyStops number) = command_line name number (codes "too many stops")
+write_line name limit (write.FloatTooLong number) =
+    command_line name number (codes "float too long")
+write_line name limit (write.TooManyStops number) =
+    command_line name number (codes "too many stops")
 write_line name limit (write.TooLong number) =
     command_line name number (codes "more than 1000000 commands written")
 write_line name limit write.Memory = memory_line
 
--- a line about a place for a thread, counted from 1, that the design does not have, the numbers as digits
+-- a line about a place for a thread, counted from 1, that the design does not have, the numbers as
+-- digits
 abbrev pub place_text : (name place count : List ℕ) → List ℕ
 place_text name place count = codes "stitch: " ++ (name ++ (codes ": no colour place " ++ (place
     ++ (codes ", there are " ++ (count ++ line_end)))))
@@ -165,19 +102,24 @@ large_text x y = codes "stitch: too large by " ++ (x ++ (codes " " ++ (y ++ line
 
 -- why the changes of a design were refused
 abbrev pub change_line : (input output : List ℕ) → ChangeFault → List ℕ
-change_line input output (reason.RefitTooMany number) = command_line output number (codes "too many commands")
-change_line input output (reason.MovedOut number) = command_line input number (codes "moved out of range")
-change_line input output (reason.NoPlace place count) = place_text input (decimal place) (decimal count)
+change_line input output (reason.RefitTooMany number) =
+    command_line output number (codes "too many commands")
+change_line input output (reason.MovedOut number) =
+    command_line input number (codes "moved out of range")
+change_line input output (reason.NoPlace place count) =
+    place_text input (decimal place) (decimal count)
 
 -- why an order was refused
 abbrev pub refusal_line : RefusalValue → List ℕ
 refusal_line (too_long name) = line_about name (codes "longer than 67108864 bytes")
 refusal_line (undrawn name fault) = draw_line name fault
-refusal_line (step_too_long name step limit ending) = step_text name (decimal step) (decimal limit) ending
+refusal_line (step_too_long name step limit ending) =
+    step_text name (decimal step) (decimal limit) ending
 refusal_line (unread name fault) = read_line name fault
 refusal_line (unchanged input output fault) = change_line input output fault
 refusal_line (unwritten name limit fault) = write_line name limit fault
-refusal_line (uncertified name number) = line_at name (codes ": line ") (decimal number) (codes "not a certificate")
+refusal_line (uncertified name number) = line_at name (codes ": line ") (decimal number)
+    (codes "not a certificate")
 refusal_line (disproved why) = reason_line why
 refusal_line (too_large x y) = large_text (decimal x) (decimal y)
 

@@ -6,7 +6,7 @@ ghost use Rattle.outside_io.specs.declared.limits.TheConstants.{MAX_FILE};
 ghost use Rattle.route_core.specs.Verdicts.{IsShort};
 ghost use Rattle.stitch_cli.specs.Checks.{CheckOf, check_cert, check_design, check_drawing, check_plan};
 ghost use Rattle.stitch_cli.specs.Endings.{Prepares, Settles};
-ghost use Rattle.stitch_cli.specs.Orders.{check_order};
+ghost use Rattle.stitch_cli.specs.OrderNames.{check_order};
 ghost use Rattle.stitch_cli.specs.Plans.{decides};
 
 use crate::halt::{Halt, Refusal};
@@ -49,7 +49,8 @@ fn check_text<'a, S: Store>(
 ) -> Result<Product<'a>, Halt<'a>>
     requires names { AreCheckNames names }
     requires short { length bytes.now ≤ MAX_FILE }
-    ensures { Prepares (check_drawing (check_order names.entry (meaning format.now)) (drawing_of bytes.now))
+    ensures { Prepares (check_drawing (check_order names.entry (meaning format.now))
+        (drawing_of bytes.now))
         (S.sight store.old) (S.sight store.new) result }
 {
     match read_drawing(alloc, bytes) {
@@ -75,7 +76,8 @@ fn check_file<'a, S: Store>(
     store: &mut S,
 ) -> Result<Product<'a>, Halt<'a>>
     requires names { AreCheckNames names }
-    ensures { Prepares (check_drawing (check_order names.entry (meaning format.now)) (Ok drawing.now))
+    ensures { Prepares (check_drawing (check_order names.entry (meaning format.now))
+        (Ok drawing.now))
         (S.sight store.old) (S.sight store.new) result }
 {
     let bytes = read_input(alloc, store, names.file)?;
@@ -113,7 +115,8 @@ fn check_loaded<'a, S: Store>(
     store: &mut S,
 ) -> Result<Product<'a>, Halt<'a>>
     requires names { AreCheckNames names }
-    ensures { Prepares (check_design (check_order names.entry (meaning format.now)) drawing.now (Ok loaded.now))
+    ensures { Prepares (check_design (check_order names.entry (meaning format.now)) drawing.now
+        (Ok loaded.now))
         (S.sight store.old) (S.sight store.new) result }
 {
     let bytes = read_input(alloc, store, names.cert)?;
@@ -136,7 +139,8 @@ fn check_words<'a>(
     bytes: &[u8],
 ) -> Result<Product<'a>, Halt<'a>>
     requires short { length bytes.now ≤ MAX_FILE }
-    ensures { Settles (check_cert (check_order names.entry (meaning format.now)) drawing.now design.now
+    ensures { Settles (check_cert (check_order names.entry (meaning format.now)) drawing.now
+        design.now
         (cert_of bytes.now)) result }
 {
     match read_cert(alloc, bytes) {

@@ -28,7 +28,8 @@ pub(crate) fn make<'a, S: Store>(
     formats: &'a [Box<dyn Format>],
     store: &mut S,
 ) -> Result<Product<'a>, Halt<'a>>
-    ensures { Answers (order_of (map (λ f. meaning f) formats.now) (map string_bytes words.now)) (S.sight store.old) (S.sight store.new) result }
+    ensures { Answers (order_of (map (λ f. meaning f) formats.now) (map string_bytes words.now))
+        (S.sight store.old) (S.sight store.new) result }
 {
     match request(words) {
         Some(Request::Route(names)) => make_route(alloc, names, formats, store),
@@ -106,7 +107,8 @@ fn make_rewrite<'a, S: Store>(
 ) -> Result<Product<'a>, Halt<'a>>
     requires names { BothAreNames names }
     requires changes { AreSound changes.now }
-    ensures { Answers (rewriting_by names.entry.input.now names.entry.output.now (changes_by changes.now)
+    ensures { Answers (rewriting_by names.entry.input.now names.entry.output.now
+        (changes_by changes.now)
         (format_of (map (λ f. meaning f) formats.now) names.entry.input.now)
         (format_of (map (λ f. meaning f) formats.now) names.entry.output.now))
         (S.sight store.old) (S.sight store.new) result }
@@ -166,7 +168,8 @@ fn make_migration<'a, S: Store>(
 ) -> Result<Product<'a>, Halt<'a>>
     requires input { IsName input.now }
     requires output { IsName output.now }
-    ensures { Answers (migrating_to input.now output.now) (S.sight store.old) (S.sight store.new) result }
+    ensures { Answers (migrating_to input.now output.now) (S.sight store.old)
+        (S.sight store.new) result }
 {
     if input == output {
         return Err(Halt::Unasked);
@@ -186,7 +189,8 @@ fn format_for<'a>(formats: &'a [Box<dyn Format>], name: &str) -> Option<&'a Box<
 }
 
 fn are_apart(names: RouteNames<'_>) -> bool
-    ensures value { result ≡ names_are_apart names.entry.drawing.now names.entry.out.now names.entry.cert.now }
+    ensures value { result ≡ names_are_apart names.entry.drawing.now names.entry.out.now
+        names.entry.cert.now }
     ensures written { OnTrue result (names.entry.cert.now ≢ names.entry.out.now) }
 {
     names.drawing != names.out && names.drawing != names.cert && names.out != names.cert

@@ -3,7 +3,7 @@ ghost use Rattle.outside_io.specs.Causes.{WriteCause};
 ghost use Rattle.outside_io.specs.Files.{ChangesOnly, HoldsNow, IsName};
 ghost use Rattle.stitch_cli.specs.Endings.{CanBeDelivered, Delivers, Prints};
 ghost use Rattle.stitch_cli.specs.Products.{AreApart, AreNamed, Wrote, WroteUpTo, all_written, product_of};
-ghost use Rattle.stitch_cli.specs.Runs.{seen};
+ghost use Rattle.stitch_cli.specs.RunSights.{seen};
 
 use crate::messages::{tell_unprinted, tell_unwritten};
 use crate::product::{Output, Product};
@@ -43,7 +43,8 @@ fn print<O: Sink, E: Sink>(report: &[u8], out: &mut O, err: &mut E) -> Status
 fn write_all<'a, S: Store>(store: &mut S, outputs: &[Output<'a>]) -> Result<(), &'a str>
     requires named { AreNamed (all_written outputs.now) }
     requires apart { AreApart (all_written outputs.now) }
-    ensures done { OnOk result (Wrote (all_written outputs.now) (S.sight store.old) (S.sight store.new)) }
+    ensures done { OnOk result (Wrote (all_written outputs.now) (S.sight store.old)
+        (S.sight store.new)) }
     ensures stops { IfErr result (λ name. WroteUpTo (all_written outputs.now) name.now
         (S.sight store.old) (S.sight store.new)) }
 {

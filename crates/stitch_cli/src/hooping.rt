@@ -2,7 +2,7 @@ ghost use Rattle.outside_io.specs.Files.{IsName};
 ghost use Rattle.hoop_check.specs.Fits.{fit_of};
 ghost use Rattle.stitch_cli.specs.Endings.{Prepares, Settles};
 ghost use Rattle.stitch_cli.specs.Hoops.{hoop_fitted, hoop_plan, hoop_read};
-ghost use Rattle.stitch_cli.specs.Orders.{hoop_order};
+ghost use Rattle.stitch_cli.specs.OrderNames.{hoop_order};
 
 use crate::halt::{Halt, Refusal};
 use crate::product::{Product, only_report};

@@ -3,7 +3,8 @@ ghost use Rattle.certificate_text.specs.CertificateTexts.{line_end};
 ghost use Rattle.stitch_cli.specs.declared.status.Status.TheVariants as status;
 ghost use Rattle.stitch_cli.specs.Endings.{Tells, status_of};
 ghost use Rattle.stitch_cli.specs.Refusals.{refusal_of};
-ghost use Rattle.stitch_cli.specs.Texts.{byte_line, change_line, command_line, draw_line, draw_text as draw_text_of, halt_text, large_text, line_about, line_at, long_text, memory_line, place_text, read_line, refusal_line, step_text, unprinted_line, unread_line, unwritten_line, usage_text, write_line};
+ghost use Rattle.stitch_cli.specs.UsageText.{usage_text};
+ghost use Rattle.stitch_cli.specs.Texts.{byte_line, change_line, command_line, draw_line, draw_text as draw_text_of, halt_text, large_text, line_about, line_at, long_text, memory_line, place_text, read_line, refusal_line, step_text, unprinted_line, unread_line, unwritten_line, write_line};
 
 use crate::changing::ChangeFault;
 use crate::halt::{Halt, Refusal};
@@ -20,7 +21,8 @@ use outside_io::Sink;
 
 /// Tells why words came to no product. It takes no memory.
 pub(crate) fn tell_halt<E: Sink>(err: &mut E, why: Halt<'_>) -> Status
-    ensures { Tells (halt_text why.entry) (status_of why.entry) (E.sight err.old) (E.sight err.new) result }
+    ensures { Tells (halt_text why.entry) (status_of why.entry) (E.sight err.old)
+        (E.sight err.new) result }
 {
     match why {
         Halt::Unasked => tell_usage(err),
@@ -33,7 +35,8 @@ pub(crate) fn tell_halt<E: Sink>(err: &mut E, why: Halt<'_>) -> Status
 
 /// Tells that an output could not be written.
 pub(crate) fn tell_unwritten<E: Sink>(err: &mut E, name: &str) -> Status
-    ensures { Tells (unwritten_line name.now) status.Fault (E.sight err.old) (E.sight err.new) result }
+    ensures { Tells (unwritten_line name.now) status.Fault (E.sight err.old)
+        (E.sight err.new) result }
 {
     tell_name(err, b"stitch: cannot write ", name, Status::Fault)
 }
@@ -66,7 +69,8 @@ fn tell_usage<E: Sink>(err: &mut E) -> Status
 }
 
 fn tell_refusal<E: Sink>(err: &mut E, why: Refusal<'_>) -> Status
-    ensures { Tells (refusal_line (refusal_of why.entry)) status.Refused (E.sight err.old) (E.sight err.new) result }
+    ensures { Tells (refusal_line (refusal_of why.entry)) status.Refused (E.sight err.old)
+        (E.sight err.new) result }
 {
     match why {
         Refusal::TooLong { name } => tell_about(err, name, b"longer than 67108864 bytes"),
@@ -87,7 +91,8 @@ fn tell_refusal<E: Sink>(err: &mut E, why: Refusal<'_>) -> Status
 }
 
 fn tell_draw_fault<E: Sink>(err: &mut E, name: &str, fault: DrawFault) -> Status
-    ensures { Tells (draw_line name.now fault) status.Refused (E.sight err.old) (E.sight err.new) result }
+    ensures { Tells (draw_line name.now fault) status.Refused (E.sight err.old)
+        (E.sight err.new) result }
 {
     let mut buffer = Buffer::new();
     let digits = buffer.format(fault.number).as_bytes();
@@ -116,7 +121,8 @@ fn draw_text(kind: DrawKind) -> &'static [u8]
 }
 
 fn tell_step<E: Sink>(err: &mut E, name: &str, step: u32, limit: u32, ending: &str) -> Status
-    ensures { Tells (step_text name.now (decimal step) (decimal limit) ending.now) status.Refused (E.sight err.old) (E.sight err.new) result }
+    ensures { Tells (step_text name.now (decimal step) (decimal limit) ending.now) status.Refused
+        (E.sight err.old) (E.sight err.new) result }
 {
     let mut step_buffer = Buffer::new();
     let mut limit_buffer = Buffer::new();
@@ -132,7 +138,8 @@ fn tell_step_digits<E: Sink>(
     limit: &[u8],
     ending: &str,
 ) -> Status
-    ensures { Tells (step_text name.now step.now limit.now ending.now) status.Refused (E.sight err.old) (E.sight err.new) result }
+    ensures { Tells (step_text name.now step.now limit.now ending.now) status.Refused
+        (E.sight err.old) (E.sight err.new) result }
 {
     let pieces: [&[u8]; 9] = [
         b"stitch: ",
@@ -149,7 +156,8 @@ fn tell_step_digits<E: Sink>(
 }
 
 fn tell_read_fault<E: Sink>(err: &mut E, name: &str, fault: ReadFault) -> Status
-    ensures { Tells (read_line name.now fault) status.Refused (E.sight err.old) (E.sight err.new) result }
+    ensures { Tells (read_line name.now fault) status.Refused (E.sight err.old)
+        (E.sight err.new) result }
 {
     match fault {
         ReadFault::Short { at } => tell_byte(err, name, at, b"file too short"),
@@ -164,7 +172,8 @@ fn tell_read_fault<E: Sink>(err: &mut E, name: &str, fault: ReadFault) -> Status
 
 /// Tells of a byte of a file, counted from 0.
 fn tell_byte<E: Sink>(err: &mut E, name: &str, offset: u64, text: &[u8]) -> Status
-    ensures { Tells (byte_line name.now offset text.now) status.Refused (E.sight err.old) (E.sight err.new) result }
+    ensures { Tells (byte_line name.now offset text.now) status.Refused (E.sight err.old)
+        (E.sight err.new) result }
 {
     let mut buffer = Buffer::new();
     let digits = buffer.format(offset).as_bytes();
@@ -172,7 +181,8 @@ fn tell_byte<E: Sink>(err: &mut E, name: &str, offset: u64, text: &[u8]) -> Stat
 }
 
 fn tell_change_fault<E: Sink>(err: &mut E, names: Names<'_>, fault: ChangeFault) -> Status
-    ensures { Tells (change_line names.entry.input.now names.entry.output.now fault) status.Refused (E.sight err.old) (E.sight err.new) result }
+    ensures { Tells (change_line names.entry.input.now names.entry.output.now fault) status.Refused
+        (E.sight err.old) (E.sight err.new) result }
 {
     match fault {
         ChangeFault::RefitTooMany { number } => {
@@ -186,7 +196,8 @@ fn tell_change_fault<E: Sink>(err: &mut E, names: Names<'_>, fault: ChangeFault)
 }
 
 fn tell_write_fault<E: Sink>(err: &mut E, name: &str, limit: u32, fault: WriteFault) -> Status
-    ensures { Tells (write_line name.now limit fault) status.Refused (E.sight err.old) (E.sight err.new) result }
+    ensures { Tells (write_line name.now limit fault) status.Refused (E.sight err.old)
+        (E.sight err.new) result }
 {
     match fault {
         WriteFault::StitchTooLong { number } => tell_long_stitch(err, name, number, limit),
@@ -200,7 +211,8 @@ fn tell_write_fault<E: Sink>(err: &mut E, name: &str, limit: u32, fault: WriteFa
 }
 
 fn tell_long_stitch<E: Sink>(err: &mut E, name: &str, number: u32, limit: u32) -> Status
-    ensures { Tells (long_text name.now (decimal number) (decimal limit)) status.Refused (E.sight err.old) (E.sight err.new) result }
+    ensures { Tells (long_text name.now (decimal number) (decimal limit)) status.Refused
+        (E.sight err.old) (E.sight err.new) result }
 {
     let mut number_buffer = Buffer::new();
     let mut limit_buffer = Buffer::new();
@@ -210,7 +222,8 @@ fn tell_long_stitch<E: Sink>(err: &mut E, name: &str, number: u32, limit: u32) -
 }
 
 fn tell_long_digits<E: Sink>(err: &mut E, name: &[u8], number: &[u8], limit: &[u8]) -> Status
-    ensures { Tells (long_text name.now number.now limit.now) status.Refused (E.sight err.old) (E.sight err.new) result }
+    ensures { Tells (long_text name.now number.now limit.now) status.Refused (E.sight err.old)
+        (E.sight err.new) result }
 {
     let pieces: [&[u8]; 7] = [
         b"stitch: ",
@@ -226,7 +239,8 @@ fn tell_long_digits<E: Sink>(err: &mut E, name: &[u8], number: &[u8], limit: &[u
 
 /// Tells of a command of a design, counted from 1.
 fn tell_command<E: Sink>(err: &mut E, name: &str, number: u32, text: &[u8]) -> Status
-    ensures { Tells (command_line name.now number text.now) status.Refused (E.sight err.old) (E.sight err.new) result }
+    ensures { Tells (command_line name.now number text.now) status.Refused (E.sight err.old)
+        (E.sight err.new) result }
 {
     let mut buffer = Buffer::new();
     let digits = buffer.format(number).as_bytes();
@@ -234,7 +248,8 @@ fn tell_command<E: Sink>(err: &mut E, name: &str, number: u32, text: &[u8]) -> S
 }
 
 fn tell_no_place<E: Sink>(err: &mut E, name: &str, place: u32, count: u32) -> Status
-    ensures { Tells (place_text name.now (decimal place) (decimal count)) status.Refused (E.sight err.old) (E.sight err.new) result }
+    ensures { Tells (place_text name.now (decimal place) (decimal count)) status.Refused
+        (E.sight err.old) (E.sight err.new) result }
 {
     let mut place_buffer = Buffer::new();
     let mut count_buffer = Buffer::new();
@@ -244,7 +259,8 @@ fn tell_no_place<E: Sink>(err: &mut E, name: &str, place: u32, count: u32) -> St
 }
 
 fn tell_place_digits<E: Sink>(err: &mut E, name: &[u8], place: &[u8], count: &[u8]) -> Status
-    ensures { Tells (place_text name.now place.now count.now) status.Refused (E.sight err.old) (E.sight err.new) result }
+    ensures { Tells (place_text name.now place.now count.now) status.Refused (E.sight err.old)
+        (E.sight err.new) result }
 {
     let pieces: [&[u8]; 7] = [
         b"stitch: ",
@@ -259,7 +275,8 @@ fn tell_place_digits<E: Sink>(err: &mut E, name: &[u8], place: &[u8], count: &[u
 }
 
 fn tell_uncertified<E: Sink>(err: &mut E, name: &str, number: u32) -> Status
-    ensures { Tells (line_at name.now (codes ": line ") (decimal number) (codes "not a certificate"))
+    ensures { Tells (line_at name.now (codes ": line ") (decimal number)
+        (codes "not a certificate"))
         status.Refused (E.sight err.old) (E.sight err.new) result }
 {
     let mut buffer = Buffer::new();
@@ -268,7 +285,8 @@ fn tell_uncertified<E: Sink>(err: &mut E, name: &str, number: u32) -> Status
 }
 
 fn tell_too_large<E: Sink>(err: &mut E, x: u32, y: u32) -> Status
-    ensures { Tells (large_text (decimal x) (decimal y)) status.Refused (E.sight err.old) (E.sight err.new) result }
+    ensures { Tells (large_text (decimal x) (decimal y)) status.Refused (E.sight err.old)
+        (E.sight err.new) result }
 {
     let mut x_buffer = Buffer::new();
     let mut y_buffer = Buffer::new();
@@ -278,7 +296,8 @@ fn tell_too_large<E: Sink>(err: &mut E, x: u32, y: u32) -> Status
 }
 
 fn tell_large_digits<E: Sink>(err: &mut E, x: &[u8], y: &[u8]) -> Status
-    ensures { Tells (large_text x.now y.now) status.Refused (E.sight err.old) (E.sight err.new) result }
+    ensures { Tells (large_text x.now y.now) status.Refused (E.sight err.old)
+        (E.sight err.new) result }
 {
     let pieces: [&[u8]; 5] = [b"stitch: too large by ", x, b" ", y, b"\n"];
     tell(err, &pieces, Status::Refused)
@@ -286,7 +305,8 @@ fn tell_large_digits<E: Sink>(err: &mut E, x: &[u8], y: &[u8]) -> Status
 
 /// Tells of a place in a file that has a number.
 fn tell_at<E: Sink>(err: &mut E, name: &str, word: &[u8], digits: &[u8], text: &[u8]) -> Status
-    ensures { Tells (line_at name.now word.now digits.now text.now) status.Refused (E.sight err.old) (E.sight err.new) result }
+    ensures { Tells (line_at name.now word.now digits.now text.now) status.Refused (E.sight err.old)
+        (E.sight err.new) result }
 {
     let pieces: [&[u8]; 7] = [
         b"stitch: ",
@@ -302,7 +322,8 @@ fn tell_at<E: Sink>(err: &mut E, name: &str, word: &[u8], digits: &[u8], text: &
 
 /// Tells of a file.
 fn tell_about<E: Sink>(err: &mut E, name: &str, text: &[u8]) -> Status
-    ensures { Tells (line_about name.now text.now) status.Refused (E.sight err.old) (E.sight err.new) result }
+    ensures { Tells (line_about name.now text.now) status.Refused (E.sight err.old)
+        (E.sight err.new) result }
 {
     let pieces: [&[u8]; 5] = [b"stitch: ", name.as_bytes(), b": ", text, b"\n"];
     tell(err, &pieces, Status::Refused)
@@ -310,7 +331,8 @@ fn tell_about<E: Sink>(err: &mut E, name: &str, text: &[u8]) -> Status
 
 /// Tells a text that ends with a file's name.
 fn tell_name<E: Sink>(err: &mut E, text: &[u8], name: &str, planned: Status) -> Status
-    ensures { Tells (text.now ++ (name.now ++ line_end)) planned (E.sight err.old) (E.sight err.new) result }
+    ensures { Tells (text.now ++ (name.now ++ line_end)) planned (E.sight err.old)
+        (E.sight err.new) result }
 {
     let pieces: [&[u8]; 3] = [text, name.as_bytes(), b"\n"];
     tell(err, &pieces, planned)

@@ -5,9 +5,9 @@ ghost use Rattle.outside_io.specs.declared.limits.TheConstants.{MAX_FILE};
 ghost use Rattle.outside_io.specs.Files.{IsName};
 ghost use Rattle.stitch_cli.specs.Endings.{Prepares, Settles};
 ghost use Rattle.stitch_cli.specs.Migrations.{IsMigrated, migrate_plan, migrate_read};
-ghost use Rattle.stitch_cli.specs.Orders.{migrate_order};
+ghost use Rattle.stitch_cli.specs.OrderNames.{migrate_order};
 ghost use Rattle.stitch_cli.specs.Products.{product_of};
-ghost use Rattle.stitch_cli.specs.Texts.{migrate_report};
+ghost use Rattle.stitch_cli.specs.Reports.{migrate_report};
 
 use crate::halt::{Halt, Refusal};
 use crate::product::{Output, Product, one_output};
@@ -42,7 +42,8 @@ fn migrate_text<'a>(
 ) -> Result<Product<'a>, Halt<'a>>
     requires output { IsName output.now }
     requires short { length bytes.now ≤ MAX_FILE }
-    ensures { Settles (migrate_read (migrate_order input.now output.now) (drawing_as2 bytes.now)) result }
+    ensures { Settles (migrate_read (migrate_order input.now output.now) (drawing_as2 bytes.now))
+        result }
 {
     match read_as2(alloc, bytes) {
         Ok(drawing) => {
@@ -59,11 +60,7 @@ fn migrate_text<'a>(
     }
 }
 
-fn migrated<'a>(
-    alloc: Global,
-    output: &'a str,
-    drawing: &Drawing,
-) -> Result<Product<'a>, Memory>
+fn migrated<'a>(alloc: Global, output: &'a str, drawing: &Drawing) -> Result<Product<'a>, Memory>
     requires { is_joined drawing.now ≡ true }
     ensures { IfOk result (λ product. IsMigrated output.now drawing.now (product_of product)) }
 {

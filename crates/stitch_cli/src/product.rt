@@ -34,7 +34,8 @@ pub(crate) fn one_output<'a>(
     output: Output<'a>,
     report: Bytes,
 ) -> Result<Product<'a>, Memory>
-    ensures { IfOk result (λ product. product_of product ≡ one_output_value output.entry.name.now output.entry.content report) }
+    ensures { IfOk result (λ product. product_of product
+        ≡ one_output_value output.entry.name.now output.entry.content report) }
 {
     let mut outputs = Items::new(alloc);
     outputs.push(output)?;

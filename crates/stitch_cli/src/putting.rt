@@ -19,7 +19,8 @@ pub(crate) fn put_one<E: Sink>(err: &mut E, text: &[u8]) -> Result<(), Failed>
 
 /// Puts pieces of a text one after another.
 fn put_all<E: Sink>(err: &mut E, pieces: &[&[u8]]) -> Result<(), Failed>
-    ensures { Puts (concat (map (λ piece. piece.now) pieces.now)) (E.sight err.old) (E.sight err.new) result }
+    ensures { Puts (concat (map (λ piece. piece.now) pieces.now)) (E.sight err.old)
+        (E.sight err.new) result }
 {
     for piece in pieces {
         match put_one(err, piece) {

@@ -24,7 +24,8 @@ pub(crate) fn tell_reason<E: Sink>(err: &mut E, why: Reason) -> Status
 }
 
 fn tell_counts<E: Sink>(err: &mut E, found: u32, drawn: u32) -> Status
-    ensures { Tells (counts_no (decimal found) (decimal drawn)) status.Refused (E.sight err.old) (E.sight err.new) result }
+    ensures { Tells (counts_no (decimal found) (decimal drawn)) status.Refused (E.sight err.old)
+        (E.sight err.new) result }
 {
     let mut found_buffer = Buffer::new();
     let mut drawn_buffer = Buffer::new();
@@ -34,7 +35,8 @@ fn tell_counts<E: Sink>(err: &mut E, found: u32, drawn: u32) -> Status
 }
 
 fn tell_count_digits<E: Sink>(err: &mut E, found: &[u8], drawn: &[u8]) -> Status
-    ensures { Tells (counts_no found.now drawn.now) status.Refused (E.sight err.old) (E.sight err.new) result }
+    ensures { Tells (counts_no found.now drawn.now) status.Refused (E.sight err.old)
+        (E.sight err.new) result }
 {
     let pieces: [&[u8]; 5] = [
         b"stitch: no: certificate has ",
@@ -47,7 +49,8 @@ fn tell_count_digits<E: Sink>(err: &mut E, found: &[u8], drawn: &[u8]) -> Status
 }
 
 fn tell_act<E: Sink>(err: &mut E, number: u32) -> Status
-    ensures { Tells (act_no (decimal number)) status.Refused (E.sight err.old) (E.sight err.new) result }
+    ensures { Tells (act_no (decimal number)) status.Refused (E.sight err.old)
+        (E.sight err.new) result }
 {
     let mut buffer = Buffer::new();
     let digits = buffer.format(number).as_bytes();
@@ -62,7 +65,8 @@ fn tell_act_digits<E: Sink>(err: &mut E, number: &[u8]) -> Status
 }
 
 fn tell_walk<E: Sink>(err: &mut E, piece: u32, fault: WalkFault) -> Status
-    ensures { Tells (walk_no piece fault) status.Refused (E.sight err.old) (E.sight err.new) result }
+    ensures { Tells (walk_no piece fault) status.Refused (E.sight err.old)
+        (E.sight err.new) result }
 {
     match fault {
         WalkFault::Stranger { pass } => {
@@ -96,7 +100,8 @@ fn tell_retraced<E: Sink>(err: &mut E, piece: u32, said: u32, found: u64) -> Sta
 }
 
 fn tell_cuts<E: Sink>(err: &mut E, piece: u32, fault: CutFault) -> Status
-    ensures { Tells (cuts_no piece fault) status.Refused (E.sight err.old) (E.sight err.new) result }
+    ensures { Tells (cuts_no piece fault) status.Refused (E.sight err.old)
+        (E.sight err.new) result }
 {
     match fault {
         CutFault::Stranger { cut, junction } => tell_stranger(err, piece, cut, junction),
@@ -206,7 +211,8 @@ fn tell_load_digits<E: Sink>(
 
 /// Tells of a piece.
 fn tell_plain<E: Sink>(err: &mut E, piece: u32, text: &[u8]) -> Status
-    ensures { Tells (plain_no (decimal piece) text.now) status.Refused (E.sight err.old) (E.sight err.new) result }
+    ensures { Tells (plain_no (decimal piece) text.now) status.Refused (E.sight err.old)
+        (E.sight err.new) result }
 {
     let mut buffer = Buffer::new();
     let digits = buffer.format(piece).as_bytes();
@@ -214,7 +220,8 @@ fn tell_plain<E: Sink>(err: &mut E, piece: u32, text: &[u8]) -> Status
 }
 
 fn tell_plain_digits<E: Sink>(err: &mut E, piece: &[u8], text: &[u8]) -> Status
-    ensures { Tells (plain_no piece.now text.now) status.Refused (E.sight err.old) (E.sight err.new) result }
+    ensures { Tells (plain_no piece.now text.now) status.Refused (E.sight err.old)
+        (E.sight err.new) result }
 {
     let pieces: [&[u8]; 4] = [b"stitch: no: piece ", piece, text, b"\n"];
     tell(err, &pieces, Status::Refused)
@@ -222,7 +229,8 @@ fn tell_plain_digits<E: Sink>(err: &mut E, piece: &[u8], text: &[u8]) -> Status
 
 /// Tells of a piece with one further number.
 fn tell_one<E: Sink>(err: &mut E, piece: u32, before: &[u8], number: u32, after: &[u8]) -> Status
-    ensures { Tells (one_no (decimal piece) before.now (decimal number) after.now) status.Refused (E.sight err.old) (E.sight err.new) result }
+    ensures { Tells (one_no (decimal piece) before.now (decimal number) after.now) status.Refused
+        (E.sight err.old) (E.sight err.new) result }
 {
     let mut piece_buffer = Buffer::new();
     let mut number_buffer = Buffer::new();
@@ -238,7 +246,8 @@ fn tell_one_digits<E: Sink>(
     number: &[u8],
     after: &[u8],
 ) -> Status
-    ensures { Tells (one_no piece.now before.now number.now after.now) status.Refused (E.sight err.old) (E.sight err.new) result }
+    ensures { Tells (one_no piece.now before.now number.now after.now) status.Refused
+        (E.sight err.old) (E.sight err.new) result }
 {
     let pieces: [&[u8]; 6] = [b"stitch: no: piece ", piece, before, number, after, b"\n"];
     tell(err, &pieces, Status::Refused)
@@ -254,7 +263,8 @@ fn tell_two_digits<E: Sink>(
     two: &[u8],
     after: &[u8],
 ) -> Status
-    ensures { Tells (two_no piece.now before.now one.now between.now two.now after.now) status.Refused (E.sight err.old) (E.sight err.new) result }
+    ensures { Tells (two_no piece.now before.now one.now between.now two.now after.now)
+        status.Refused (E.sight err.old) (E.sight err.new) result }
 {
     let pieces: [&[u8]; 8] = [
         b"stitch: no: piece ",

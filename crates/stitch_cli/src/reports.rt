@@ -3,7 +3,7 @@ ghost use Rattle.line_graph.specs.declared.limits.TheConstants.{MAX_BLOCKS, MAX_
 ghost use Rattle.line_graph.specs.CutPieces.{graph_of};
 ghost use Rattle.stitch_cli.specs.RouteSteps.{reports_from};
 ghost use Rattle.stitch_cli.specs.Routes.{piece_report};
-ghost use Rattle.stitch_cli.specs.Texts.{cost_text, penetrations_of, piece_place as piece_place_text, route_report, totals_line as totals_text};
+ghost use Rattle.stitch_cli.specs.Reports.{cost_text, penetrations_of, piece_place as piece_place_text, route_report, totals_line as totals_text};
 
 use cut_certificate::PieceCert;
 use design_model::{Bytes, Items, Memory};

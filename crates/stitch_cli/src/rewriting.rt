@@ -2,7 +2,7 @@ ghost use Rattle.command_words.specs.Requests.{BothAreNames};
 ghost use Rattle.format_traits.specs.Meanings.{Meaning};
 ghost use Rattle.outside_io.specs.Files.{IsName};
 ghost use Rattle.stitch_cli.specs.Endings.{Prepares, Settles};
-ghost use Rattle.stitch_cli.specs.Orders.{rewrite_order};
+ghost use Rattle.stitch_cli.specs.OrderNames.{rewrite_order};
 ghost use Rattle.stitch_cli.specs.RewriteSteps.{AreSound, IsUnchangedFor, WriteOf, changes_by};
 ghost use Rattle.stitch_cli.specs.Rewrites.{RewriteOf, rewrite_plan, rewrite_read};
 ghost use Rattle.stitch_cli.specs.Plans.{decides};
@@ -29,7 +29,8 @@ pub(crate) fn rewrite<'a, S: Store>(
 ) -> Result<Product<'a>, Halt<'a>>
     requires names { BothAreNames names }
     requires changes { AreSound changes.now }
-    ensures { Prepares (rewrite_plan (rewrite_order names.entry (meaning source.now) (meaning target.now)
+    ensures { Prepares (rewrite_plan (rewrite_order names.entry (meaning source.now)
+        (meaning target.now)
         (changes_by changes.now))) (S.sight store.old) (S.sight store.new) result }
 {
     let bytes = read_input(alloc, store, names.input)?;
@@ -46,7 +47,8 @@ fn rewritten<'a>(
 ) -> Result<Product<'a>, Halt<'a>>
     requires names { BothAreNames names }
     requires changes { AreSound changes.now }
-    ensures { Settles (rewrite_read (rewrite_order names.entry (meaning source.now) (meaning target.now)
+    ensures { Settles (rewrite_read (rewrite_order names.entry (meaning source.now)
+        (meaning target.now)
         (changes_by changes.now)) ((meaning source.now).reads bytes.now)) result }
 {
     match decode_by(alloc, source, bytes) {
@@ -68,7 +70,8 @@ fn remade<'a>(
 ) -> Result<Product<'a>, Halt<'a>>
     requires names { BothAreNames names }
     requires changes { AreSound changes.now }
-    ensures { (source : Meaning) → Settles (decides (RewriteOf (rewrite_order names.entry source (meaning target.now)
+    ensures { (source : Meaning) → Settles (decides
+        (RewriteOf (rewrite_order names.entry source (meaning target.now)
         (changes_by changes.now)) loaded)) result }
 {
     let Loaded { design, ended: _ } = loaded;

@@ -6,7 +6,7 @@ ghost use Rattle.outside_io.specs.declared.limits.TheConstants.{MAX_FILE};
 ghost use Rattle.drawing_text.specs.DrawingText.{drawing_of};
 ghost use Rattle.route_core.specs.Routes.{walks_of};
 ghost use Rattle.stitch_cli.specs.Endings.{Prepares, Settles};
-ghost use Rattle.stitch_cli.specs.Orders.{route_order};
+ghost use Rattle.stitch_cli.specs.OrderNames.{route_order};
 ghost use Rattle.stitch_cli.specs.Routes.{RouteMakes, SewsIn, route_drawing, route_plan, route_read};
 ghost use Rattle.stitch_cli.specs.Products.{product_of};
 
@@ -49,7 +49,8 @@ fn route_text<'a>(
     requires names { AreNames names }
     requires apart { names.cert.now ≢ names.out.now }
     requires short { length bytes.now ≤ MAX_FILE }
-    ensures { Settles (route_read (route_order names.entry (meaning format.now)) (drawing_of bytes.now)) result }
+    ensures { Settles (route_read (route_order names.entry (meaning format.now))
+        (drawing_of bytes.now)) result }
 {
     match read_drawing(alloc, bytes) {
         Ok(drawing) => route_drawn(alloc, names, format, &drawing),
@@ -74,7 +75,8 @@ fn route_drawn<'a>(
 ) -> Result<Product<'a>, Halt<'a>>
     requires names { AreNames names }
     requires apart { names.cert.now ≢ names.out.now }
-    ensures { Settles (route_drawing (route_order names.entry (meaning format.now)) drawing.now) result }
+    ensures { Settles (route_drawing (route_order names.entry (meaning format.now)) drawing.now)
+        result }
 {
     let step = drawing.step();
     let limit = limit_of(format);
@@ -98,7 +100,8 @@ fn routed<'a>(
     drawing: &Drawing,
 ) -> Result<Product<'a>, Memory>
     requires { drawing.now.step ≤ (meaning format.now).limit }
-    ensures { IfOk result (λ product. RouteMakes (route_order names.entry (meaning format.now)) drawing.now
+    ensures { IfOk result (λ product. RouteMakes
+        (route_order names.entry (meaning format.now)) drawing.now
         (product_of product)) }
 {
     // The clauses of these calls bring the limits of the drawing and of the format.
@@ -130,8 +133,10 @@ fn encoded(
 ) -> Result<Bytes, Memory>
     requires plain { IsPlain (meaning format.now).limit routed.now.design }
     requires sewn { routed.now.design ≡ sewn_design drawing.now (walks_of routed.now.cert.pieces) }
-    requires writable { AreWritable drawing.now.step (runs_of drawing.now (walks_of routed.now.cert.pieces)) }
-    ensures { IfOk result (SewsIn (meaning format.now) drawing.now (walks_of routed.now.cert.pieces)) }
+    requires writable { AreWritable drawing.now.step
+        (runs_of drawing.now (walks_of routed.now.cert.pieces)) }
+    ensures { IfOk result (SewsIn (meaning format.now) drawing.now
+        (walks_of routed.now.cert.pieces)) }
 {
     runs_are_sewn();
     match encode_by(alloc, format, &routed.design) {

@@ -1,7 +1,8 @@
 ghost use Rattle.std.specs.Prelude.{map, string_bytes};
 ghost use Rattle.stitch_cli.specs.Endings.{Ends};
 ghost use Rattle.stitch_cli.specs.Orders.{order_of};
-ghost use Rattle.stitch_cli.specs.Runs.{RunEnds, seen};
+ghost use Rattle.stitch_cli.specs.RunSights.{seen};
+ghost use Rattle.stitch_cli.specs.Runs.{RunEnds};
 
 use crate::commands::make;
 use crate::delivery::deliver;

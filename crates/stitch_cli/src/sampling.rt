@@ -5,12 +5,12 @@ ghost use Rattle.outside_io.specs.Files.{IsName};
 ghost use Rattle.sample_drawings.specs.declared.draws.TheConstants.{MAX_NUMBER};
 ghost use Rattle.sample_drawings.specs.Samples.{sample_of};
 ghost use Rattle.stitch_cli.specs.Endings.{Settles};
-ghost use Rattle.stitch_cli.specs.Orders.{sample_order};
+ghost use Rattle.stitch_cli.specs.OrderNames.{sample_order};
 ghost use Rattle.stitch_cli.specs.Products.{product_of};
 ghost use Rattle.stitch_cli.specs.Samples.{TellsOf, junction_count as junction_count_value, odd_count as odd_count_value, sample_plan};
 ghost use Rattle.stitch_cli.specs.RouteSteps.{reports_from};
 ghost use Rattle.stitch_cli.specs.SampleSteps.{odd_sum as odd_sum_value, junction_sum as junction_sum_value, summed};
-ghost use Rattle.stitch_cli.specs.Texts.{penetrations_of};
+ghost use Rattle.stitch_cli.specs.Reports.{penetrations_of};
 
 use crate::halt::Halt;
 use crate::product::{Output, Product, one_output};
@@ -39,7 +39,8 @@ pub(crate) fn sample<'a>(alloc: Global, number: u32, name: &'a str) -> Result<Pr
 fn sampled<'a>(alloc: Global, number: u32, name: &'a str) -> Result<Product<'a>, Memory>
     requires low { 1 ≤ number }
     requires high { number ≤ MAX_NUMBER }
-    ensures { IfOk result (λ product. TellsOf (sample_order number name.now) (sample_of number) (product_of product)) }
+    ensures { IfOk result (λ product. TellsOf (sample_order number name.now) (sample_of number)
+        (product_of product)) }
 {
     let drawing = sample_drawing(alloc, number)?;
     told(alloc, number, name, &drawing)
@@ -52,7 +53,8 @@ fn told<'a>(
     name: &'a str,
     drawing: &Drawing,
 ) -> Result<Product<'a>, Memory>
-    ensures { IfOk result (λ product. TellsOf (sample_order number name.now) drawing.now (product_of product)) }
+    ensures { IfOk result (λ product. TellsOf (sample_order number name.now) drawing.now
+        (product_of product)) }
 {
     // The clauses of `step` bring the drawing's limits.
     let _step = drawing.step();
@@ -85,7 +87,8 @@ fn summary(
     requires blocks { All (λ p. p.block < MAX_BLOCKS) pieces.now }
     requires most { length pieces.now ≤ MAX_LINES }
     requires few { sum_by penetrations_of (reports_from 1 pieces.now certs.now) < 2 ^ 32 }
-    ensures { IfOk result (λ s. s ≡ summed number lines pieces.now (reports_from 1 pieces.now certs.now)) }
+    ensures { IfOk result (λ s. s ≡ summed number lines pieces.now
+        (reports_from 1 pieces.now certs.now)) }
 {
     let reports = reports_of(alloc, pieces, certs)?;
     let (cost, retraced) = cost_sums(reports.as_slice());

@@ -1,6 +1,6 @@
 ghost use Rattle.outside_io.specs.Files.{IsName};
 ghost use Rattle.stitch_cli.specs.Endings.{Prepares, Settles};
-ghost use Rattle.stitch_cli.specs.Orders.{show_order};
+ghost use Rattle.stitch_cli.specs.OrderNames.{show_order};
 ghost use Rattle.stitch_cli.specs.Shows.{show_plan, show_read};
 
 use crate::design_reports::print_loaded;
@@ -32,7 +32,8 @@ fn shown<'a>(
     format: &Box<dyn Format>,
     bytes: &[u8],
 ) -> Result<Product<'a>, Halt<'a>>
-    ensures { Settles (show_read (show_order file.now (meaning format.now)) ((meaning format.now).reads bytes.now))
+    ensures { Settles (show_read (show_order file.now (meaning format.now))
+        ((meaning format.now).reads bytes.now))
         result }
 {
     match decode_by(alloc, format, bytes) {

@@ -1,5 +1,5 @@
 ghost use Rattle.std.specs.Prelude.{◌≡◌, IfOk, string_bytes};
-ghost use Rattle.stitch_cli.specs.Texts.{summary_counts, summary_costs, summary_odds, summary_text};
+ghost use Rattle.stitch_cli.specs.Reports.{summary_counts, summary_costs, summary_odds, summary_text};
 
 use design_model::{Bytes, Memory};
 use std::alloc::Global;

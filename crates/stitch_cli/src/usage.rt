@@ -1,5 +1,5 @@
 ghost use Rattle.std.specs.Prelude.{◌≡◌};
-ghost use Rattle.stitch_cli.specs.Texts.{usage_text};
+ghost use Rattle.stitch_cli.specs.UsageText.{usage_text};
 
 /// The usage text, which stands on standard error where the words ask for nothing that the program does.
 pub const USAGE: &[u8] = b"usage: stitch route DRAWING OUT CERT

@@ -8,7 +8,8 @@ pub returns-in-Err : goal.returns-in-Err
 returns-in-Err g c = record {
   ok = tt;
   err = puts_broke _ _ _ _ _ _ _ c.loop-piece.invariant
-      (at_drop_more (λ pieces. concat (map (λ piece. piece.now) pieces)) c.args.pieces.now c.loop-piece.piece-index _ c.loop-piece-test.true)
+      (at_drop_more (λ pieces. concat (map (λ piece. piece.now) pieces)) c.args.pieces.now c.loop-piece.piece-index _
+      c.loop-piece-test.true)
       c.in-Err.ensures.err;
 }
 
@@ -20,6 +21,7 @@ loop-piece-preserved g c = puts_on _ _ _ _ _ _ _ c.loop-piece.invariant
 pub returns : goal.returns
 returns g c = record {
   ok = puts_all _ _ _ _ c.loop-piece.invariant
-      (ap (λ pieces. concat (map (λ piece. piece.now) pieces)) (drop_all c.loop-piece.piece-index c.args.pieces.now c.loop-piece-test.false));
+      (ap (λ pieces. concat (map (λ piece. piece.now) pieces)) (drop_all c.loop-piece.piece-index c.args.pieces.now
+      c.loop-piece-test.false));
   err = tt;
 }

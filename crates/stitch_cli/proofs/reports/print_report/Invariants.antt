@@ -1,5 +1,5 @@
 use Rattle.std.proofs.Common.{◌≡◌, ◌++◌, ◌+◌, drop, sum_by}
-use Rattle.stitch_cli.specs.Texts.{penetrations_of, piece_lines}
+use Rattle.stitch_cli.specs.Reports.{penetrations_of, piece_lines}
 use Rattle.stitch_cli.proofs.reports.print_report.Given as goal
 
 -- the lines and the sum so far, and those of the pieces that are left
