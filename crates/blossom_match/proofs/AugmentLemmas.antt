@@ -11,7 +11,8 @@ use Rattle.blossom_match.proofs.ListLemmas.{each-left, each-last, each-push}
 use Rattle.blossom_match.proofs.TreeLemmas.{last_of, outer_members_push, inner_members_push, branch_bands_push, couple_members_push, couple_bands_push}
 
 -- what is left to do does the rest
-pub record Pairing (root met : NestValue) (link : Link) (tree : List Branch) (old now : List Couple) (hand : NestValue) (way : Link) (left : List Branch) : Type 0 where
+pub record Pairing (root met : NestValue) (link : Link) (tree : List Branch) (old now : List Couple) (hand : NestValue) (way : Link)
+    (left : List Branch) : Type 0 where
   pub can : Augmenting hand way root left
   pub does : (new : List Couple) → Augments root hand way left now new → Augments root met link tree old new
 
@@ -28,8 +29,16 @@ matched root hand way bs b now new can here a =
     record {
       joined = λ j. a.joined (each-push IsJoined now c j (record { from = one; to = can.to }));
       firm = λ d h w r m t j. let f = each-last (IsFirm d h) bs b t in
-          a.firm d h f.up r f.inner (each-left (IsFirm d h) bs (b ∷ []) t) (each-push (IsFirmCouple d h) now c j (record { link = w; first = f.outer; second = m }));
-      places = λ x. omega (arith, a.places x, couple_members_push x now c, outer_members_push x root.members bs b, inner_members_push x bs b);
+          a.firm d h f.up r f.inner (each-left (IsFirm d h) bs (b ∷ []) t)
+          (each-push (IsFirmCouple d h) now c j (record { link = w; first = f.outer; second = m }));
+      places = λ x. omega (
+        arith,
+        a.places x,
+        couple_members_push x now c,
+        outer_members_push x root.members bs b,
+        inner_members_push x bs
+            b,
+      );
       sums = λ F add. omega (arith, a.sums F add, couple_bands_push F add now c, branch_bands_push F add bs b);
     }
 
@@ -42,12 +51,21 @@ kept root hand way bs b now new can a =
     record {
       joined = λ j. a.joined (each-push IsJoined now c j (record { from = l.pair_from; to = l.pair_to }));
       firm = λ d h w r m t j. let f = each-last (IsFirm d h) bs b t in
-          a.firm d h w r m (each-left (IsFirm d h) bs (b ∷ []) t) (each-push (IsFirmCouple d h) now c j (record { link = f.pair; first = f.inner; second = f.outer }));
-      places = λ x. omega (arith, a.places x, couple_members_push x now c, outer_members_push x root.members bs b, inner_members_push x bs b);
+          a.firm d h w r m (each-left (IsFirm d h) bs (b ∷ []) t)
+          (each-push (IsFirmCouple d h) now c j (record { link = f.pair; first = f.inner; second = f.outer }));
+      places = λ x. omega (
+        arith,
+        a.places x,
+        couple_members_push x now c,
+        outer_members_push x root.members bs b,
+        inner_members_push x bs
+            b,
+      );
       sums = λ F add. omega (arith, a.sums F add, couple_bands_push F add now c, branch_bands_push F add bs b);
     }
 
-pub pairing_matched : (root met : NestValue) (link : Link) (tree : List Branch) (old now next : List Couple) (hand : NestValue) (way : Link) (left bs : List Branch) (b : Branch) →
+pub pairing_matched : (root met : NestValue) (link : Link) (tree : List Branch) (old now next : List Couple) (hand : NestValue) (way : Link)
+    (left bs : List Branch) (b : Branch) →
     Pairing root met link tree old now hand way left → left ≡ bs ++ b ∷ [] → 1 ≤ count way.from b.outer.members →
     next ≡ now ++ couple_of b.outer hand way ∷ [] → Pairing root met link tree old next b.inner b.up bs
 pairing_matched root met link tree old now next hand way left bs b p e here f =
@@ -64,7 +82,8 @@ pairing_matched root met link tree old now next hand way left bs b p e here f =
           (matched root hand way bs b now new can here (subst (λ (ks : List Couple). Augments root b.inner b.up bs ks new) f a)));
     }
 
-pub pairing_kept : (root met : NestValue) (link : Link) (tree : List Branch) (old now next : List Couple) (hand : NestValue) (way : Link) (left bs : List Branch) (b : Branch) →
+pub pairing_kept : (root met : NestValue) (link : Link) (tree : List Branch) (old now next : List Couple) (hand : NestValue) (way : Link)
+    (left bs : List Branch) (b : Branch) →
     Pairing root met link tree old now hand way left → left ≡ bs ++ b ∷ [] → count way.from b.outer.members ≡ 0 →
     next ≡ now ++ couple_of b.inner b.outer b.pair ∷ [] → Pairing root met link tree old next hand way bs
 pairing_kept root met link tree old now next hand way left bs b p e here f =
@@ -81,7 +100,8 @@ pairing_kept root met link tree old now next hand way left bs b p e here f =
           (kept root hand way bs b now new can (subst (λ (ks : List Couple). Augments root hand way bs ks new) f a)));
     }
 
-at_root : (root hand : NestValue) (way : Link) (now : List Couple) → Augmenting hand way root [] → Augments root hand way [] now (now ++ couple_of root hand way ∷ [])
+at_root : (root hand : NestValue) (way : Link) (now : List Couple) → Augmenting hand way root []
+    → Augments root hand way [] now (now ++ couple_of root hand way ∷ [])
 at_root root hand way now can =
     let one : count way.from root.members ≡ 1 = omega (arith, can.from, can.once way.from) in
     let c = couple_of root hand way in
@@ -92,11 +112,14 @@ at_root root hand way now can =
       sums = λ F add. omega (arith, couple_bands_push F add now c, add [] []);
     }
 
-pub pairing_done : (root met : NestValue) (link : Link) (tree : List Branch) (old now new : List Couple) (hand : NestValue) (way : Link) (left : List Branch) →
-    Pairing root met link tree old now hand way left → length left ≡ 0 → new ≡ now ++ couple_of root hand way ∷ [] → Augments root met link tree old new
+pub pairing_done : (root met : NestValue) (link : Link) (tree : List Branch) (old now new : List Couple) (hand : NestValue) (way : Link)
+    (left : List Branch) →
+    Pairing root met link tree old now hand way left → length left ≡ 0 → new ≡ now ++ couple_of root hand way ∷ []
+    → Augments root met link tree old new
 pairing_done root met link tree old now new hand way [] p none f =
     p.does new (subst (λ (ks : List Couple). Augments root hand way [] now ks) (sym f) (at_root root hand way now p.can))
 pairing_done root met link tree old now new hand way (b ∷ bs) p none f = absurd (omega arith)
 
-pub pairing_start : (root met : NestValue) (link : Link) (tree : List Branch) (old : List Couple) → Augmenting met link root tree → Pairing root met link tree old old met link tree
+pub pairing_start : (root met : NestValue) (link : Link) (tree : List Branch) (old : List Couple) → Augmenting met link root tree
+    → Pairing root met link tree old old met link tree
 pairing_start root met link tree old can = record { can = can; does = λ new a. a }

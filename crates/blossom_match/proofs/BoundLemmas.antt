@@ -24,7 +24,8 @@ use Rattle.blossom_match.proofs.FreeLemmas.{load_of}
 use Rattle.blossom_match.proofs.ShrinkLemmas.{two_even}
 use Rattle.blossom_match.proofs.TreeLemmas.{base_in}
 
-load_case : (n : ℕ) (a b : ℕ) (s : NestValue) → Kept s → count a s.members ≡ n → both a b s ≡ 0 → load a b (bands s) ≡ height a (bands s) + height b (bands s)
+load_case : (n : ℕ) (a b : ℕ) (s : NestValue) → Kept s → count a s.members ≡ n → both a b s ≡ 0 → load a b (bands s)
+    ≡ height a (bands s) + height b (bands s)
 load_case zero a b s kept e apart = load_across a b s kept e
 load_case (suc n) a b s kept e apart = load_along a b s kept (omega (arith, e, apart))
 
@@ -32,7 +33,8 @@ load_case (suc n) a b s kept e apart = load_along a b s kept (omega (arith, e, a
 load_either : (a b : ℕ) (s : NestValue) → Kept s → both a b s ≡ 0 → load a b (bands s) ≡ height a (bands s) + height b (bands s)
 load_either a b s kept apart = load_case (count a s.members) a b s kept refl apart
 
-load_branches : (d : ℕ → ℕ → ℕ) (h : ℕ → ℕ) (a b : ℕ) (tree : List Branch) → Each (IsFirm d h) tree → count a (inner_members tree) ≡ 0 → around a b tree ≡ 0 →
+load_branches : (d : ℕ → ℕ → ℕ) (h : ℕ → ℕ) (a b : ℕ) (tree : List Branch) → Each (IsFirm d h) tree → count a (inner_members tree) ≡ 0
+    → around a b tree ≡ 0 →
     load a b (branch_bands tree) ≡ height a (branch_bands tree) + height b (branch_bands tree)
 load_branches d h a b [] f none apart = refl
 load_branches d h a b (c ∷ cs) f none apart =
@@ -70,7 +72,8 @@ load_couples d h a b (c ∷ cs) f none =
     )
 
 -- between an outer place and a place that no set holds with it, the heights are the load
-pub loads_apart : (t : TableValue) (h : ℕ → ℕ) (s : Search) (a b : ℕ) → IsSearch t h s → 1 ≤ count a (outers s) → holding_both a b s ≡ 0 → load_of s a b ≡ height_of s a + height_of s b
+pub loads_apart : (t : TableValue) (h : ℕ → ℕ) (s : Search) (a b : ℕ) → IsSearch t h s → 1 ≤ count a (outers s) → holding_both a b s ≡ 0
+    → load_of s a b ≡ height_of s a + height_of s b
 loads_apart t h s a b i ha apart =
     let one = is_one t a in
     omega (
@@ -81,7 +84,8 @@ loads_apart t h s a b i ha apart =
     )
 
 -- a place that is not free
-tall_set : (t : TableValue) (h : ℕ → ℕ) (s : Search) (x : ℕ) → IsSearch t h s → 1 ≤ count x (outers s) + count x (couple_members s.rest.items) → h x ≡ height_of s x
+tall_set : (t : TableValue) (h : ℕ → ℕ) (s : Search) (x : ℕ) → IsSearch t h s
+    → 1 ≤ count x (outers s) + count x (couple_members s.rest.items) → h x ≡ height_of s x
 tall_set t h s x i here = i.tall x (omega (arith, i.places x, is_one t x, here))
 
 pub not_both : (s : Search) (a b : ℕ) → count b (outers s) ≡ 0 → holding_both a b s ≡ 0
@@ -95,31 +99,44 @@ differ_in : (a b : ℕ) (xs ys : List ℕ) → ((x : ℕ) → count x xs + count
 differ_in a b xs ys once ha hb e = omega (arith, once b, hb, ha, ap (λ (x : ℕ). count x xs) e)
 
 -- an outer place and a free one
-pub free_room : (t : TableValue) (h : ℕ → ℕ) (s : Search) (a b : ℕ) → IsSearch t h s → 1 ≤ count a (outers s) → 1 ≤ count b s.free.items → h a + h b ≤ 2 * entry t a b
+pub free_room : (t : TableValue) (h : ℕ → ℕ) (s : Search) (a b : ℕ) → IsSearch t h s → 1 ≤ count a (outers s) → 1 ≤ count b s.free.items
+    → h a + h b ≤ 2 * entry t a b
 free_room t h s a b i ha hb =
-    i.room a b (place_in t a (omega (arith, i.places a, ha))) hb (differ_in a b (outers s) s.free.items (λ x. omega (arith, i.places x, is_one t x)) ha hb)
+    i.room a b (place_in t a (omega (arith, i.places a, ha))) hb
+    (differ_in a b (outers s) s.free.items (λ x. omega (arith, i.places x, is_one t x)) ha hb)
 
-coupled_room : (t : TableValue) (h : ℕ → ℕ) (s : Search) (a b : ℕ) → IsSearch t h s → 1 ≤ count a (outers s) → 1 ≤ count b (couple_members s.rest.items) → h a + h b ≤ 2 * entry t a b
+coupled_room : (t : TableValue) (h : ℕ → ℕ) (s : Search) (a b : ℕ) → IsSearch t h s → 1 ≤ count a (outers s)
+    → 1 ≤ count b (couple_members s.rest.items) → h a + h b ≤ 2 * entry t a b
 coupled_room t h s a b i ha hb =
     let ne = differ_in a b (outers s) (couple_members s.rest.items) (λ x. omega (arith, i.places x, is_one t x)) ha hb in
     let l = i.loads a b (place_in t a (omega (arith, i.places a, ha))) (place_in t b (omega (arith, i.places b, hb))) ne in
-    omega (arith, l, loads_apart t h s a b i ha (not_both s a b (omega (arith, i.places b, is_one t b, hb))), tall_set t h s a i (omega (arith, ha)), tall_set t h s b i (omega (arith, hb)))
+    omega (
+      arith,
+      l,
+      loads_apart t h s a b i ha (not_both s a b (omega (arith, i.places b, is_one t b, hb))),
+      tall_set t h s a i
+          (omega (arith, ha)),
+      tall_set t h s b i (omega (arith, hb)),
+    )
 
 pub apart_differ : (s : Search) (a b : ℕ) → 1 ≤ count a (outers s) → holding_both a b s ≡ 0 → a ≢ b
 apart_differ s a b ha apart e =
     let same : holding_both a a s ≡ 0 = subst (λ (x : ℕ). holding_both a x s ≡ 0) (sym e) apart in
     omega (arith, same, ha, around_same a s.root.members s.tree.items)
 
-outer_room : (t : TableValue) (h : ℕ → ℕ) (s : Search) (a b : ℕ) → IsSearch t h s → 1 ≤ count a (outers s) → 1 ≤ count b (outers s) → holding_both a b s ≡ 0 → h a + h b ≤ 2 * entry t a b
+outer_room : (t : TableValue) (h : ℕ → ℕ) (s : Search) (a b : ℕ) → IsSearch t h s → 1 ≤ count a (outers s) → 1 ≤ count b (outers s)
+    → holding_both a b s ≡ 0 → h a + h b ≤ 2 * entry t a b
 outer_room t h s a b i ha hb apart =
-    let l = i.loads a b (place_in t a (omega (arith, i.places a, ha))) (place_in t b (omega (arith, i.places b, hb))) (apart_differ s a b ha apart) in
+    let l = i.loads a b (place_in t a (omega (arith, i.places a, ha))) (place_in t b (omega (arith, i.places b, hb)))
+    (apart_differ s a b ha apart) in
     omega (arith, l, loads_apart t h s a b i ha apart, tall_set t h s a i (omega (arith, ha)), tall_set t h s b i (omega (arith, hb)))
 
 either_room : (P : Type 0) (n m : ℕ) → (1 ≤ n → P) → (1 ≤ m → P) → 1 ≤ n + m → P
 either_room P zero m p q some = q (omega arith)
 either_room P (suc n) m p q some = p (omega arith)
 
-pub offer_free : (t : TableValue) (h : ℕ → ℕ) (s : Search) (hs : List ℕ) → IsSearch t h s → HeightsAre hs h → (a b : ℕ) → 1 ≤ count a (outers s) → 1 ≤ count b s.free.items → CanOffer t hs kind.Meet a b
+pub offer_free : (t : TableValue) (h : ℕ → ℕ) (s : Search) (hs : List ℕ) → IsSearch t h s → HeightsAre hs h → (a b : ℕ)
+    → 1 ≤ count a (outers s) → 1 ≤ count b s.free.items → CanOffer t hs kind.Meet a b
 offer_free t h s hs i at a b ha hb = record {
   a_in = place_in t a (omega (arith, i.places a, ha));
   b_in = place_in t b (omega (arith, i.places b, hb));
@@ -127,7 +144,8 @@ offer_free t h s hs i at a b ha hb = record {
   whole = omega arith;
 }
 
-pub offer_coupled : (t : TableValue) (h : ℕ → ℕ) (s : Search) (hs : List ℕ) → IsSearch t h s → HeightsAre hs h → (a b : ℕ) → 1 ≤ count a (outers s) → 1 ≤ count b (couple_members s.rest.items) → CanOffer t hs kind.Grow a b
+pub offer_coupled : (t : TableValue) (h : ℕ → ℕ) (s : Search) (hs : List ℕ) → IsSearch t h s → HeightsAre hs h → (a b : ℕ)
+    → 1 ≤ count a (outers s) → 1 ≤ count b (couple_members s.rest.items) → CanOffer t hs kind.Grow a b
 offer_coupled t h s hs i at a b ha hb = record {
   a_in = place_in t a (omega (arith, i.places a, ha));
   b_in = place_in t b (omega (arith, i.places b, hb));
@@ -135,13 +153,20 @@ offer_coupled t h s hs i at a b ha hb = record {
   whole = omega arith;
 }
 
-pub can_cross : (t : TableValue) (h : ℕ → ℕ) (s : Search) (hs : List ℕ) → IsSearch t h s → HeightsAre hs h → CanCross t hs s.root s.tree.items
+pub can_cross : (t : TableValue) (h : ℕ → ℕ) (s : Search) (hs : List ℕ) → IsSearch t h s → HeightsAre hs h
+    → CanCross t hs s.root s.tree.items
 can_cross t h s hs i at = record {
   offer = λ a b ha hb apart. record {
     a_in = place_in t a (omega (arith, i.places a, ha));
     b_in = place_in t b (omega (arith, i.places b, hb));
     room = omega (arith, at a, at b, outer_room t h s a b i ha hb apart);
-    whole = omega (arith, at a, at b, two_even (entry t) h s.root s.tree.items i.grown i.root i.tree a b (omega (arith, ha)) (omega (arith, hb)));
+    whole = omega (
+      arith,
+      at a,
+      at b,
+      two_even (entry t) h s.root s.tree.items i.grown i.root i.tree a b (omega (arith, ha))
+          (omega (arith, hb)),
+    );
   };
   once = λ x. omega (arith, i.places x, is_one t x);
 }
@@ -149,7 +174,8 @@ can_cross t h s hs i at = record {
 set_in_root : (s : Search) (r : ℕ) → 1 ≤ count r s.root.members → 1 ≤ count r (outers s)
 set_in_root s r here = omega (arith, here, base_in r s.root.members s.tree.items)
 
-free_limit : (m : ℕ) (t : TableValue) (h : ℕ → ℕ) (s : Search) (x : ℕ) → IsTable t → IsSearch t h s → count x (outers s) + count x (inner_members s.tree.items) + count x (couple_members s.rest.items) ≡ 0 →
+free_limit : (m : ℕ) (t : TableValue) (h : ℕ → ℕ) (s : Search) (x : ℕ) → IsTable t → IsSearch t h s
+    → count x (outers s) + count x (inner_members s.tree.items) + count x (couple_members s.rest.items) ≡ 0 →
     count x s.free.items ≡ m → h x ≤ 2 * MAX_DISTANCE
 free_limit zero t h s x is i e none =
     omega (
@@ -165,38 +191,58 @@ free_limit (suc m) t h s x is i e some =
     let lr = place_in t r.0 (omega (arith, i.places r.0, ho)) in
     omega (arith, free_room t h s r.0 x i ho (omega (arith, some)), is.short r.0 x lr (place_in t x (omega (arith, i.places x, some))))
 
-high_case : (n : ℕ) (t : TableValue) (h : ℕ → ℕ) (s : Search) (x f : ℕ) → IsTable t → IsSearch t h s → 1 ≤ count f s.free.items → count x (outers s) + count x (inner_members s.tree.items) + count x (couple_members s.rest.items) ≡ n →
+high_case : (n : ℕ) (t : TableValue) (h : ℕ → ℕ) (s : Search) (x f : ℕ) → IsTable t → IsSearch t h s → 1 ≤ count f s.free.items
+    → count x (outers s) + count x (inner_members s.tree.items) + count x (couple_members s.rest.items) ≡ n →
     h x ≤ 2 * MAX_DISTANCE
 high_case zero t h s x f is i hf e = free_limit (count x s.free.items) t h s x is i e refl
 high_case (suc n) t h s x f is i hf e =
     let lx = place_in t x (omega (arith, i.places x, e)) in
     let lf = place_in t f (omega (arith, i.places f, hf)) in
-    let ne : x ≢ f = λ g. omega (arith, i.places f, is_one t f, hf, e, ap (λ (y : ℕ). count y (outers s) + count y (inner_members s.tree.items) + count y (couple_members s.rest.items)) g) in
+    let ne : x ≢ f = λ g. omega (
+      arith,
+      i.places f,
+      is_one t f,
+      hf,
+      e,
+      ap
+          (λ (y : ℕ). count y (outers s) + count y (inner_members s.tree.items) + count y (couple_members s.rest.items)) g,
+    ) in
     omega (arith, i.room x f lx hf ne, is.short x f lx lf)
 
 -- while a place is free, no height is more than twice the largest distance
-pub height_limit : (t : TableValue) (h : ℕ → ℕ) (s : Search) (x f : ℕ) → IsTable t → IsSearch t h s → 1 ≤ count f s.free.items → h x ≤ 2 * MAX_DISTANCE
-height_limit t h s x f is i hf = high_case (count x (outers s) + count x (inner_members s.tree.items) + count x (couple_members s.rest.items)) t h s x f is i hf refl
+pub height_limit : (t : TableValue) (h : ℕ → ℕ) (s : Search) (x f : ℕ) → IsTable t → IsSearch t h s → 1 ≤ count f s.free.items
+    → h x ≤ 2 * MAX_DISTANCE
+height_limit t h s x f is i hf = high_case (count x (outers s) + count x (inner_members s.tree.items)
+    + count x (couple_members s.rest.items)) t h s x f is i hf refl
 
-due_found : (t : TableValue) (h : ℕ → ℕ) (s : Search) (hs xs : List ℕ) (c : Change) → HeightsAre hs h → ((x : ℕ) → count x xs ≤ count x (outers s)) → Found t hs kind.Meet xs s.free.items c → IsDue t h s c.by c.step
-due_found t h s hs xs c at within f = subst (λ (st : Step). IsDue t h s c.by st) (sym f.step) (omega (arith, f.in_xs, within f.a), f.in_ys, omega (arith, f.exact, at f.a, at f.b))
+due_found : (t : TableValue) (h : ℕ → ℕ) (s : Search) (hs xs : List ℕ) (c : Change) → HeightsAre hs h
+    → ((x : ℕ) → count x xs ≤ count x (outers s)) → Found t hs kind.Meet xs s.free.items c → IsDue t h s c.by c.step
+due_found t h s hs xs c at within f = subst (λ (st : Step). IsDue t h s c.by st) (sym f.step)
+    (omega (arith, f.in_xs, within f.a), f.in_ys, omega (arith, f.exact, at f.a, at f.b))
 
-due_grown : (t : TableValue) (h : ℕ → ℕ) (s : Search) (hs xs : List ℕ) (c : Change) → HeightsAre hs h → ((x : ℕ) → count x xs ≤ count x (outers s)) → Found t hs kind.Grow xs (couple_members s.rest.items) c → IsDue t h s c.by c.step
-due_grown t h s hs xs c at within f = subst (λ (st : Step). IsDue t h s c.by st) (sym f.step) (omega (arith, f.in_xs, within f.a), f.in_ys, omega (arith, f.exact, at f.a, at f.b))
+due_grown : (t : TableValue) (h : ℕ → ℕ) (s : Search) (hs xs : List ℕ) (c : Change) → HeightsAre hs h
+    → ((x : ℕ) → count x xs ≤ count x (outers s)) → Found t hs kind.Grow xs (couple_members s.rest.items) c → IsDue t h s c.by c.step
+due_grown t h s hs xs c at within f = subst (λ (st : Step). IsDue t h s c.by st) (sym f.step)
+    (omega (arith, f.in_xs, within f.a), f.in_ys, omega (arith, f.exact, at f.a, at f.b))
 
-due_crossed : (t : TableValue) (h : ℕ → ℕ) (s : Search) (hs : List ℕ) (c : Change) → HeightsAre hs h → Crossed t hs s.root s.tree.items c → IsDue t h s c.by c.step
-due_crossed t h s hs c at f = subst (λ (st : Step). IsDue t h s c.by st) (sym f.step) (f.in_a, f.in_b, f.apart, omega (arith, f.exact, at f.a, at f.b))
+due_crossed : (t : TableValue) (h : ℕ → ℕ) (s : Search) (hs : List ℕ) (c : Change) → HeightsAre hs h → Crossed t hs s.root s.tree.items c
+    → IsDue t h s c.by c.step
+due_crossed t h s hs c at f = subst (λ (st : Step). IsDue t h s c.by st) (sym f.step)
+    (f.in_a, f.in_b, f.apart, omega (arith, f.exact, at f.a, at f.b))
 
 due_ring : (t : TableValue) (h : ℕ → ℕ) (s : Search) (c : Change) → RingIsDue s.tree.items c → IsDue t h s c.by c.step
 due_ring t h s c f = subst (λ (st : Step). IsDue t h s c.by st) (sym f.step) f.due
 
-still : (t : TableValue) (h : ℕ → ℕ) (s : Search) (Q : Change → Type 0) (old new : Change) → IsDue t h s old.by old.step → ((c : Change) → Q c → IsDue t h s c.by c.step) → (new ≡ old) ⊎ Q new → IsDue t h s new.by new.step
+still : (t : TableValue) (h : ℕ → ℕ) (s : Search) (Q : Change → Type 0) (old new : Change) → IsDue t h s old.by old.step
+    → ((c : Change) → Q c → IsDue t h s c.by c.step) → (new ≡ old) ⊎ Q new → IsDue t h s new.by new.step
 still t h s Q old new due q (inl e) = subst (λ (c : Change). IsDue t h s c.by c.step) (sym e) due
 still t h s Q old new due q (inr f) = q new f
 
 -- the least of all changes leaves room everywhere, and its step is due
-pub bounds_of : (t : TableValue) (h : ℕ → ℕ) (s : Search) (hs found coupled : List ℕ) (first best grown met new : Change) → IsSearch t h s → HeightsAre hs h → Found t hs kind.Meet s.root.members s.free.items first →
-    Crosses t hs s.root s.tree.items first best → ((x : ℕ) → count x found ≡ count x (outers s)) → coupled ≡ couple_members s.rest.items → Scans t hs kind.Grow found coupled best grown →
+pub bounds_of : (t : TableValue) (h : ℕ → ℕ) (s : Search) (hs found coupled : List ℕ) (first best grown met new : Change) → IsSearch t h s
+    → HeightsAre hs h → Found t hs kind.Meet s.root.members s.free.items first →
+    Crosses t hs s.root s.tree.items first best → ((x : ℕ) → count x found ≡ count x (outers s)) → coupled ≡ couple_members s.rest.items
+    → Scans t hs kind.Grow found coupled best grown →
     Scans t hs kind.Meet found s.free.items grown met → Narrows s.tree.items met new → Bounds t h s new
 bounds_of t h s hs found coupled first best grown met new i at one crosses same e grows meets narrows =
     let g = subst (λ (xs : List ℕ). Scans t hs kind.Grow found xs best grown) e grows in
@@ -209,7 +255,8 @@ bounds_of t h s hs found coupled first best grown met new i at one crosses same 
       due = still t h s (RingIsDue s.tree.items) met new
           (still t h s (Found t hs kind.Meet found s.free.items) grown met
           (still t h s (Found t hs kind.Grow found (couple_members s.rest.items)) best grown
-          (still t h s (Crossed t hs s.root s.tree.items) first best (due_found t h s hs s.root.members first at (λ x. base_in x s.root.members s.tree.items) one)
+          (still t h s (Crossed t hs s.root s.tree.items) first best
+          (due_found t h s hs s.root.members first at (λ x. base_in x s.root.members s.tree.items) one)
           (λ c f. due_crossed t h s hs c at f) crosses.is)
           (λ c f. due_grown t h s hs found c at (λ x. omega (arith, same x)) f) g.is)
           (λ c f. due_found t h s hs found c at (λ x. omega (arith, same x)) f) meets.is)

@@ -11,7 +11,8 @@ use Rattle.blossom_match.proofs.SumLemmas.{count-append}
 pub couple_here : (cs : List Couple) (i : ℕ) (c : Couple) → i < length cs → c ≡ get_or cs i c → drop i cs ≡ c ∷ drop (i + 1) cs
 couple_here cs i c lt is = rw add-one (drop-cons cs i c lt ∙ ap (λ (k : Couple). k ∷ drop (suc i) cs) (sym is))
 
-pub couple_later : (x : ℕ) (cs : List Couple) (i : ℕ) (c : Couple) → i < length cs → c ≡ get_or cs i c → count x c.first.members ≡ 0 → count x c.second.members ≡ 0 →
+pub couple_later : (x : ℕ) (cs : List Couple) (i : ℕ) (c : Couple) → i < length cs → c ≡ get_or cs i c → count x c.first.members ≡ 0
+    → count x c.second.members ≡ 0 →
     1 ≤ count x (couple_members (drop i cs)) → 1 ≤ count x (couple_members (drop (i + 1) cs))
 couple_later x cs i c lt is off none some =
     omega (
@@ -21,7 +22,8 @@ couple_later x cs i c lt is off none some =
       count-append x c.second.members (couple_members (drop (i + 1) cs)),
     )
 
-pub taken_out : (x : ℕ) (old new : List Couple) (i : ℕ) (c : Couple) → i < length old → c ≡ get_or old i c → new ≡ take i old ++ drop (suc i) old → CoupleHolds x old i →
+pub taken_out : (x : ℕ) (old new : List Couple) (i : ℕ) (c : Couple) → i < length old → c ≡ get_or old i c → new
+    ≡ take i old ++ drop (suc i) old → CoupleHolds x old i →
     TakesOut x old new c
 taken_out x old new i c lt is now holds =
     let here : drop i old ≡ c ∷ drop (suc i) old = drop-cons old i c lt ∙ ap (λ (k : Couple). k ∷ drop (suc i) old) (sym is) in

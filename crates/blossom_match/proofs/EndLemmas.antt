@@ -38,28 +38,34 @@ below_case false false true x n e f g = absurd (eqb-false x n f (omega (arith, l
 below_case false false false x n e f g = omega arith
 
 -- one place more
-pub places_more : (x n : ℕ) (xs new : List ℕ) → new ≡ xs ++ n ∷ [] → count x xs ≡ cond (ltb x n) 1 0 → count x new ≡ cond (ltb x (n + 1)) 1 0
+pub places_more : (x n : ℕ) (xs new : List ℕ) → new ≡ xs ++ n ∷ [] → count x xs ≡ cond (ltb x n) 1 0 → count x new
+    ≡ cond (ltb x (n + 1)) 1 0
 places_more x n xs new e f =
-    ap (λ (ys : List ℕ). count x ys) e ∙ count-append x xs (n ∷ []) ∙ ap (λ (k : ℕ). k + (hit x n + 0)) f ∙ below_case (ltb x n) (eqb x n) (ltb x (n + 1)) x n refl refl refl
+    ap (λ (ys : List ℕ). count x ys) e ∙ count-append x xs (n ∷ []) ∙ ap (λ (k : ℕ). k + (hit x n + 0)) f
+    ∙ below_case (ltb x n) (eqb x n) (ltb x (n + 1)) x n refl refl refl
 
 -- a free place has a cell
-pub place_there : (t : TableValue) (place : ℕ) (couples : List Couple) (free heights : List ℕ) → Stands t couples (free ++ place ∷ []) heights → place < length heights
+pub place_there : (t : TableValue) (place : ℕ) (couples : List Couple) (free heights : List ℕ)
+    → Stands t couples (free ++ place ∷ []) heights → place < length heights
 place_there t place couples free heights st =
     omega (arith, st.size, place_in t place (omega (arith, st.standing.places place, count-append place free (place ∷ []), hit_same place)))
 
-pub begins : (t : TableValue) (place : ℕ) (couples : List Couple) (free heights : List ℕ) (s : Search) → Stands t couples (free ++ place ∷ []) heights → 1 ≤ length free → Begins place couples free heights s → CanSearch t s
+pub begins : (t : TableValue) (place : ℕ) (couples : List Couple) (free heights : List ℕ) (s : Search)
+    → Stands t couples (free ++ place ∷ []) heights → 1 ≤ length free → Begins place couples free heights s → CanSearch t s
 begins t place couples free heights s st some b =
     let high = λ (hs : List ℕ) (x : ℕ). get_or hs x 0 in
     let at = subst (λ (hs : List ℕ). IsStanding t (high hs) s.rest.items (s.free.items ++ place ∷ [])) (sym b.heights)
     (subst (λ (cs : List Couple). IsStanding t (high heights) cs (s.free.items ++ place ∷ [])) (sym b.rest)
     (subst (λ (xs : List ℕ). IsStanding t (high heights) couples (xs ++ place ∷ [])) (sym b.free) st.standing)) in
     record {
-      search = begun t (height_at s) place s at (subst (λ (hs : List ℕ). s.root ≡ single_of place (high hs place)) (sym b.heights) b.root) b.tree;
+      search = begun t (height_at s) place s at (subst (λ (hs : List ℕ). s.root ≡ single_of place (high hs place)) (sym b.heights) b.root)
+          b.tree;
       size = ap (λ (hs : List ℕ). length hs) b.heights ∙ st.size;
       some = omega (arith, some, ap (λ (xs : List ℕ). length xs) b.free);
     }
 
-pub can_step : (t : TableValue) (s wide : Search) (c : Change) → IsMetric t → CanSearch t s → Bounds t (height_at s) s c → Widens s c wide → CanStep wide c.step
+pub can_step : (t : TableValue) (s wide : Search) (c : Change) → IsMetric t → CanSearch t s → Bounds t (height_at s) s c → Widens s c wide
+    → CanStep wide c.step
 can_step t s wide c m can bounds w =
     let on = w.search t m can bounds in
     record { t = t; search = on.search; ready = on.ready; size = on.size }
@@ -67,23 +73,43 @@ can_step t s wide c m can bounds w =
 pub can_widen_now : (t : TableValue) (s : Search) (c : Change) → IsMetric t → CanSearch t s → Bounds t (height_at s) s c → CanWiden s c
 can_widen_now t s c m can bounds = record { t = t; metric = m; can = can; bounds = bounds }
 
-pub goes : (t : TableValue) (s wide : Search) (c : Change) (next : Stepped) → IsMetric t → CanSearch t s → Bounds t (height_at s) s c → Widens s c wide → Leads wide c.step next → Goes t s next
+pub goes : (t : TableValue) (s wide : Search) (c : Change) (next : Stepped) → IsMetric t → CanSearch t s → Bounds t (height_at s) s c
+    → Widens s c wide → Leads wide c.step next → Goes t s next
 goes t s wide c (More r) m can bounds w l =
     let on = w.search t m can bounds in
     let free = l.free ∙ w.free in
-    let same = subst (λ (hs : List ℕ). IsSearch t (λ (x : ℕ). get_or hs x 0) r) (sym l.heights) (l.search t (height_at wide) on.search on.ready) in
-    (record { search = same; size = ap (λ (hs : List ℕ). length hs) l.heights ∙ on.size; some = omega (arith, can.some, ap (λ (xs : List ℕ). length xs) free) }, omega (arith, l.fewer, w.size), free)
+    let same = subst (λ (hs : List ℕ). IsSearch t (λ (x : ℕ). get_or hs x 0) r) (sym l.heights)
+    (l.search t (height_at wide) on.search on.ready) in (
+      record {
+        search = same;
+        size = ap (λ (hs : List ℕ). length hs) l.heights ∙ on.size;
+        some =
+            omega (arith, can.some, ap (λ (xs : List ℕ). length xs) free);
+      },
+      omega (arith, l.fewer, w.size),
+      free,
+    )
 goes t s wide c (Done r) m can bounds w l =
     let on = w.search t m can bounds in
-    let same = subst (λ (hs : List ℕ). IsStanding t (λ (x : ℕ). get_or hs x 0) r.couples.items r.free.items) (sym l.heights) (l.standing t on.search on.ready) in
-    (record { standing = same; size = ap (λ (hs : List ℕ). length hs) l.heights ∙ on.size }, omega (arith, l.fewer, ap (λ (xs : List ℕ). length xs) w.free))
+    let same = subst (λ (hs : List ℕ). IsStanding t (λ (x : ℕ). get_or hs x 0) r.couples.items r.free.items) (sym l.heights)
+    (l.standing t on.search on.ready) in (
+      record { standing = same; size = ap (λ (hs : List ℕ). length hs) l.heights ∙ on.size },
+      omega
+          (arith, l.fewer, ap (λ (xs : List ℕ). length xs) w.free),
+    )
 
 -- each couple's links are paid
 settled : (d : ℕ → ℕ → ℕ) (h : ℕ → ℕ) (cs : List Couple) → Each IsJoined cs → Each (IsFirmCouple d h) cs → Each (IsSettled d) cs
 settled d h [] j f = tt
 settled d h (c ∷ cs) j f = (
   record {
-    link = omega (arith, f.0.link, f.0.first.local c.link.from (omega (arith, j.0.from)), f.0.second.local c.link.to (omega (arith, j.0.to)));
+    link = omega (
+      arith,
+      f.0.link,
+      f.0.first.local c.link.from (omega (arith, j.0.from)),
+      f.0.second.local c.link.to
+          (omega (arith, j.0.to)),
+    );
     first = f.0.first.paid;
     second = f.0.second.paid;
   },
@@ -105,7 +131,8 @@ below n [] all within low = All-nil (λ (x : ℕ). x < n)
 below n (x ∷ xs) all within low =
     All-cons (λ (y : ℕ). y < n) x xs (low x (omega (arith, within x, hit_same x))) (below n xs all (λ y. omega (arith, within y)) low)
 
-odd_moats : (n : ℕ) (all : List ℕ) (moats : List Moat) → ((x : ℕ) → count x all ≤ 1) → ((x : ℕ) → 1 ≤ count x all → x < n) → Each (IsOddIn all) moats → All (IsOddMoat n) moats
+odd_moats : (n : ℕ) (all : List ℕ) (moats : List Moat) → ((x : ℕ) → count x all ≤ 1) → ((x : ℕ) → 1 ≤ count x all → x < n)
+    → Each (IsOddIn all) moats → All (IsOddMoat n) moats
 odd_moats n all [] once low each = All-nil (IsOddMoat n)
 odd_moats n all (m ∷ moats) once low each =
     All-cons (IsOddMoat n) m moats (record {
@@ -129,21 +156,24 @@ load_same a (s ∷ bs) =
     let e : apart (count a s.members) (count a s.members) ≡ 0 = omega arith in
     omega (arith, load_same a bs, ap (λ (k : ℕ). s.width * k) e)
 
-load_case : (p : Bool) (t : TableValue) (h : ℕ → ℕ) (cs : List Couple) (a b : ℕ) → eqb a b ≡ p → IsStanding t h cs [] → a < t.places → b < t.places → load a b (couple_bands cs) ≤ 2 * entry t a b
+load_case : (p : Bool) (t : TableValue) (h : ℕ → ℕ) (cs : List Couple) (a b : ℕ) → eqb a b ≡ p → IsStanding t h cs [] → a < t.places
+    → b < t.places → load a b (couple_bands cs) ≤ 2 * entry t a b
 load_case true t h cs a b e st la lb =
     let same : a ≡ b = eqb-true a b e in
     omega (arith, load_same a (couple_bands cs), ap (λ (x : ℕ). load a x (couple_bands cs)) (sym same))
 load_case false t h cs a b e st la lb = st.loads a b la lb (eqb-false a b e)
 
 -- what is taken out of couples that hold all places is a matching with moats
-pub matched : (t : TableValue) (cs : List Couple) (pairs : List Pair) (moats : List Moat) → IsMatched t cs → TakesCouples cs [] pairs [] moats → IsMatching t pairs moats
+pub matched : (t : TableValue) (cs : List Couple) (pairs : List Pair) (moats : List Moat) → IsMatched t cs
+    → TakesCouples cs [] pairs [] moats → IsMatching t pairs moats
 matched t cs pairs moats s k =
     let st = s.stands.standing in
     let places = λ (x : ℕ). st.places x in
     let lie = subst (λ (ms : List Moat). LieIn (couple_members cs) ms) (sym k.is) k.lie in
     record {
       paired = λ x. omega (arith, k.places x, places x);
-      odd = odd_moats t.places (couple_members cs) moats (λ x. omega (arith, places x, is_one t x)) (λ x some. place_in t x (omega (arith, places x, some))) lie.each;
+      odd = odd_moats t.places (couple_members cs) moats (λ x. omega (arith, places x, is_one t x))
+          (λ x some. place_in t x (omega (arith, places x, some))) lie.each;
       laminar = pairs_all AreLaminar moats lie.apart;
       loads = λ a b la lb. omega (arith, k.loads a b, load_case (eqb a b) t (λ x. get_or s.heights x 0) cs a b refl st la lb);
       paid = omega (arith, k.widths, k.paid t (settled (entry t) (λ x. get_or s.heights x 0) cs st.joined st.firm));

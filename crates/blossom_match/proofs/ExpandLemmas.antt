@@ -20,12 +20,19 @@ use Rattle.blossom_match.proofs.MirrorLemmas.{linked_left}
 use Rattle.blossom_match.proofs.TreeLemmas.{last_of, outer_members_push, inner_members_push, outer_members_base, branch_bands_push, branch_bands-append, inner_bands_push, inner_bands-append, couple_bands-append, couple_members-append, grown_more, grown-append, outer-append, inner-append}
 
 -- in a ring without a width each part alone makes the heights of its members
-parts_local : (h : ℕ → ℕ) (ps : List Part) → AllKept ps → ((x : ℕ) → count x (members_in ps) ≤ 1) → ((x : ℕ) → 1 ≤ count x (members_in ps) → height x (bands_in ps) ≡ h x) → AllLocal h ps
+parts_local : (h : ℕ → ℕ) (ps : List Part) → AllKept ps → ((x : ℕ) → count x (members_in ps) ≤ 1)
+    → ((x : ℕ) → 1 ≤ count x (members_in ps) → height x (bands_in ps) ≡ h x) → AllLocal h ps
 parts_local h [] kept once at = tt
 parts_local h (p ∷ ps) kept once at =
     let c = λ (x : ℕ). count-append x p.nest.members (members_in ps) in
     let s = λ (x : ℕ). height-append x (bands p.nest) (bands_in ps) in (
-      λ x here. omega (arith, at x (omega (arith, c x, here)), s x, none_tall x (bands_in ps) (none_in x ps kept.1 (omega (arith, c x, once x, here)))),
+      λ x here. omega (
+        arith,
+        at x (omega (arith, c x, here)),
+        s x,
+        none_tall x (bands_in ps)
+            (none_in x ps kept.1 (omega (arith, c x, once x, here))),
+      ),
       parts_local h ps kept.1 (λ x. omega (arith, once x, c x))
           (λ x here. omega (arith, at x (omega (arith, c x, here)), s x, low x p.nest kept.0 (omega (arith, c x, once x, here)))),
     )
@@ -34,11 +41,13 @@ AllLocal_on : (h : ℕ → ℕ) (qs : List Part) (p : Part) → AllLocal h qs �
 AllLocal_on h [] p a b = (b, tt)
 AllLocal_on h (q ∷ qs) p a b = (a.0, AllLocal_on h qs p a.1 b)
 
-links_tight : (d : ℕ → ℕ → ℕ) (h : ℕ → ℕ) (p e : Part) (qs : List Part) → ChainTight d h p (qs ++ e ∷ []) → Each (λ (k : Part). IsTight d h k.next) (p ∷ qs)
+links_tight : (d : ℕ → ℕ → ℕ) (h : ℕ → ℕ) (p e : Part) (qs : List Part) → ChainTight d h p (qs ++ e ∷ [])
+    → Each (λ (k : Part). IsTight d h k.next) (p ∷ qs)
 links_tight d h p e [] t = (t.0, tt)
 links_tight d h p e (q ∷ qs) t = (t.0, links_tight d h q e qs t.1)
 
-firm_each : (d : ℕ → ℕ → ℕ) (h : ℕ → ℕ) (ps : List Part) → AllKept ps → AllLocal h ps → Each (λ (k : Part). IsTight d h k.next) ps → IsPaid d (tolls_in ps) →
+firm_each : (d : ℕ → ℕ → ℕ) (h : ℕ → ℕ) (ps : List Part) → AllKept ps → AllLocal h ps → Each (λ (k : Part). IsTight d h k.next) ps
+    → IsPaid d (tolls_in ps) →
     ((x y : ℕ) → 1 ≤ count x (members_in ps) → 1 ≤ count y (members_in ps) → (h x + h y) % 2 ≡ 0) → Each (IsFirmPart d h) ps
 firm_each d h [] kept at t paid even = tt
 firm_each d h (p ∷ ps) kept at t paid even =
@@ -52,16 +61,20 @@ firm_each d h (p ∷ ps) kept at t paid even =
           even = λ x y hx hy. even x y (omega (arith, c x, hx)) (omega (arith, c y, hy));
         };
       },
-      firm_each d h ps kept.1 at.1 t.1 (IsPaid-right d p.nest.tolls (tolls_in ps) paid) (λ x y hx hy. even x y (omega (arith, c x, hx)) (omega (arith, c y, hy))),
+      firm_each d h ps kept.1 at.1 t.1 (IsPaid-right d p.nest.tolls (tolls_in ps) paid)
+          (λ x y hx hy. even x y (omega (arith, c x, hx)) (omega (arith, c y, hy))),
     )
 
 -- the parts of a sound ring without a width are firm
-parts_firm : (d : ℕ → ℕ → ℕ) (h : ℕ → ℕ) (ps : List Part) → IsRing ps → ((x : ℕ) → count x (members_in ps) ≤ 1) → IsSound d h (nest_of (members_in ps) 0 ps) → Each (IsFirmPart d h) ps
+parts_firm : (d : ℕ → ℕ → ℕ) (h : ℕ → ℕ) (ps : List Part) → IsRing ps → ((x : ℕ) → count x (members_in ps) ≤ 1)
+    → IsSound d h (nest_of (members_in ps) 0 ps) → Each (IsFirmPart d h) ps
 parts_firm d h [] ring once s = tt
 parts_firm d h (p ∷ ps) ring once s =
     let at = parts_local h (p ∷ ps) ring.kept once (λ x here. omega (arith, s.local x here)) in
-    let tight = paid_is_tight d h p (ps ++ p ∷ []) ring.linked at.0 (AllLocal_on h ps p at.1 at.0) (IsPaid-left d (ring_tolls (p ∷ ps)) (tolls_in (p ∷ ps)) s.paid) in
-    firm_each d h (p ∷ ps) ring.kept at (links_tight d h p p ps tight) (IsPaid-right d (ring_tolls (p ∷ ps)) (tolls_in (p ∷ ps)) s.paid) s.even
+    let tight = paid_is_tight d h p (ps ++ p ∷ []) ring.linked at.0 (AllLocal_on h ps p at.1 at.0)
+    (IsPaid-left d (ring_tolls (p ∷ ps)) (tolls_in (p ∷ ps)) s.paid) in
+    firm_each d h (p ∷ ps) ring.kept at (links_tight d h p p ps tight)
+    (IsPaid-right d (ring_tolls (p ∷ ps)) (tolls_in (p ∷ ps)) s.paid) s.even
 
 drop_past : (xs ys : List Branch) → drop (length xs) (xs ++ ys) ≡ ys
 drop_past [] ys = refl
@@ -81,7 +94,8 @@ pub grown-right : (base : List ℕ) (xs ys : List Branch) → IsGrown base (xs +
 grown-right base [] ys g = g
 grown-right base (b ∷ xs) ys g =
     grown_more (outer_members (b.outer.members ++ base) xs) (b.outer.members ++ outer_members base xs) ys
-    (λ x. omega (arith, outer_members_base x b.outer.members base xs, count-append x b.outer.members (outer_members base xs))) (grown-right (b.outer.members ++ base) xs ys g.4)
+    (λ x. omega (arith, outer_members_base x b.outer.members base xs, count-append x b.outer.members (outer_members base xs)))
+    (grown-right (b.outer.members ++ base) xs ys g.4)
 
 -- the tree as the branches before, the one that comes apart and those after it
 pub record SplitAt (root : NestValue) (old bs : List Branch) (b : Branch) (later : List Branch) : Type 0 where
@@ -96,14 +110,25 @@ pub record SplitAt (root : NestValue) (old bs : List Branch) (b : Branch) (later
   pub after : IsGrown (outer_members root.members (bs ++ b ∷ [])) later
   pub once : (x : ℕ) → count x b.inner.members ≤ 1
 
-pub split_at : (root : NestValue) (old kept bs : List Branch) (b : Branch) (later : List Branch) (at : ℕ) → Expanding root old at → kept ≡ take (at + 1) old → later ≡ drop (at + 1) old →
+pub split_at : (root : NestValue) (old kept bs : List Branch) (b : Branch) (later : List Branch) (at : ℕ) → Expanding root old at → kept
+    ≡ take (at + 1) old → later ≡ drop (at + 1) old →
     kept ≡ bs ++ b ∷ [] → SplitAt root old bs b later
 split_at root old kept bs b later at ex e f g =
     let is : old ≡ (bs ++ b ∷ []) ++ later =
-    sym (take-append-drop (at + 1) old) ∙ ap (λ (ks : List Branch). ks ++ drop (at + 1) old) (sym e ∙ g) ∙ ap (λ (ks : List Branch). (bs ++ b ∷ []) ++ ks) (sym f) in
+    sym (take-append-drop (at + 1) old) ∙ ap (λ (ks : List Branch). ks ++ drop (at + 1) old) (sym e ∙ g)
+    ∙ ap (λ (ks : List Branch). (bs ++ b ∷ []) ++ ks) (sym f) in
     let low = apart_within at old ex.apart in
-    let size : length bs ≡ at = omega (arith, low, length-take (at + 1) old, ap (λ (ks : List Branch). length ks) e, ap (λ (ks : List Branch). length ks) g, length-append bs (b ∷ [])) in
-    let rest : drop at old ≡ b ∷ later = ap (λ (ks : List Branch). drop at ks) (is ∙ append_assoc bs (b ∷ []) later) ∙ ap (λ (i : ℕ). drop i (bs ++ b ∷ later)) (sym size) ∙ drop_past bs (b ∷ later) in
+    let size : length bs ≡ at = omega (
+      arith,
+      low,
+      length-take (at + 1) old,
+      ap (λ (ks : List Branch). length ks) e,
+      ap
+          (λ (ks : List Branch). length ks) g,
+      length-append bs (b ∷ []),
+    ) in
+    let rest : drop at old ≡ b ∷ later = ap (λ (ks : List Branch). drop at ks) (is ∙ append_assoc bs (b ∷ []) later)
+    ∙ ap (λ (i : ℕ). drop i (bs ++ b ∷ later)) (sym size) ∙ drop_past bs (b ∷ later) in
     let apart = subst FirstComesApart rest ex.apart in
     let grown = subst (λ (ks : List Branch). IsGrown root.members ks) is ex.grown in
     let l = last_of root.members bs b (grown-left root.members (bs ++ b ∷ []) later grown) in
@@ -117,15 +142,29 @@ split_at root old kept bs b later at ex e f g =
       pair_from = l.pair_from;
       pair_to = l.pair_to;
       after = grown-right root.members (bs ++ b ∷ []) later grown;
-      once = λ x. omega (arith, ex.once x, ap (λ (ks : List Branch). count x (inner_members ks)) is, inner-append x (bs ++ b ∷ []) later, inner_members_push x bs b);
+      once = λ x. omega (
+        arith,
+        ex.once x,
+        ap (λ (ks : List Branch). count x (inner_members ks)) is,
+        inner-append x
+            (bs ++ b ∷ []) later,
+        inner_members_push x bs b,
+      );
     }
 
-into_ring : (way : Link) (ring : List Part) → IsRing ring → FirstHolds way.to ring → ((x : ℕ) → count x (members_in ring) ≤ 1) → WayInto way ring
+into_ring : (way : Link) (ring : List Part) → IsRing ring → FirstHolds way.to ring → ((x : ℕ) → count x (members_in ring) ≤ 1)
+    → WayInto way ring
 into_ring way [] r first once = absurd first
-into_ring way (p ∷ ps) r first once = (omega (arith, first, once way.to, count-append way.to p.nest.members (members_in ps)), linked_left p ps (p ∷ []) r.linked)
+into_ring way (p ∷ ps) r first once = (
+  omega (arith, first, once way.to, count-append way.to p.nest.members (members_in ps)),
+  linked_left p
+      ps (p ∷ []) r.linked,
+)
 
-pub can_lay : (root : NestValue) (old bs : List Branch) (b : Branch) (later : List Branch) (parts ring : List Part) → SplitAt root old bs b later →
-    b.inner ≡ nest_of (members_in parts) b.inner.width parts → GoesEvenly b.up.to b.pair.from parts ring → CanLay root bs ring b.up b.pair b.outer
+pub can_lay : (root : NestValue) (old bs : List Branch) (b : Branch) (later : List Branch) (parts ring : List Part)
+    → SplitAt root old bs b later →
+    b.inner ≡ nest_of (members_in parts) b.inner.width parts → GoesEvenly b.up.to b.pair.from parts ring
+    → CanLay root bs ring b.up b.pair b.outer
 can_lay root old bs b later parts ring s made g =
     let once = λ (x : ℕ). ap (λ (v : NestValue). count x v.members) made in
     record {
@@ -138,8 +177,10 @@ can_lay root old bs b later parts ring s made g =
       once = λ x. omega (arith, g.places x, once x, s.once x);
     }
 
-pub expanded : (root : NestValue) (old bs : List Branch) (b : Branch) (later mid new : List Branch) (parts ring : List Part) (was cs now : List Couple) → SplitAt root old bs b later →
-    IsRing parts → b.inner ≡ nest_of (members_in parts) b.inner.width parts → GoesEvenly b.up.to b.pair.from parts ring → Lays root bs ring b.up b.pair b.outer mid cs →
+pub expanded : (root : NestValue) (old bs : List Branch) (b : Branch) (later mid new : List Branch) (parts ring : List Part)
+    (was cs now : List Couple) → SplitAt root old bs b later →
+    IsRing parts → b.inner ≡ nest_of (members_in parts) b.inner.width parts → GoesEvenly b.up.to b.pair.from parts ring
+    → Lays root bs ring b.up b.pair b.outer mid cs →
     now ≡ was ++ cs → new ≡ mid ++ later → Expands root old new was now
 expanded root old bs b later mid new parts ring was cs now s is made g l e f =
     let flat : b.inner ≡ nest_of (members_in parts) 0 parts = made ∙ ap (λ (w : ℕ). nest_of (members_in parts) w parts) s.zero_wide in
@@ -149,8 +190,10 @@ expanded root old bs b later mid new parts ring was cs now s is made g l e f =
     let sizes = λ (ks : List Band). length ks in
     let at = λ (F : List Band → ℕ) (add : Adds F). ap (λ (v : NestValue). F (bands v)) flat in
     subst (λ (ks : List Branch). Expands root old ks was now) (sym f)
-    (subst (λ (cs : List Couple). Expands root old (mid ++ later) was cs) (sym e) (subst (λ (ks : List Branch). Expands root ks (mid ++ later) was (was ++ cs)) (sym s.is) (record {
-      grown = grown-append root.members mid later l.grown (grown_more (outer_members root.members tree) (outer_members root.members mid) later
+    (subst (λ (cs : List Couple). Expands root old (mid ++ later) was cs) (sym e)
+    (subst (λ (ks : List Branch). Expands root ks (mid ++ later) was (was ++ cs)) (sym s.is) (record {
+      grown = grown-append root.members mid later l.grown (grown_more (outer_members root.members tree)
+          (outer_members root.members mid) later
           (λ x. omega (arith, l.more x, outer_members_push x root.members bs b)) s.after);
       joined = λ j. each-append IsJoined was cs j l.joined;
       places = λ x. omega (
@@ -192,6 +235,7 @@ expanded root old bs b later mid new parts ring was cs now s is made g l e f =
           let front = each-left (IsFirm d h) tree later t in
           let k = each-last (IsFirm d h) bs b front in
           let sound = subst (λ (v : NestValue). IsSound d h v) flat k.inner in
-          let r = l.firm d h (each-left (IsFirm d h) bs (b ∷ []) front) k.up k.pair (g.firm d h sy (parts_firm d h parts is (λ x. omega (arith, inside x, s.once x)) sound)) k.outer in
+          let r = l.firm d h (each-left (IsFirm d h) bs (b ∷ []) front) k.up k.pair
+          (g.firm d h sy (parts_firm d h parts is (λ x. omega (arith, inside x, s.once x)) sound)) k.outer in
           (each-append (IsFirm d h) mid later r.0 (each-right (IsFirm d h) tree later t), each-append (IsFirmCouple d h) was cs c r.1);
     })))

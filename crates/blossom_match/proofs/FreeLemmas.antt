@@ -27,9 +27,16 @@ abbrev pub load_of : Search → ℕ → ℕ → ℕ
 load_of s a b = load a b (bands s.root) + load a b (branch_bands s.tree.items) + load a b (couple_bands s.rest.items)
 
 pub load_of-comm : (s : Search) (a b : ℕ) → load_of s a b ≡ load_of s b a
-load_of-comm s a b = omega (arith, load-comm a b (bands s.root), load-comm a b (branch_bands s.tree.items), load-comm a b (couple_bands s.rest.items))
+load_of-comm s a b = omega (
+  arith,
+  load-comm a b (bands s.root),
+  load-comm a b (branch_bands s.tree.items),
+  load-comm a b
+      (couple_bands s.rest.items),
+)
 
-none_branches : (d : ℕ → ℕ → ℕ) (h : ℕ → ℕ) (x : ℕ) (base : List ℕ) (tree : List Branch) → Each (IsFirm d h) tree → count x (outer_members base tree) ≡ 0 → count x (inner_members tree) ≡ 0 → NoneHold x (branch_bands tree)
+none_branches : (d : ℕ → ℕ → ℕ) (h : ℕ → ℕ) (x : ℕ) (base : List ℕ) (tree : List Branch) → Each (IsFirm d h) tree
+    → count x (outer_members base tree) ≡ 0 → count x (inner_members tree) ≡ 0 → NoneHold x (branch_bands tree)
 none_branches d h x base [] f none empty = tt
 none_branches d h x base (b ∷ bs) f none empty =
     let o = count-append x b.outer.members (outer_members base bs) in
@@ -38,13 +45,15 @@ none_branches d h x base (b ∷ bs) f none empty =
     (NoneHold-append x (bands b.outer) (branch_bands bs) (none_hold x b.outer f.0.outer.kept (omega (arith, o, none)))
     (none_branches d h x base bs f.1 (omega (arith, o, none)) (omega (arith, i, empty))))
 
-none_couples : (d : ℕ → ℕ → ℕ) (h : ℕ → ℕ) (x : ℕ) (cs : List Couple) → Each (IsFirmCouple d h) cs → count x (couple_members cs) ≡ 0 → NoneHold x (couple_bands cs)
+none_couples : (d : ℕ → ℕ → ℕ) (h : ℕ → ℕ) (x : ℕ) (cs : List Couple) → Each (IsFirmCouple d h) cs → count x (couple_members cs) ≡ 0
+    → NoneHold x (couple_bands cs)
 none_couples d h x [] f none = tt
 none_couples d h x (c ∷ cs) f none =
     let o = count-append x c.first.members (c.second.members ++ couple_members cs) in
     let i = count-append x c.second.members (couple_members cs) in
     NoneHold-append x (bands c.first) (bands c.second ++ couple_bands cs) (none_hold x c.first f.0.first.kept (omega (arith, o, none)))
-    (NoneHold-append x (bands c.second) (couple_bands cs) (none_hold x c.second f.0.second.kept (omega (arith, o, i, none))) (none_couples d h x cs f.1 (omega (arith, o, i, none))))
+    (NoneHold-append x (bands c.second) (couple_bands cs) (none_hold x c.second f.0.second.kept (omega (arith, o, i, none)))
+    (none_couples d h x cs f.1 (omega (arith, o, i, none))))
 
 -- to a free place the load is the height
 load_free : (t : TableValue) (h : ℕ → ℕ) (s : Search) (x f : ℕ) → IsSearch t h s → 1 ≤ count f s.free.items → load_of s x f ≡ height_of s x
@@ -54,7 +63,8 @@ load_free t h s x f i hf =
     omega (
       arith,
       load_alone x f (bands s.root) (none_hold f s.root i.root.kept (omega (arith, base_in f s.root.members s.tree.items, o))),
-      load_alone x f (branch_bands s.tree.items) (none_branches (entry t) h f s.root.members s.tree.items i.tree o (omega (arith, i.places f, one, hf))),
+      load_alone x f (branch_bands s.tree.items) (none_branches (entry t) h f s.root.members s.tree.items i.tree o
+          (omega (arith, i.places f, one, hf))),
       load_alone x f (couple_bands s.rest.items) (none_couples (entry t) h f s.rest.items i.rest (omega (arith, i.places f, one, hf))),
     )
 
@@ -65,7 +75,8 @@ low_free t h s x i some =
     omega (
       arith,
       low x s.root i.root.kept (omega (arith, i.places x, one, base_in x s.root.members s.tree.items, some)),
-      low_branches (entry t) h x s.root.members s.tree.items i.tree (omega (arith, i.places x, one, some)) (omega (arith, i.places x, one, some)),
+      low_branches (entry t) h x s.root.members s.tree.items i.tree (omega (arith, i.places x, one, some))
+          (omega (arith, i.places x, one, some)),
       low_couples (entry t) h x s.rest.items i.rest (omega (arith, i.places x, one, some)),
     )
 
@@ -84,11 +95,13 @@ single_sound d h x =
     record {
       kept = made_kept (x ∷ []) (h x) [] refl;
       paid = tt;
-      local = λ y here. subst (λ (z : ℕ). height z (bands (single_of x (h x))) ≡ h z) (sym (at y here)) (omega (arith, ap (λ (k : ℕ). h x * k) (hit_same x)));
+      local = λ y here. subst (λ (z : ℕ). height z (bands (single_of x (h x))) ≡ h z) (sym (at y here))
+          (omega (arith, ap (λ (k : ℕ). h x * k) (hit_same x)));
       even = λ y z hy hz. omega (arith, ap h (at y hy), ap h (at z hz));
     }
 
-load_case : (p q : Bool) (a b f w old top : ℕ) → eqb a f ≡ p → eqb b f ≡ q → a ≢ b → old ≤ top → (a ≡ f → old + w ≤ top) → (b ≡ f → old + w ≤ top) →
+load_case : (p q : Bool) (a b f w old top : ℕ) → eqb a f ≡ p → eqb b f ≡ q → a ≢ b → old ≤ top → (a ≡ f → old + w ≤ top)
+    → (b ≡ f → old + w ≤ top) →
     old + w * apart (cond p 1 0 + 0) (cond q 1 0 + 0) ≤ top
 load_case true true a b f w old top e g ne base left right = absurd (ne (eqb-true a f e ∙ sym (eqb-true b f g)))
 load_case true false a b f w old top e g ne base left right = omega (arith, left (eqb-true a f e))
@@ -96,10 +109,12 @@ load_case false true a b f w old top e g ne base left right = omega (arith, righ
 load_case false false a b f w old top e g ne base left right = omega (arith, base)
 
 -- the load with the set of one place more
-single_load : (a b f w old top : ℕ) → a ≢ b → old ≤ top → (a ≡ f → old + w ≤ top) → (b ≡ f → old + w ≤ top) → old + load a b (bands (single_of f w)) ≤ top
+single_load : (a b f w old top : ℕ) → a ≢ b → old ≤ top → (a ≡ f → old + w ≤ top) → (b ≡ f → old + w ≤ top)
+    → old + load a b (bands (single_of f w)) ≤ top
 single_load a b f w old top ne base left right = omega (arith, load_case (eqb a f) (eqb b f) a b f w old top refl refl ne base left right)
 
-tall_case : (p : Bool) (x f w top old left was : ℕ) → eqb x f ≡ p → left + cond p 1 0 ≡ was → left ≡ 0 → (was ≡ 0 → top ≡ old) → (x ≡ f → (top ≡ w) × (old ≡ 0)) →
+tall_case : (p : Bool) (x f w top old left was : ℕ) → eqb x f ≡ p → left + cond p 1 0 ≡ was → left ≡ 0 → (was ≡ 0 → top ≡ old)
+    → (x ≡ f → (top ≡ w) × (old ≡ 0)) →
     top ≡ old + w * (cond p 1 0 + 0)
 tall_case true x f w top old left was e n none tall same =
     let at = same (eqb-true x f e) in
@@ -107,15 +122,19 @@ tall_case true x f w top old left was e n none tall same =
 tall_case false x f w top old left was e n none tall same = omega (arith, tall (omega (arith, n, none)))
 
 -- the height with the set of one place more
-single_tall : (x f w top old left was : ℕ) → left + hit x f ≡ was → left ≡ 0 → (was ≡ 0 → top ≡ old) → (x ≡ f → (top ≡ w) × (old ≡ 0)) → top ≡ old + height x (bands (single_of f w))
+single_tall : (x f w top old left was : ℕ) → left + hit x f ≡ was → left ≡ 0 → (was ≡ 0 → top ≡ old) → (x ≡ f → (top ≡ w) × (old ≡ 0)) → top
+    ≡ old + height x (bands (single_of f w))
 single_tall x f w top old left was n none tall same = omega (arith, tall_case (eqb x f) x f w top old left was refl n none tall same)
 
 -- a free place and any other have room in a search
-load_room : (t : TableValue) (h : ℕ → ℕ) (s : Search) (x f : ℕ) → IsSearch t h s → x < t.places → 1 ≤ count f s.free.items → x ≢ f → load_of s x f + h f ≤ 2 * entry t x f
+load_room : (t : TableValue) (h : ℕ → ℕ) (s : Search) (x f : ℕ) → IsSearch t h s → x < t.places → 1 ≤ count f s.free.items → x ≢ f
+    → load_of s x f + h f ≤ 2 * entry t x f
 load_room t h s x f i lx hf ne = omega (arith, load_free t h s x f i hf, under t h s x i, i.room x f lx hf ne)
 
-met_standing : (t : TableValue) (h : ℕ → ℕ) (link : Link) (s : Search) (r : Standing) (m : NestValue) → Augments s.root m link s.tree.items s.rest.items r.couples.items → m ≡ single_of link.to (h link.to) →
-    ((x : ℕ) → count x r.free.items + hit x link.to ≡ count x s.free.items) → IsSearch t h s → 1 ≤ count link.to s.free.items → 2 * entry t link.from link.to ≡ h link.from + h link.to →
+met_standing : (t : TableValue) (h : ℕ → ℕ) (link : Link) (s : Search) (r : Standing) (m : NestValue)
+    → Augments s.root m link s.tree.items s.rest.items r.couples.items → m ≡ single_of link.to (h link.to) →
+    ((x : ℕ) → count x r.free.items + hit x link.to ≡ count x s.free.items) → IsSearch t h s → 1 ≤ count link.to s.free.items
+    → 2 * entry t link.from link.to ≡ h link.from + h link.to →
     IsStanding t h r.couples.items r.free.items
 met_standing t h link s r m aug e counts i here tight =
     let f = link.to in
@@ -131,7 +150,8 @@ met_standing t h link s r m aug e counts i here tight =
       room = λ a g la hg ne. i.room a g la (omega (arith, hg, counts g)) ne;
       places = λ x. omega (arith, i.places x, aug.places x, ap (λ (v : NestValue). count x v.members) e, counts x);
       joined = aug.joined i.joined;
-      firm = aug.firm (entry t) h tight i.root (subst (λ (v : NestValue). IsSound (entry t) h v) (sym e) (single_sound (entry t) h f)) i.tree i.rest;
+      firm = aug.firm (entry t) h tight i.root (subst (λ (v : NestValue). IsSound (entry t) h v) (sym e) (single_sound (entry t) h f))
+          i.tree i.rest;
       loads = λ a b la lb ne. omega (
         arith,
         single_load a b f (h f) (load_of s a b) (2 * entry t a b) ne (i.loads a b la lb ne)
@@ -147,22 +167,27 @@ met_standing t h link s r m aug e counts i here tight =
       );
     }
 
-pub met : (link : Link) (s : Search) (r : Standing) (m : NestValue) → Augments s.root m link s.tree.items s.rest.items r.couples.items → m ≡ single_of link.to (height_at s link.to) →
-    ((x : ℕ) → count x r.free.items + hit x link.to ≡ count x s.free.items) → length r.free.items + 1 ≡ length s.free.items → r.heights.items ≡ s.heights.items → Ends s (Meet link) r
+pub met : (link : Link) (s : Search) (r : Standing) (m : NestValue) → Augments s.root m link s.tree.items s.rest.items r.couples.items → m
+    ≡ single_of link.to (height_at s link.to) →
+    ((x : ℕ) → count x r.free.items + hit x link.to ≡ count x s.free.items) → length r.free.items + 1 ≡ length s.free.items
+    → r.heights.items ≡ s.heights.items → Ends s (Meet link) r
 met link s r m aug e counts fewer same = record {
   standing = λ t i ready. met_standing t (height_at s) link s r m aug e counts i ready.1 ready.2;
   fewer = fewer;
   heights = same;
 }
 
-low_standing : (t : TableValue) (h : ℕ → ℕ) (cs : List Couple) (free : List ℕ) (x : ℕ) → IsStanding t h cs free → 1 ≤ count x free → height x (couple_bands cs) ≡ 0
+low_standing : (t : TableValue) (h : ℕ → ℕ) (cs : List Couple) (free : List ℕ) (x : ℕ) → IsStanding t h cs free → 1 ≤ count x free
+    → height x (couple_bands cs) ≡ 0
 low_standing t h cs free x i some = low_couples (entry t) h x cs i.firm (omega (arith, i.places x, is_one t x, some))
 
-lower_case : (n : ℕ) (t : TableValue) (h : ℕ → ℕ) (cs : List Couple) (free : List ℕ) (x : ℕ) → IsStanding t h cs free → count x free ≡ n → height x (couple_bands cs) ≤ h x
+lower_case : (n : ℕ) (t : TableValue) (h : ℕ → ℕ) (cs : List Couple) (free : List ℕ) (x : ℕ) → IsStanding t h cs free → count x free ≡ n
+    → height x (couple_bands cs) ≤ h x
 lower_case zero t h cs free x i e = omega (arith, i.tall x e)
 lower_case (suc n) t h cs free x i e = omega (arith, low_standing t h cs free x i (omega (arith, e)))
 
-standing_room : (t : TableValue) (h : ℕ → ℕ) (cs : List Couple) (free : List ℕ) (x f : ℕ) → IsStanding t h cs free → x < t.places → 1 ≤ count f free → x ≢ f → load x f (couple_bands cs) + h f ≤ 2 * entry t x f
+standing_room : (t : TableValue) (h : ℕ → ℕ) (cs : List Couple) (free : List ℕ) (x f : ℕ) → IsStanding t h cs free → x < t.places
+    → 1 ≤ count f free → x ≢ f → load x f (couple_bands cs) + h f ≤ 2 * entry t x f
 standing_room t h cs free x f i lx hf ne =
     omega (
       arith,
@@ -172,7 +197,8 @@ standing_room t h cs free x f i lx hf ne =
     )
 
 -- a search from a free place
-pub begun : (t : TableValue) (h : ℕ → ℕ) (place : ℕ) (s : Search) → IsStanding t h s.rest.items (s.free.items ++ place ∷ []) → s.root ≡ single_of place (h place) → s.tree.items ≡ [] → IsSearch t h s
+pub begun : (t : TableValue) (h : ℕ → ℕ) (place : ℕ) (s : Search) → IsStanding t h s.rest.items (s.free.items ++ place ∷ []) → s.root
+    ≡ single_of place (h place) → s.tree.items ≡ [] → IsSearch t h s
 begun t h place s i e f =
     let cs = s.rest.items in
     let at = λ (x : ℕ). count-append x s.free.items (place ∷ []) in
@@ -182,13 +208,22 @@ begun t h place s i e f =
     record {
       tall = λ x none. omega (
         arith,
-        single_tall x place (h place) (h x) (height x (couple_bands cs)) (count x s.free.items) (count x (s.free.items ++ place ∷ [])) (omega (arith, at x)) none (i.tall x)
+        single_tall x place (h place) (h x) (height x (couple_bands cs)) (count x s.free.items) (count x (s.free.items ++ place ∷ []))
+            (omega (arith, at x)) none (i.tall x)
             (λ g. (ap h g, ap (λ (z : ℕ). height z (couple_bands cs)) g ∙ low_standing t h cs (s.free.items ++ place ∷ []) place i here)),
         sums (height x),
         none_hung (height x),
       );
       room = λ a g la hg ne. i.room a g la (omega (arith, hg, at g)) ne;
-      places = λ x. omega (arith, i.places x, at x, ap (λ (v : NestValue). count x (outer_members v.members s.tree.items)) e, ap (λ (bs : List Branch). count x (outer_members (place ∷ []) bs)) f, ap (λ (bs : List Branch). count x (inner_members bs)) f);
+      places = λ x. omega (
+        arith,
+        i.places x,
+        at x,
+        ap (λ (v : NestValue). count x (outer_members v.members s.tree.items)) e,
+        ap
+            (λ (bs : List Branch). count x (outer_members (place ∷ []) bs)) f,
+        ap (λ (bs : List Branch). count x (inner_members bs)) f,
+      );
       grown = subst (λ (bs : List Branch). IsGrown s.root.members bs) (sym f) tt;
       joined = i.joined;
       root = subst (λ (v : NestValue). IsSound (entry t) h v) (sym e) (single_sound (entry t) h place);
@@ -201,9 +236,11 @@ begun t h place s i e f =
               arith,
               load-comm a b (couple_bands cs),
               entry-comm t a b,
-              subst (λ (z : ℕ). load b z (couple_bands cs) + h place ≤ 2 * entry t b z) (sym g) (standing_room t h cs (s.free.items ++ place ∷ []) b place i lb here (λ k. ne (g ∙ sym k))),
+              subst (λ (z : ℕ). load b z (couple_bands cs) + h place ≤ 2 * entry t b z) (sym g)
+                  (standing_room t h cs (s.free.items ++ place ∷ []) b place i lb here (λ k. ne (g ∙ sym k))),
             ))
-            (λ g. subst (λ (z : ℕ). load a z (couple_bands cs) + h place ≤ 2 * entry t a z) (sym g) (standing_room t h cs (s.free.items ++ place ∷ []) a place i la here (λ k. ne (k ∙ sym g)))),
+            (λ g. subst (λ (z : ℕ). load a z (couple_bands cs) + h place ≤ 2 * entry t a z) (sym g)
+            (standing_room t h cs (s.free.items ++ place ∷ []) a place i la here (λ k. ne (k ∙ sym g)))),
         sums (load a b),
         none_hung (load a b),
       );

@@ -15,11 +15,13 @@ use Rattle.blossom_match.proofs.SumLemmas.{count-append, size-append}
 use Rattle.blossom_match.proofs.OpenLemmas.{members_coupled, bands_coupled}
 use Rattle.blossom_match.proofs.TreeLemmas.{grown_push, outer_members_push, inner_members_push, branch_bands_push, inner_bands_push}
 
-pub record Laying (root : NestValue) (old : List Branch) (ring : List Part) (up pair : Link) (outer : NestValue) (now : List Branch) (left : List Part) (way : Link) : Type 0 where
+pub record Laying (root : NestValue) (old : List Branch) (ring : List Part) (up pair : Link) (outer : NestValue) (now : List Branch)
+    (left : List Part) (way : Link) : Type 0 where
   pub can : CanLay root now left way pair outer
   pub does : (new : List Branch) (cs : List Couple) → Lays root now left way pair outer new cs → Lays root old ring up pair outer new cs
 
-pub laying_start : (root : NestValue) (old : List Branch) (ring left : List Part) (up pair : Link) (outer : NestValue) → CanLay root old ring up pair outer → left ≡ ring →
+pub laying_start : (root : NestValue) (old : List Branch) (ring left : List Part) (up pair : Link) (outer : NestValue)
+    → CanLay root old ring up pair outer → left ≡ ring →
     Laying root old ring up pair outer old left up
 laying_start root old ring left up pair outer can e =
     subst (λ (ps : List Part). Laying root old ring up pair outer old ps up) (sym e) (record { can = can; does = λ new cs l. l })
@@ -28,7 +30,8 @@ not_here : (x : ℕ) (p q : Part) (ps : List Part) → EvenlyHolds x (p ∷ q �
 not_here x p q ps (inl h) none = absurd (omega arith)
 not_here x p q ps (inr h) none = h
 
-pub never_alone : (root : NestValue) (now : List Branch) (p : Part) (way pair : Link) (outer : NestValue) → CanLay root now (p ∷ []) way pair outer → count pair.from p.nest.members ≡ 0 → ⊥
+pub never_alone : (root : NestValue) (now : List Branch) (p : Part) (way pair : Link) (outer : NestValue)
+    → CanLay root now (p ∷ []) way pair outer → count pair.from p.nest.members ≡ 0 → ⊥
 never_alone root now p way pair outer can none = omega (arith, can.exit)
 
 pub never_empty : (root : NestValue) (now : List Branch) (way pair : Link) (outer : NestValue) → CanLay root now [] way pair outer → ⊥
@@ -45,7 +48,8 @@ source_of : (q : Part) (ps : List Part) (x : ℕ) → EvenlyHolds x ps → Linke
 source_of q [] x e l = absurd e
 source_of q (r ∷ ps) x e l = l.0.0
 
-pub can_more : (root : NestValue) (now : List Branch) (p q : Part) (ps : List Part) (way pair : Link) (outer : NestValue) → CanLay root now (p ∷ q ∷ ps) way pair outer →
+pub can_more : (root : NestValue) (now : List Branch) (p q : Part) (ps : List Part) (way pair : Link) (outer : NestValue)
+    → CanLay root now (p ∷ q ∷ ps) way pair outer →
     count pair.from p.nest.members ≡ 0 → CanLay root (now ++ branch_of way p.nest p.next q.nest ∷ []) ps q.next pair outer
 can_more root now p q ps way pair outer c none =
     let b = branch_of way p.nest p.next q.nest in
@@ -57,11 +61,19 @@ can_more root now p q ps way pair outer c none =
       exit = e;
       odd = omega (arith, c.odd);
       to = c.to;
-      once = λ x. omega (arith, c.once x, count-append x p.nest.members (q.nest.members ++ members_in ps), count-append x q.nest.members (members_in ps));
+      once = λ x. omega (
+        arith,
+        c.once x,
+        count-append x p.nest.members (q.nest.members ++ members_in ps),
+        count-append x q.nest.members
+            (members_in ps),
+      );
     }
 
-does_more : (root : NestValue) (now : List Branch) (p q : Part) (ps : List Part) (way pair : Link) (outer : NestValue) (new : List Branch) (cs : List Couple) →
-    Lays root (now ++ branch_of way p.nest p.next q.nest ∷ []) ps q.next pair outer new cs → Lays root now (p ∷ q ∷ ps) way pair outer new cs
+does_more : (root : NestValue) (now : List Branch) (p q : Part) (ps : List Part) (way pair : Link) (outer : NestValue) (new : List Branch)
+    (cs : List Couple) →
+    Lays root (now ++ branch_of way p.nest p.next q.nest ∷ []) ps q.next pair outer new cs
+    → Lays root now (p ∷ q ∷ ps) way pair outer new cs
 does_more root now p q ps way pair outer new cs l =
     let b = branch_of way p.nest p.next q.nest in
     record {
@@ -76,13 +88,29 @@ does_more root now p q ps way pair outer new cs l =
         count-append x q.nest.members (members_in ps),
       );
       more = λ x. omega (arith, l.more x, outer_members_push x root.members now b);
-      sums = λ F add. omega (arith, l.sums F add, branch_bands_push F add now b, add (bands p.nest) ((bands q.nest) ++ bands_in ps), add (bands q.nest) (bands_in ps));
-      fewer = omega (arith, l.fewer, inner_bands_push (λ (ks : List Band). length ks) size-append now b, size-append (bands p.nest) (bands q.nest ++ bands_in ps), size-append (bands q.nest) (bands_in ps));
+      sums = λ F add. omega (
+        arith,
+        l.sums F add,
+        branch_bands_push F add now b,
+        add (bands p.nest) ((bands q.nest) ++ bands_in ps),
+        add
+            (bands q.nest) (bands_in ps),
+      );
+      fewer = omega (
+        arith,
+        l.fewer,
+        inner_bands_push (λ (ks : List Band). length ks) size-append now b,
+        size-append (bands p.nest)
+            (bands q.nest ++ bands_in ps),
+        size-append (bands q.nest) (bands_in ps),
+      );
       firm = λ d h t w a parts o. l.firm d h
-          (each-push (IsFirm d h) now b t (record { up = w; pair = parts.0.next; inner = parts.0.nest; outer = parts.1.0.nest })) parts.1.0.next a parts.1.1 o;
+          (each-push (IsFirm d h) now b t (record { up = w; pair = parts.0.next; inner = parts.0.nest; outer = parts.1.0.nest }))
+          parts.1.0.next a parts.1.1 o;
     }
 
-pub laying_more : (root : NestValue) (old : List Branch) (ring : List Part) (up pair : Link) (outer : NestValue) (now : List Branch) (left after rest : List Part) (p q : Part) (way : Link) (next : List Branch) →
+pub laying_more : (root : NestValue) (old : List Branch) (ring : List Part) (up pair : Link) (outer : NestValue) (now : List Branch)
+    (left after rest : List Part) (p q : Part) (way : Link) (next : List Branch) →
     Laying root old ring up pair outer now left way → left ≡ p ∷ after → after ≡ q ∷ rest → count pair.from p.nest.members ≡ 0 →
     next ≡ now ++ branch_of way p.nest p.next q.nest ∷ [] → Laying root old ring up pair outer next rest q.next
 laying_more root old ring up pair outer now left after rest p q way next l e f none g =
@@ -105,8 +133,10 @@ coupled_firm d h [] t = tt
 coupled_firm d h (q ∷ []) t = tt
 coupled_firm d h (q ∷ r ∷ ps) t = (record { link = t.0.next; first = t.0.nest; second = t.1.0.nest }, coupled_firm d h ps t.1.1)
 
-lays_last : (root : NestValue) (now : List Branch) (p : Part) (ps : List Part) (way pair : Link) (outer : NestValue) → CanLay root now (p ∷ ps) way pair outer →
-    1 ≤ count pair.from p.nest.members → Lays root now (p ∷ ps) way pair outer (now ++ branch_of way p.nest pair outer ∷ []) (couples_along ps)
+lays_last : (root : NestValue) (now : List Branch) (p : Part) (ps : List Part) (way pair : Link) (outer : NestValue)
+    → CanLay root now (p ∷ ps) way pair outer →
+    1 ≤ count pair.from p.nest.members → Lays root now (p ∷ ps) way pair outer (now ++ branch_of way p.nest pair outer ∷ [])
+    (couples_along ps)
 lays_last root now p ps way pair outer c here =
     let b = branch_of way p.nest pair outer in
     let even : length ps % 2 ≡ 0 = omega (arith, c.odd) in
@@ -114,14 +144,31 @@ lays_last root now p ps way pair outer c here =
     record {
       grown = grown_push root.members now b c.grown c.from c.into.0 one c.to;
       joined = coupled_joined p ps even c.into.1;
-      places = λ x. omega (arith, outer_members_push x root.members now b, inner_members_push x now b, members_coupled x ps even, count-append x p.nest.members (members_in ps));
+      places = λ x. omega (
+        arith,
+        outer_members_push x root.members now b,
+        inner_members_push x now b,
+        members_coupled x ps even,
+        count-append x p.nest.members (members_in ps),
+      );
       more = λ x. omega (arith, outer_members_push x root.members now b);
       sums = λ F add. omega (arith, branch_bands_push F add now b, bands_coupled F add ps even, add (bands p.nest) (bands_in ps));
-      fewer = omega (arith, inner_bands_push (λ (ks : List Band). length ks) size-append now b, bands_coupled (λ (ks : List Band). length ks) size-append ps even, size-append (bands p.nest) (bands_in ps));
-      firm = λ d h t w a parts o. (each-push (IsFirm d h) now b t (record { up = w; pair = a; inner = parts.0.nest; outer = o }), coupled_firm d h ps parts.1);
+      fewer = omega (
+        arith,
+        inner_bands_push (λ (ks : List Band). length ks) size-append now b,
+        bands_coupled
+            (λ (ks : List Band). length ks) size-append ps even,
+        size-append (bands p.nest) (bands_in ps),
+      );
+      firm = λ d h t w a parts o. (
+        each-push (IsFirm d h) now b t
+            (record { up = w; pair = a; inner = parts.0.nest; outer = o }),
+        coupled_firm d h ps parts.1,
+      );
     }
 
-pub laid : (root : NestValue) (old : List Branch) (ring : List Part) (up pair : Link) (outer top : NestValue) (now : List Branch) (left rest : List Part) (p : Part) (way : Link) (new : List Branch) (cs : List Couple) →
+pub laid : (root : NestValue) (old : List Branch) (ring : List Part) (up pair : Link) (outer top : NestValue) (now : List Branch)
+    (left rest : List Part) (p : Part) (way : Link) (new : List Branch) (cs : List Couple) →
     top ≡ outer → Laying root old ring up pair outer now left way → left ≡ p ∷ rest → 1 ≤ count pair.from p.nest.members →
     new ≡ now ++ branch_of way p.nest pair top ∷ [] → cs ≡ couples_along rest → Lays root old ring up pair outer new cs
 laid root old ring up pair outer top now left rest p way new cs s l e here f g =

@@ -34,7 +34,8 @@ pub each-map : {X : Type 0} (P Q : X → Type 0) (f : (x : X) → P x → Q x) (
 each-map P Q f [] p = tt
 each-map P Q f (x ∷ xs) p = (f x p.0, each-map P Q f xs p.1)
 
-pub pairs-append : {X : Type 0} (R : X → X → Type 0) (xs ys : List X) → EachPair R xs → EachPair R ys → Each (λ (x : X). Each (R x) ys) xs → EachPair R (xs ++ ys)
+pub pairs-append : {X : Type 0} (R : X → X → Type 0) (xs ys : List X) → EachPair R xs → EachPair R ys → Each (λ (x : X). Each (R x) ys) xs
+    → EachPair R (xs ++ ys)
 pairs-append R [] ys p q across = q
 pairs-append R (x ∷ xs) ys p q across = (each-append (R x) xs ys p.0 across.0, pairs-append R xs ys p.1 q across.1)
 

@@ -44,7 +44,8 @@ pub known_load : load_on four_moats 0 3 ≡ 2
 known_load = refl
 
 -- places 3, 5, 0 and 9 of one axis: the pairs from 3 to 0 and from 5 to 9 are 7 steps
-pub known_line : cost_of (record { places = 4; cells = 0 ∷ 2 ∷ 3 ∷ 6 ∷ 2 ∷ 0 ∷ 5 ∷ 4 ∷ 3 ∷ 5 ∷ 0 ∷ 9 ∷ 6 ∷ 4 ∷ 9 ∷ 0 ∷ [] }) (pair 0 2 ∷ pair 1 3 ∷ []) ≡ 7
+pub known_line : cost_of (record { places = 4; cells = 0 ∷ 2 ∷ 3 ∷ 6 ∷ 2 ∷ 0 ∷ 5 ∷ 4 ∷ 3 ∷ 5 ∷ 0 ∷ 9 ∷ 6 ∷ 4 ∷ 9 ∷ 0 ∷ [] })
+    (pair 0 2 ∷ pair 1 3 ∷ []) ≡ 7
 known_line = refl
 
 -- a moat of three places is crossed from inside to outside, and not inside

@@ -26,21 +26,36 @@ told_size : (l : Link) (ps told : List Part) → length (told_back l ps told) �
 told_size l [] told = omega arith
 told_size l (p ∷ ps) told = omega (arith, told_size p.next ps (part_of p (back_of l) ∷ told))
 
-told_sum : (F : List Band → ℕ) → Adds F → (l : Link) (ps told : List Part) → F (bands_in (told_back l ps told)) ≡ F (bands_in ps) + F (bands_in told)
+told_sum : (F : List Band → ℕ) → Adds F → (l : Link) (ps told : List Part) → F (bands_in (told_back l ps told))
+    ≡ F (bands_in ps) + F (bands_in told)
 told_sum F add l [] told = omega (arith, adds_none F add)
 told_sum F add l (p ∷ ps) told =
-    omega (arith, told_sum F add p.next ps (part_of p (back_of l) ∷ told), add (bands p.nest) (bands_in ps), add (bands p.nest) (bands_in told))
+    omega (
+      arith,
+      told_sum F add p.next ps (part_of p (back_of l) ∷ told),
+      add (bands p.nest) (bands_in ps),
+      add (bands p.nest)
+          (bands_in told),
+    )
 
-told_places : (x : ℕ) (l : Link) (ps told : List Part) → count x (members_in (told_back l ps told)) ≡ count x (members_in ps) + count x (members_in told)
+told_places : (x : ℕ) (l : Link) (ps told : List Part) → count x (members_in (told_back l ps told))
+    ≡ count x (members_in ps) + count x (members_in told)
 told_places x l [] told = omega arith
 told_places x l (p ∷ ps) told =
-    omega (arith, told_places x p.next ps (part_of p (back_of l) ∷ told), count-append x p.nest.members (members_in ps), count-append x p.nest.members (members_in told))
+    omega (
+      arith,
+      told_places x p.next ps (part_of p (back_of l) ∷ told),
+      count-append x p.nest.members
+          (members_in ps),
+      count-append x p.nest.members (members_in told),
+    )
 
 told_kept : (l : Link) (ps told : List Part) → AllKept ps → AllKept told → AllKept (told_back l ps told)
 told_kept l [] told a b = b
 told_kept l (p ∷ ps) told a b = told_kept p.next ps (part_of p (back_of l) ∷ told) a.1 (a.0, b)
 
-told_firm : (d : ℕ → ℕ → ℕ) (h : ℕ → ℕ) → IsSymmetric d → (l : Link) (ps told : List Part) → IsTight d h l → Each (IsFirmPart d h) ps → Each (IsFirmPart d h) told →
+told_firm : (d : ℕ → ℕ → ℕ) (h : ℕ → ℕ) → IsSymmetric d → (l : Link) (ps told : List Part) → IsTight d h l → Each (IsFirmPart d h) ps
+    → Each (IsFirmPart d h) told →
     Each (IsFirmPart d h) (told_back l ps told)
 told_firm d h sy l [] told t a b = b
 told_firm d h sy l (p ∷ ps) told t a b =
@@ -64,14 +79,16 @@ abbrev LeadsTo : Part → ℕ → List Part → Type 0
 LeadsTo e x [] = ⊥
 LeadsTo e x (z ∷ zs) = Linked z (zs ++ e ∷ []) × (count x z.nest.members ≡ 1)
 
-told_linked : (e : Part) (x : ℕ) (p a : Part) (qs told : List Part) → a.nest ≡ p.nest → Linked p qs → Linked a (told ++ e ∷ []) → count x (last_part p qs).nest.members ≡ 1 →
+told_linked : (e : Part) (x : ℕ) (p a : Part) (qs told : List Part) → a.nest ≡ p.nest → Linked p qs → Linked a (told ++ e ∷ [])
+    → count x (last_part p qs).nest.members ≡ 1 →
     LeadsTo e x (told_back p.next qs (a ∷ told))
 told_linked e x p a [] told same l m here = (m, subst (λ (n : NestValue). count x n.members ≡ 1) (sym same) here)
 told_linked e x p a (q ∷ qs) told same l m here =
     told_linked e x q (part_of q (back_of p.next)) qs (a ∷ told) refl l.1
     ((l.0.1, subst (λ (n : NestValue). count p.next.from n.members ≡ 1) (sym same) l.0.0), m) here
 
-closes_at : (p : Part) (x : ℕ) (zs : List Part) → count p.next.from p.nest.members ≡ 1 → p.next.to ≡ x → LeadsTo p x zs → Linked p (zs ++ p ∷ [])
+closes_at : (p : Part) (x : ℕ) (zs : List Part) → count p.next.from p.nest.members ≡ 1 → p.next.to ≡ x → LeadsTo p x zs
+    → Linked p (zs ++ p ∷ [])
 closes_at p x [] from to l = absurd l
 closes_at p x (z ∷ zs) from to l = ((from, subst (λ (y : ℕ). count y z.nest.members ≡ 1) (sym to) l.1), l.0)
 
@@ -99,16 +116,33 @@ mirror_is_ring (p ∷ q ∷ qs) r = record {
 
 mirror_places : (x : ℕ) (ps : List Part) → count x (members_in (mirror_of ps)) ≡ count x (members_in ps)
 mirror_places x [] = refl
-mirror_places x (p ∷ ps) = omega (arith, told_places x p.next ps [], count-append x p.nest.members (members_in ps), count-append x p.nest.members (members_in (told_back p.next ps [])))
+mirror_places x (p ∷ ps) = omega (
+  arith,
+  told_places x p.next ps [],
+  count-append x p.nest.members
+      (members_in ps),
+  count-append x p.nest.members (members_in (told_back p.next ps [])),
+)
 
 mirror_sum : (F : List Band → ℕ) → Adds F → (ps : List Part) → F (bands_in (mirror_of ps)) ≡ F (bands_in ps)
 mirror_sum F add [] = refl
-mirror_sum F add (p ∷ ps) = omega (arith, told_sum F add p.next ps [], add (bands p.nest) (bands_in ps), add (bands p.nest) (bands_in (told_back p.next ps [])), adds_none F add)
+mirror_sum F add (p ∷ ps) = omega (
+  arith,
+  told_sum F add p.next ps [],
+  add (bands p.nest) (bands_in ps),
+  add (bands p.nest)
+      (bands_in (told_back p.next ps [])),
+  adds_none F add,
+)
 
-mirror_firm : (d : ℕ → ℕ → ℕ) (h : ℕ → ℕ) → IsSymmetric d → (ps : List Part) → Each (IsFirmPart d h) ps → Each (IsFirmPart d h) (mirror_of ps)
+mirror_firm : (d : ℕ → ℕ → ℕ) (h : ℕ → ℕ) → IsSymmetric d → (ps : List Part) → Each (IsFirmPart d h) ps
+    → Each (IsFirmPart d h) (mirror_of ps)
 mirror_firm d h sy [] f = tt
-mirror_firm d h sy (p ∷ ps) f =
-    (record { next = tight_back d h (last_link p.next ps) sy (last_firm d h p ps f); nest = f.0.nest }, told_firm d h sy p.next ps [] f.0.next f.1 tt)
+mirror_firm d h sy (p ∷ ps) f = (
+  record { next = tight_back d h (last_link p.next ps) sy (last_firm d h p ps f); nest = f.0.nest },
+  told_firm d h sy p.next ps []
+      f.0.next f.1 tt,
+)
 
 -- a part that holds the place, and the parts before it
 record HeldAt (x : ℕ) (ps : List Part) (i : ℕ) : Type 0 where
@@ -137,7 +171,8 @@ here_evenly : (x : ℕ) (p : Part) (after : List Part) → 1 ≤ count x p.nest.
 here_evenly x p [] here = here
 here_evenly x p (q ∷ after) here = inl here
 
-evenly : (x : ℕ) (before : List Part) (p : Part) (after : List Part) → length before % 2 ≡ 0 → 1 ≤ count x p.nest.members → EvenlyHolds x (before ++ p ∷ after)
+evenly : (x : ℕ) (before : List Part) (p : Part) (after : List Part) → length before % 2 ≡ 0 → 1 ≤ count x p.nest.members
+    → EvenlyHolds x (before ++ p ∷ after)
 evenly x [] p after even here = here_evenly x p after here
 evenly x (a ∷ []) p after even here = absurd (omega arith)
 evenly x (a ∷ b ∷ before) p after even here = inr (evenly x before p after (omega arith) here)
@@ -160,7 +195,8 @@ told_at l (a ∷ before) p after told =
     let t = told_at a.next before p after (part_of a (back_of l) ∷ told) in
     record { link = t.link; rest = t.rest; is = t.is }
 
-mirror_held : (x : ℕ) (before : List Part) (p : Part) (after : List Part) → length before % 2 ≡ 1 → (length before + (1 + length after)) % 2 ≡ 1 → 1 ≤ count x p.nest.members →
+mirror_held : (x : ℕ) (before : List Part) (p : Part) (after : List Part) → length before % 2 ≡ 1 → (length before + (1 + length after)) % 2
+    ≡ 1 → 1 ≤ count x p.nest.members →
     EvenlyHolds x (mirror_of (before ++ p ∷ after))
 mirror_held x [] p after odd all here = absurd (omega arith)
 mirror_held x (a ∷ before) p after odd all here =
@@ -172,23 +208,27 @@ mirror_held x (a ∷ before) p after odd all here =
 -- a ring with an odd way to the part is told so that the way is even
 mirror_evenly : (x : ℕ) (ps : List Part) (i : ℕ) → length ps % 2 ≡ 1 → i % 2 ≡ 1 → HeldAt x ps i → EvenlyHolds x (mirror_of ps)
 mirror_evenly x ps i odd way h = subst (λ (qs : List Part). EvenlyHolds x (mirror_of qs)) (sym h.is)
-    (mirror_held x h.before h.part h.after (omega (arith, h.size)) (omega (arith, odd, ap (λ (qs : List Part). length qs) h.is, length-append h.before (h.part ∷ h.after))) h.here)
+    (mirror_held x h.before h.part h.after (omega (arith, h.size))
+    (omega (arith, odd, ap (λ (qs : List Part). length qs) h.is, length-append h.before (h.part ∷ h.after))) h.here)
 
 turned_kept : (P : Part → Type 0) (i : ℕ) (ps : List Part) → Each P ps → Each P (drop i ps ++ take i ps)
 turned_kept P i ps a = each-append P (drop i ps) (take i ps) (each-drop P i ps a) (each-take P i ps a)
 
 -- a ring told from the part that is entered, an even way from that which is left
-pub goes_on : (entry exit : ℕ) (old ring : List Part) (i : ℕ) → IsRing old → IsTurned old ring → FirstHolds entry ring → i < length ring → HoldsAt exit ring i → i % 2 ≡ 0 →
+pub goes_on : (entry exit : ℕ) (old ring : List Part) (i : ℕ) → IsRing old → IsTurned old ring → FirstHolds entry ring → i < length ring
+    → HoldsAt exit ring i → i % 2 ≡ 0 →
     GoesEvenly entry exit old ring
 goes_on entry exit old ring i is turned first low holds even =
     let h = held_at exit ring i low holds in
     record {
       ring = subst IsRing (sym turned.is) (turned_is_ring old turned.at is);
       first = first;
-      last = subst (λ (qs : List Part). EvenlyHolds exit qs) (sym h.is) (evenly exit h.before h.part h.after (omega (arith, h.size, even)) h.here);
+      last = subst (λ (qs : List Part). EvenlyHolds exit qs) (sym h.is)
+          (evenly exit h.before h.part h.after (omega (arith, h.size, even)) h.here);
       places = λ x. ap (λ (qs : List Part). count x (members_in qs)) turned.is ∙ members_turned x turned.at old;
       sums = λ F add. ap (λ (qs : List Part). F (bands_in qs)) turned.is ∙ bands_turned F add turned.at old;
-      firm = λ d h sy f. subst (λ (qs : List Part). Each (IsFirmPart d h) qs) (sym turned.is) (turned_kept (IsFirmPart d h) turned.at old f);
+      firm = λ d h sy f. subst (λ (qs : List Part). Each (IsFirmPart d h) qs) (sym turned.is)
+          (turned_kept (IsFirmPart d h) turned.at old f);
     }
 
 first_mirrored : (x : ℕ) (ps : List Part) → FirstHolds x ps → FirstHolds x (mirror_of ps)
@@ -196,7 +236,8 @@ first_mirrored x [] h = h
 first_mirrored x (p ∷ ps) h = h
 
 -- and the other way round where that way is odd
-pub goes_back : (entry exit : ℕ) (old ring back : List Part) (i : ℕ) → IsRing old → IsTurned old ring → FirstHolds entry ring → i < length ring → HoldsAt exit ring i → i % 2 ≡ 1 →
+pub goes_back : (entry exit : ℕ) (old ring back : List Part) (i : ℕ) → IsRing old → IsTurned old ring → FirstHolds entry ring
+    → i < length ring → HoldsAt exit ring i → i % 2 ≡ 1 →
     back ≡ mirror_of ring → GoesEvenly entry exit old back
 goes_back entry exit old ring back i is turned first low holds odd e =
     let r : IsRing ring = subst IsRing (sym turned.is) (turned_is_ring old turned.at is) in
@@ -206,7 +247,8 @@ goes_back entry exit old ring back i is turned first low holds odd e =
       last = mirror_evenly exit ring i r.odd odd (held_at exit ring i low holds);
       places = λ x. mirror_places x ring ∙ ap (λ (qs : List Part). count x (members_in qs)) turned.is ∙ members_turned x turned.at old;
       sums = λ F add. mirror_sum F add ring ∙ ap (λ (qs : List Part). F (bands_in qs)) turned.is ∙ bands_turned F add turned.at old;
-      firm = λ d h sy f. mirror_firm d h sy ring (subst (λ (qs : List Part). Each (IsFirmPart d h) qs) (sym turned.is) (turned_kept (IsFirmPart d h) turned.at old f));
+      firm = λ d h sy f. mirror_firm d h sy ring (subst (λ (qs : List Part). Each (IsFirmPart d h) qs) (sym turned.is)
+          (turned_kept (IsFirmPart d h) turned.at old f));
     })
 
 pub turned_places : (x : ℕ) (old ring : List Part) → IsTurned old ring → count x (members_in ring) ≡ count x (members_in old)

@@ -20,9 +20,16 @@ bands_in-append F add (p ∷ ps) qs =
 
 pub bands_turned : (F : List Band → ℕ) → Adds F → (i : ℕ) (ps : List Part) → F (bands_in (drop i ps ++ take i ps)) ≡ F (bands_in ps)
 bands_turned F add i ps =
-    omega (arith, bands_in-append F add (drop i ps) (take i ps), bands_in-append F add (take i ps) (drop i ps), ap (λ (qs : List Part). F (bands_in qs)) (take-append-drop i ps))
+    omega (
+      arith,
+      bands_in-append F add (drop i ps) (take i ps),
+      bands_in-append F add (take i ps) (drop i ps),
+      ap
+          (λ (qs : List Part). F (bands_in qs)) (take-append-drop i ps),
+    )
 
-pub bands_coupled : (F : List Band → ℕ) → Adds F → (ps : List Part) → length ps % 2 ≡ 0 → F (bands_in ps) ≡ F (couple_bands (couples_along ps))
+pub bands_coupled : (F : List Band → ℕ) → Adds F → (ps : List Part) → length ps % 2 ≡ 0 → F (bands_in ps)
+    ≡ F (couple_bands (couples_along ps))
 bands_coupled F add [] even = refl
 bands_coupled F add (p ∷ []) even = absurd (omega arith)
 bands_coupled F add (p ∷ q ∷ ps) even =
@@ -75,14 +82,20 @@ joined_along p e (q ∷ r ∷ ps) even l =
     let less : length ps % 2 ≡ 0 = omega arith in
     (record { from = l.1.0.0; to = l.1.0.1 }, joined_along r e ps less l.1.1)
 
-paid_along : (d : ℕ → ℕ → ℕ) (p e : Part) (ps : List Part) → length ps % 2 ≡ 0 → IsPaid d (tolls_along p (ps ++ e ∷ [])) → IsPaid d (tolls_in ps) →
+paid_along : (d : ℕ → ℕ → ℕ) (p e : Part) (ps : List Part) → length ps % 2 ≡ 0 → IsPaid d (tolls_along p (ps ++ e ∷ []))
+    → IsPaid d (tolls_in ps) →
     Each (IsSettled d) (couples_along ps)
 paid_along d p e [] even l all = tt
 paid_along d p e (q ∷ []) even l all = absurd (omega arith)
 paid_along d p e (q ∷ r ∷ ps) even l all =
     let less : length ps % 2 ≡ 0 = omega arith in
     let rest = IsPaid-right d q.nest.tolls (r.nest.tolls ++ tolls_in ps) all in (
-      record { link = l.1.0; first = IsPaid-left d q.nest.tolls (r.nest.tolls ++ tolls_in ps) all; second = IsPaid-left d r.nest.tolls (tolls_in ps) rest },
+      record {
+        link = l.1.0;
+        first = IsPaid-left d q.nest.tolls (r.nest.tolls ++ tolls_in ps) all;
+        second =
+            IsPaid-left d r.nest.tolls (tolls_in ps) rest;
+      },
       paid_along d r e ps less l.1.1 (IsPaid-right d r.nest.tolls (tolls_in ps) rest),
     )
 
@@ -112,25 +125,47 @@ opens_single left w ms one there = record {
 
 pub length_turned : (i : ℕ) (old : List Part) → length (drop i old ++ take i old) ≡ length old
 length_turned i old =
-    omega (arith, length-append (drop i old) (take i old), length-append (take i old) (drop i old), ap (λ (qs : List Part). length qs) (take-append-drop i old))
+    omega (
+      arith,
+      length-append (drop i old) (take i old),
+      length-append (take i old) (drop i old),
+      ap (λ (qs : List Part). length qs)
+          (take-append-drop i old),
+    )
 
 -- what adds up over the sets of a ring adds up over its first part and the couples behind it
 sum_turned : (F : List Band → ℕ) → Adds F → (old : List Part) (p : Part) (ps : List Part) (i : ℕ) → p ∷ ps ≡ drop i old ++ take i old →
     length ps % 2 ≡ 0 → F (bands_in old) ≡ F (bands p.nest) + F (couple_bands (couples_along ps))
 sum_turned F add old p ps i e even =
-    omega (arith, bands_turned F add i old, ap (λ (qs : List Part). F (bands_in qs)) e, add (bands p.nest) (bands_in ps), bands_coupled F add ps even)
+    omega (
+      arith,
+      bands_turned F add i old,
+      ap (λ (qs : List Part). F (bands_in qs)) e,
+      add (bands p.nest)
+          (bands_in ps),
+      bands_coupled F add ps even,
+    )
 
 places_turned : (x : ℕ) (old : List Part) (p : Part) (ps : List Part) (i : ℕ) → p ∷ ps ≡ drop i old ++ take i old →
     length ps % 2 ≡ 0 → count x (members_in old) ≡ count x p.nest.members + count x (couple_members (couples_along ps))
 places_turned x old p ps i e even =
-    omega (arith, members_turned x i old, ap (λ (qs : List Part). count x (members_in qs)) e, count-append x p.nest.members (members_in ps), members_coupled x ps even)
+    omega (
+      arith,
+      members_turned x i old,
+      ap (λ (qs : List Part). count x (members_in qs)) e,
+      count-append x p.nest.members
+          (members_in ps),
+      members_coupled x ps even,
+    )
 
 paid_turned_all : (d : ℕ → ℕ → ℕ) (old : List Part) (p : Part) (ps : List Part) (i : ℕ) → p ∷ ps ≡ drop i old ++ take i old →
     length ps % 2 ≡ 0 → IsPaid d (ring_tolls old ++ tolls_in old) → IsPaid d p.nest.tolls × Each (IsSettled d) (couples_along ps)
 paid_turned_all d old p ps i e even all =
     let around : IsPaid d (ring_tolls (take i old ++ drop i old)) =
-    subst (λ (qs : List Part). IsPaid d (ring_tolls qs)) (sym (take-append-drop i old)) (IsPaid-left d (ring_tolls old) (tolls_in old) all) in
-    let ring : IsPaid d (ring_tolls (p ∷ ps)) = subst (λ (qs : List Part). IsPaid d (ring_tolls qs)) (sym e) (paid_turned d (take i old) (drop i old) around) in
+    subst (λ (qs : List Part). IsPaid d (ring_tolls qs)) (sym (take-append-drop i old)) (IsPaid-left d (ring_tolls old) (tolls_in old) all)
+    in
+    let ring : IsPaid d (ring_tolls (p ∷ ps)) = subst (λ (qs : List Part). IsPaid d (ring_tolls qs)) (sym e)
+    (paid_turned d (take i old) (drop i old) around) in
     let inside : IsPaid d (tolls_in old) = IsPaid-right d (ring_tolls old) (tolls_in old) all in
     let parts : IsPaid d (tolls_in (p ∷ ps)) = subst (λ (qs : List Part). IsPaid d (tolls_in qs)) (sym e)
     (tolls_paid-append d (drop i old) (take i old) (tolls_paid-drop d i old inside) (tolls_paid-take d i old inside)) in
@@ -142,7 +177,8 @@ turned_is_ring old i r = record {
   odd = omega (arith, length_turned i old, r.odd);
   three = omega (arith, length_turned i old, r.three);
   linked = ring_turned (take i old) (drop i old) (subst IsLinkedRing (sym (take-append-drop i old)) r.linked);
-  kept = each-append (λ (p : Part). Kept p.nest) (drop i old) (take i old) (each-drop (λ (p : Part). Kept p.nest) i old r.kept) (each-take (λ (p : Part). Kept p.nest) i old r.kept);
+  kept = each-append (λ (p : Part). Kept p.nest) (drop i old) (take i old) (each-drop (λ (p : Part). Kept p.nest) i old r.kept)
+      (each-take (λ (p : Part). Kept p.nest) i old r.kept);
 }
 
 -- the couples behind the first part hold some place
@@ -168,7 +204,14 @@ opens_turned left w ms old p ps i e same ring kept there first =
       wide = refl;
       odd = kept.odd;
       sums = λ F add. sum_turned F add old p ps i e even;
-      tall = omega (arith, bands_turned (height left) (height-append left) i old, ap (λ (qs : List Part). height left (bands_in qs)) e, height-append left (bands p.nest) (bands_in ps), none);
+      tall = omega (
+        arith,
+        bands_turned (height left) (height-append left) i old,
+        ap
+            (λ (qs : List Part). height left (bands_in qs)) e,
+        height-append left (bands p.nest) (bands_in ps),
+        none,
+      );
       places = λ x. at x ∙ places_turned x old p ps i e even;
       holds = (omega (arith, at left, places_turned left old p ps i e even), coupled_some ps (omega (arith, turned.three)) turned.kept.1);
       joined = joined_along p p ps even turned.linked;
@@ -185,15 +228,18 @@ pub opens_ring : (left w : ℕ) (s : NestValue) (ms : List ℕ) (old ring : List
 opens_ring left w s ms old ring p ps cs is made there turned first e f =
     let all = made_ring ms old (omega (arith, turned.within)) made in
     let here : count left ms ≡ 1 = subst (λ (u : NestValue). count left u.members ≡ 1) is there in
-    let done = opens_turned left w ms old p ps turned.at (sym e ∙ turned.is) all.0 all.1 (made_kept ms w old made) here (subst (FirstHolds left) e first) in
+    let done = opens_turned left w ms old p ps turned.at (sym e ∙ turned.is) all.0 all.1 (made_kept ms w old made) here
+    (subst (FirstHolds left) e first) in
     let moved = subst (λ (u : NestValue). OpensAt left u ms w (Some p.nest) (couples_along ps)) (sym is) done in
     subst (λ (ks : List Couple). OpensAt left s ms w (Some p.nest) ks) (sym f) moved
 
-none_of : (left w : ℕ) (ms : List ℕ) (ps : List Part) → length ps ≡ 0 → IsMade ms ps → count left ms ≡ 1 → OpensAt left (nest_of ms w ps) ms w None []
+none_of : (left w : ℕ) (ms : List ℕ) (ps : List Part) → length ps ≡ 0 → IsMade ms ps → count left ms ≡ 1
+    → OpensAt left (nest_of ms w ps) ms w None []
 none_of left w ms [] none made there = opens_single left w ms made there
 none_of left w ms (p ∷ ps) none made there = absurd (omega arith)
 
-pub opens_place : (left w : ℕ) (s : NestValue) (ms : List ℕ) (ps : List Part) (cs : List Couple) → s ≡ nest_of ms w ps → IsMade ms ps → count left s.members ≡ 1 →
+pub opens_place : (left w : ℕ) (s : NestValue) (ms : List ℕ) (ps : List Part) (cs : List Couple) → s ≡ nest_of ms w ps → IsMade ms ps
+    → count left s.members ≡ 1 →
     length ps ≡ 0 → cs ≡ [] → OpensAt left s ms w None cs
 opens_place left w s ms ps cs is made there none f =
     let here : count left ms ≡ 1 = subst (λ (u : NestValue). count left u.members ≡ 1) is there in

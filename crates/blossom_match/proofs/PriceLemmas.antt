@@ -30,7 +30,8 @@ no_place : (t : TableValue) (x : ℕ) → is_place t x ≡ 0 → t.places ≤ x
 no_place t x none = place_case (ltb x t.places) x t.places refl (omega (arith, none))
 
 -- all places free at half of their least distances
-pub half_free : (t : TableValue) (couples : List Couple) (free heights : List ℕ) → couples ≡ [] → ((x : ℕ) → count x free ≡ is_place t x) → AreHalves t heights → length heights ≡ t.places →
+pub half_free : (t : TableValue) (couples : List Couple) (free heights : List ℕ) → couples ≡ [] → ((x : ℕ) → count x free ≡ is_place t x)
+    → AreHalves t heights → length heights ≡ t.places →
     Stands t couples free heights
 half_free t couples free heights e places half size = record {
   standing = subst (λ (cs : List Couple). IsStanding t (λ (x : ℕ). get_or heights x 0) cs free) (sym e) (record {
@@ -47,7 +48,8 @@ half_free t couples free heights e places half size = record {
 }
 
 -- a free place has room for its price, and lower heights
-pub free_lies : (t : TableValue) (couples : List Couple) (free heights : List ℕ) (place : ℕ) → Stands t couples free heights → 1 ≤ count place free → Lies t heights free place
+pub free_lies : (t : TableValue) (couples : List Couple) (free heights : List ℕ) (place : ℕ) → Stands t couples free heights
+    → 1 ≤ count place free → Lies t heights free place
 free_lies t couples free heights place st here =
     let i = st.standing in
     let low = place_in t place (omega (arith, here, i.places place)) in
@@ -60,7 +62,8 @@ free_lies t couples free heights place st here =
 pub low_enough : (t : TableValue) (heights : List ℕ) (place price : ℕ) → LeavesRoom t heights place price → LeavesRoom t heights place 0
 low_enough t heights place price room b lb ne = omega (arith, room b lb ne)
 
-room_case : (p q : Bool) (t : TableValue) (hs : List ℕ) (place price a f : ℕ) → eqb a place ≡ p → eqb f place ≡ q → place < length hs → a < t.places → f < t.places → a ≢ f → LeavesRoom t hs place price →
+room_case : (p q : Bool) (t : TableValue) (hs : List ℕ) (place price a f : ℕ) → eqb a place ≡ p → eqb f place ≡ q → place < length hs
+    → a < t.places → f < t.places → a ≢ f → LeavesRoom t hs place price →
     get_or hs a 0 + get_or hs f 0 ≤ 2 * entry t a f → get_or (set hs place price) a 0 + get_or (set hs place price) f 0 ≤ 2 * entry t a f
 room_case true true t hs place price a f e g low la lf ne room old = absurd (ne (eqb-true a place e ∙ sym (eqb-true f place g)))
 room_case true false t hs place price a f e g low la lf ne room old =
@@ -81,30 +84,35 @@ room_case false false t hs place price a f e g low la lf ne room old =
     omega (arith, o, u, old)
 
 -- a free place may have any price that leaves room
-pub risen : (t : TableValue) (couples : List Couple) (free heights new : List ℕ) (place price : ℕ) → Stands t couples free heights → 1 ≤ count place free → LeavesRoom t heights place price → new ≡ set heights place price →
+pub risen : (t : TableValue) (couples : List Couple) (free heights new : List ℕ) (place price : ℕ) → Stands t couples free heights
+    → 1 ≤ count place free → LeavesRoom t heights place price → new ≡ set heights place price →
     length new ≡ length heights → Stands t couples free new
 risen t couples free heights new place price st here room e size =
     let i = st.standing in
     let h = λ (x : ℕ). get_or heights x 0 in
     let low : place < length heights = omega (arith, st.size, place_in t place (omega (arith, here, i.places place))) in
-    let other : (x : ℕ) → x ≢ place → get_or new x 0 ≡ get_or heights x 0 = λ x ne. ap (λ (hs : List ℕ). get_or hs x 0) e ∙ get_or-set_other heights place x price 0 ne in
+    let other : (x : ℕ) → x ≢ place → get_or new x 0 ≡ get_or heights x 0 = λ x ne. ap (λ (hs : List ℕ). get_or hs x 0) e
+    ∙ get_or-set_other heights place x price 0 ne in
     let kept : (x : ℕ) → count x free ≡ 0 → get_or new x 0 ≡ get_or heights x 0 =
     λ x none. other x (λ g. omega (arith, none, here, ap (λ (y : ℕ). count y free) g)) in
     record {
       standing = record {
         tall = λ x none. kept x none ∙ i.tall x none;
         room = λ a f la hf ne. subst (λ (hs : List ℕ). get_or hs a 0 + get_or hs f 0 ≤ 2 * entry t a f) (sym e)
-            (room_case (eqb a place) (eqb f place) t heights place price a f refl refl low la (place_in t f (omega (arith, hf, i.places f))) ne room (i.room a f la hf ne));
+            (room_case (eqb a place) (eqb f place) t heights place price a f refl refl low la
+            (place_in t f (omega (arith, hf, i.places f))) ne room (i.room a f la hf ne));
         places = i.places;
         joined = i.joined;
-        firm = couples_same (entry t) h (λ (x : ℕ). get_or new x 0) couples i.joined i.firm (λ x some. kept x (omega (arith, i.places x, is_one t x, some)));
+        firm = couples_same (entry t) h (λ (x : ℕ). get_or new x 0) couples i.joined i.firm
+            (λ x some. kept x (omega (arith, i.places x, is_one t x, some)));
         loads = i.loads;
       };
       size = size ∙ st.size;
     }
 
 -- the free places in another order
-reordered : (t : TableValue) (couples : List Couple) (free other heights : List ℕ) → ((x : ℕ) → count x other ≡ count x free) → Stands t couples free heights → Stands t couples other heights
+reordered : (t : TableValue) (couples : List Couple) (free other heights : List ℕ) → ((x : ℕ) → count x other ≡ count x free)
+    → Stands t couples free heights → Stands t couples other heights
 reordered t couples free other heights same st =
     let i = st.standing in
     record {
@@ -136,7 +144,8 @@ record CanMeet (t : TableValue) (place other : ℕ) (s : Search) : Type 0 where
   ready : IsReady t (height_at s) s (Meet (record { from = place; to = other }))
   size : length s.heights.items ≡ t.places
 
-can_meet : (t : TableValue) (place other : ℕ) (couples : List Couple) (free left heights : List ℕ) (s : Search) → ((x : ℕ) → count x left + hit x place ≡ count x free) →
+can_meet : (t : TableValue) (place other : ℕ) (couples : List Couple) (free left heights : List ℕ) (s : Search)
+    → ((x : ℕ) → count x left + hit x place ≡ count x free) →
     Stands t couples free heights → FindsTight t heights free place other → Begins place couples left heights s → CanMeet t place other s
 can_meet t place other couples free left heights s counts st f b =
     let here : 1 ≤ count other left = omega (arith, counts other, f.here, no_hit other place (λ g. f.pair.differ (sym g))) in
@@ -145,27 +154,37 @@ can_meet t place other couples free left heights s counts st f b =
     record {
       search = can.search;
       ready = (
-        omega (arith, hit_same place, ap (λ (v : NestValue). count place (outer_members v.members s.tree.items)) b.root, ap (λ (bs : List Branch). count place (outer_members (place ∷ []) bs)) b.tree),
+        omega (
+          arith,
+          hit_same place,
+          ap (λ (v : NestValue). count place (outer_members v.members s.tree.items)) b.root,
+          ap
+              (λ (bs : List Branch). count place (outer_members (place ∷ []) bs)) b.tree,
+        ),
         omega (arith, here, ap (λ (xs : List ℕ). count other xs) b.free),
         subst (λ (hs : List ℕ). 2 * entry t place other ≡ get_or hs place 0 + get_or hs other 0) (sym b.heights) (sym f.pair.tight),
       );
       size = can.size;
     }
 
-pub pair_step : (place other : ℕ) (from : Standing) (left : List ℕ) (s : Search) → CanPair place other from → ((x : ℕ) → count x left + hit x place ≡ count x from.free.items) →
+pub pair_step : (place other : ℕ) (from : Standing) (left : List ℕ) (s : Search) → CanPair place other from
+    → ((x : ℕ) → count x left + hit x place ≡ count x from.free.items) →
     Begins place from.couples.items left from.heights.items s → CanStep s (Meet (record { from = place; to = other }))
 pair_step place other from left s can counts b =
     let m = can_meet can.t place other from.couples.items from.free.items left from.heights.items s counts can.stands can.found b in
     record { t = can.t; search = m.search; ready = m.ready; size = m.size }
 
-pub paired : (place other : ℕ) (from : Standing) (left : List ℕ) (s : Search) (r : Standing) → ((x : ℕ) → count x left + hit x place ≡ count x from.free.items) → length left + 1 ≡ length from.free.items →
-    Begins place from.couples.items left from.heights.items s → Ends s (Meet (record { from = place; to = other })) r → Pairs place other from r
+pub paired : (place other : ℕ) (from : Standing) (left : List ℕ) (s : Search) (r : Standing)
+    → ((x : ℕ) → count x left + hit x place ≡ count x from.free.items) → length left + 1 ≡ length from.free.items →
+    Begins place from.couples.items left from.heights.items s → Ends s (Meet (record { from = place; to = other })) r
+    → Pairs place other from r
 paired place other from left s r counts fewer b e = record {
   stands = λ t st f.
       let can = can_meet t place other from.couples.items from.free.items left from.heights.items s counts st f b in
       let same : r.heights.items ≡ s.heights.items = e.heights in
       record {
-        standing = subst (λ (hs : List ℕ). IsStanding t (λ (x : ℕ). get_or hs x 0) r.couples.items r.free.items) (sym same) (e.standing t can.search can.ready);
+        standing = subst (λ (hs : List ℕ). IsStanding t (λ (x : ℕ). get_or hs x 0) r.couples.items r.free.items) (sym same)
+            (e.standing t can.search can.ready);
         size = ap (λ (hs : List ℕ). length hs) same ∙ can.size;
       };
   fewer = omega (arith, fewer, e.fewer, ap (λ (xs : List ℕ). length xs) b.free);

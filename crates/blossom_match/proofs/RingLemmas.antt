@@ -39,7 +39,8 @@ pub paid_turned : (d : ℕ → ℕ → ℕ) (xs ys : List Part) → IsPaid d (ri
 paid_turned d [] ys l = subst (λ (zs : List Part). IsPaid d (ring_tolls zs)) (sym (append-nil ys)) l
 paid_turned d (x ∷ xs) ys l =
     subst (λ (zs : List Part). IsPaid d (ring_tolls zs)) (shifted xs ys x)
-    (paid_turned d xs (ys ++ x ∷ []) (subst (λ (zs : List Part). IsPaid d (ring_tolls zs)) (append_assoc xs ys (x ∷ [])) (paid_by_one d x (xs ++ ys) l)))
+    (paid_turned d xs (ys ++ x ∷ []) (subst (λ (zs : List Part). IsPaid d (ring_tolls zs)) (append_assoc xs ys (x ∷ []))
+    (paid_by_one d x (xs ++ ys) l)))
 
 -- the part at the index does not hold the place: a later one does
 pub held_later : (x : ℕ) (ps : List Part) (i : ℕ) (p : Part) → i < length ps → p ≡ get_or ps i p → count x p.nest.members ≡ 0 →
@@ -54,11 +55,23 @@ held_later x ps i p lt is none some =
 pub members_in-append : (x : ℕ) (ps qs : List Part) → count x (members_in (ps ++ qs)) ≡ count x (members_in ps) + count x (members_in qs)
 members_in-append x [] qs = omega arith
 members_in-append x (p ∷ ps) qs =
-    omega (arith, members_in-append x ps qs, count-append x p.nest.members (members_in (ps ++ qs)), count-append x p.nest.members (members_in ps))
+    omega (
+      arith,
+      members_in-append x ps qs,
+      count-append x p.nest.members (members_in (ps ++ qs)),
+      count-append x p.nest.members
+          (members_in ps),
+    )
 
 pub members_turned : (x : ℕ) (i : ℕ) (ps : List Part) → count x (members_in (drop i ps ++ take i ps)) ≡ count x (members_in ps)
 members_turned x i ps =
-    omega (arith, members_in-append x (drop i ps) (take i ps), members_in-append x (take i ps) (drop i ps), ap (λ (qs : List Part). count x (members_in qs)) (take-append-drop i ps))
+    omega (
+      arith,
+      members_in-append x (drop i ps) (take i ps),
+      members_in-append x (take i ps) (drop i ps),
+      ap
+          (λ (qs : List Part). count x (members_in qs)) (take-append-drop i ps),
+    )
 
 pub members_size : (ps : List Part) → AllKept ps → (length (members_in ps) + length ps) % 2 ≡ 0
 members_size [] all = refl

@@ -27,40 +27,80 @@ use Rattle.blossom_match.proofs.TreeLemmas.{branch_bands_push, couple_bands-appe
 free_none : (x : ℕ) {xs ys : List ℕ} → xs ≡ ys → count x xs ≡ 0 → count x ys ≡ 0
 free_none x e none = omega (arith, none, ap (λ (zs : List ℕ). count x zs) e)
 
-pub shrunk : (link : Link) (s r : Search) → Shrinks link s.root r.root s.tree.items r.tree.items → r.rest.items ≡ s.rest.items → r.free.items ≡ s.free.items → r.heights.items ≡ s.heights.items → Advances s (Shrink link) r
+pub shrunk : (link : Link) (s r : Search) → Shrinks link s.root r.root s.tree.items r.tree.items → r.rest.items ≡ s.rest.items
+    → r.free.items ≡ s.free.items → r.heights.items ≡ s.heights.items → Advances s (Shrink link) r
 shrunk link s r sh e f g = record {
   search = λ t h i ready.
       let firm = sh.firm (entry t) h (entry-comm t) ready.3 i.root i.tree in
       record {
-        tall = λ x none. omega (arith, i.tall x (free_none x f none), sh.sums (height x) (height-append x), ap (λ (cs : List Couple). height x (couple_bands cs)) e);
+        tall = λ x none. omega (
+          arith,
+          i.tall x (free_none x f none),
+          sh.sums (height x) (height-append x),
+          ap
+              (λ (cs : List Couple). height x (couple_bands cs)) e,
+        );
         room = subst (λ (xs : List ℕ). FreeHaveRoom t h xs) (sym f) i.room;
-        places = λ x. omega (arith, i.places x, sh.places x, ap (λ (cs : List Couple). count x (couple_members cs)) e, ap (λ (xs : List ℕ). count x xs) f);
+        places = λ x. omega (
+          arith,
+          i.places x,
+          sh.places x,
+          ap (λ (cs : List Couple). count x (couple_members cs)) e,
+          ap
+              (λ (xs : List ℕ). count x xs) f,
+        );
         grown = sh.grown;
         joined = subst (λ (cs : List Couple). Each IsJoined cs) (sym e) i.joined;
         root = firm.0;
         tree = firm.1;
         rest = subst (λ (cs : List Couple). Each (IsFirmCouple (entry t) h) cs) (sym e) i.rest;
-        loads = λ a b la lb ne. omega (arith, i.loads a b la lb ne, sh.sums (load a b) (load-append a b), ap (λ (cs : List Couple). load a b (couple_bands cs)) e);
+        loads = λ a b la lb ne. omega (
+          arith,
+          i.loads a b la lb ne,
+          sh.sums (load a b) (load-append a b),
+          ap
+              (λ (cs : List Couple). load a b (couple_bands cs)) e,
+        );
       };
   fewer = omega (arith, sh.fewer, ap (λ (cs : List Couple). length (couple_bands cs)) e);
   free = f;
   heights = g;
 }
 
-pub came_apart : (at : ℕ) (s r : Search) → Expands s.root s.tree.items r.tree.items s.rest.items r.rest.items → r.root ≡ s.root → r.free.items ≡ s.free.items → r.heights.items ≡ s.heights.items → Advances s (Expand at) r
+pub came_apart : (at : ℕ) (s r : Search) → Expands s.root s.tree.items r.tree.items s.rest.items r.rest.items → r.root ≡ s.root
+    → r.free.items ≡ s.free.items → r.heights.items ≡ s.heights.items → Advances s (Expand at) r
 came_apart at s r ex e f g = record {
   search = λ t h i ready.
       let firm = ex.firm (entry t) h (entry-comm t) i.tree i.rest in
       record {
-        tall = λ x none. omega (arith, i.tall x (free_none x f none), ex.sums (height x) (height-append x), ap (λ (v : NestValue). height x (bands v)) e);
+        tall = λ x none. omega (
+          arith,
+          i.tall x (free_none x f none),
+          ex.sums (height x) (height-append x),
+          ap
+              (λ (v : NestValue). height x (bands v)) e,
+        );
         room = subst (λ (xs : List ℕ). FreeHaveRoom t h xs) (sym f) i.room;
-        places = λ x. omega (arith, i.places x, ex.places x, ap (λ (v : NestValue). count x (outer_members v.members r.tree.items)) e, ap (λ (xs : List ℕ). count x xs) f);
+        places = λ x. omega (
+          arith,
+          i.places x,
+          ex.places x,
+          ap (λ (v : NestValue). count x (outer_members v.members r.tree.items)) e,
+          ap
+              (λ (xs : List ℕ). count x xs) f,
+        );
         grown = subst (λ (v : NestValue). IsGrown v.members r.tree.items) (sym e) ex.grown;
         joined = ex.joined i.joined;
         root = subst (λ (v : NestValue). IsSound (entry t) h v) (sym e) i.root;
         tree = firm.0;
         rest = firm.1;
-        loads = λ a b la lb ne. omega (arith, i.loads a b la lb ne, ex.sums (load a b) (load-append a b), ap (λ (v : NestValue). load a b (bands v)) e);
+        loads = λ a b la lb ne. omega (
+          arith,
+          i.loads a b la lb ne,
+          ex.sums (load a b) (load-append a b),
+          ap
+              (λ (v : NestValue). load a b (bands v)) e,
+        );
       };
   fewer = ex.fewer;
   free = f;
@@ -77,7 +117,10 @@ record IsHung (up : Link) (c : Couple) (b : Branch) : Type 0 where
   pair_to : count b.pair.to b.outer.members ≡ 1
   firm : (d : ℕ → ℕ → ℕ) (h : ℕ → ℕ) → IsSymmetric d → IsTight d h up → IsFirmCouple d h c → IsFirm d h b
 
-hung_case : (b : Bool) (up : Link) (c : Couple) → ltb 0 (count up.to c.first.members) ≡ b → count up.to c.first.members + count up.to c.second.members ≡ 1 → IsJoined c → IsHung up c (cond b (record { up = up; inner = c.first; pair = c.link; outer = c.second }) (record { up = up; inner = c.second; pair = back_of c.link; outer = c.first }))
+hung_case : (b : Bool) (up : Link) (c : Couple) → ltb 0 (count up.to c.first.members) ≡ b
+    → count up.to c.first.members + count up.to c.second.members ≡ 1 → IsJoined c
+    → IsHung up c (cond b (record { up = up; inner = c.first; pair = c.link; outer = c.second })
+    (record { up = up; inner = c.second; pair = back_of c.link; outer = c.first }))
 hung_case true up c is one j =
     let some = ltb-true 0 (count up.to c.first.members) is in
     record {
@@ -101,18 +144,34 @@ hung_case false up c is one j =
       firm = λ d h sy t f. record { up = t; pair = tight_back d h c.link sy f.link; inner = f.second; outer = f.first };
     }
 
-hung_is : (up : Link) (c : Couple) → count up.to c.first.members + count up.to c.second.members ≡ 1 → IsJoined c → IsHung up c (hung_by up c)
+hung_is : (up : Link) (c : Couple) → count up.to c.first.members + count up.to c.second.members ≡ 1 → IsJoined c
+    → IsHung up c (hung_by up c)
 hung_is up c one j = hung_case (ltb 0 (count up.to c.first.members)) up c refl one j
 
 members_split : (x : ℕ) (before after : List Couple) (c : Couple) →
-    count x (couple_members (before ++ c ∷ after)) ≡ count x (couple_members (before ++ after)) + count x c.first.members + count x c.second.members
+    count x (couple_members (before ++ c ∷ after)) ≡ count x (couple_members (before ++ after)) + count x c.first.members
+    + count x c.second.members
 members_split x before after c =
-    omega (arith, couple_members-append x before (c ∷ after), couple_members-append x before after, count-append x c.first.members (c.second.members ++ couple_members after), count-append x c.second.members (couple_members after))
+    omega (
+      arith,
+      couple_members-append x before (c ∷ after),
+      couple_members-append x before after,
+      count-append x c.first.members
+          (c.second.members ++ couple_members after),
+      count-append x c.second.members (couple_members after),
+    )
 
 bands_split : (F : List Band → ℕ) → Adds F → (before after : List Couple) (c : Couple) →
     F (couple_bands (before ++ c ∷ after)) ≡ F (couple_bands (before ++ after)) + F (bands c.first) + F (bands c.second)
 bands_split F add before after c =
-    omega (arith, couple_bands-append F add before (c ∷ after), couple_bands-append F add before after, add (bands c.first) (bands c.second ++ couple_bands after), add (bands c.second) (couple_bands after))
+    omega (
+      arith,
+      couple_bands-append F add before (c ∷ after),
+      couple_bands-append F add before after,
+      add (bands c.first)
+          (bands c.second ++ couple_bands after),
+      add (bands c.second) (couple_bands after),
+    )
 
 without : (P : Couple → Type 0) (before after : List Couple) (c : Couple) → Each P (before ++ c ∷ after) → P c × Each P (before ++ after)
 without P before after c all =
@@ -142,39 +201,65 @@ abbrev InnerIsFewer : Couple → Branch → Type 0
 InnerIsFewer c b = length (bands b.inner) < length (bands c.first) + length (bands c.second)
 
 hung_fewer : (p : Bool) (up : Link) (c : Couple) →
-    InnerIsFewer c (cond p (record { up = up; inner = c.first; pair = c.link; outer = c.second }) (record { up = up; inner = c.second; pair = back_of c.link; outer = c.first }))
+    InnerIsFewer c (cond p (record { up = up; inner = c.first; pair = c.link; outer = c.second })
+    (record { up = up; inner = c.second; pair = back_of c.link; outer = c.first }))
 hung_fewer true up c = omega arith
 hung_fewer false up c = omega arith
 
-pub hung : (link : Link) (s r : Search) (c : Couple) → TakesOut link.to s.rest.items r.rest.items c → r.tree.items ≡ s.tree.items ++ hung_by link c ∷ [] → r.root ≡ s.root → r.free.items ≡ s.free.items →
+pub hung : (link : Link) (s r : Search) (c : Couple) → TakesOut link.to s.rest.items r.rest.items c → r.tree.items
+    ≡ s.tree.items ++ hung_by link c ∷ [] → r.root ≡ s.root → r.free.items ≡ s.free.items →
     r.heights.items ≡ s.heights.items → Advances s (Grow link) r
 hung link s r c out g e f same =
     let b = hung_by link c in
     let sizes = λ (ks : List Band). length ks in
-    let was = λ (F : List Band → ℕ) (add : Adds F). ap (λ (cs : List Couple). F (couple_bands cs)) out.was ∙ bands_split F add out.before out.after c in
+    let was = λ (F : List Band → ℕ) (add : Adds F). ap (λ (cs : List Couple). F (couple_bands cs)) out.was
+    ∙ bands_split F add out.before out.after c in
     let now = λ (F : List Band → ℕ). ap (λ (cs : List Couple). F (couple_bands cs)) out.now in
     let held = λ (x : ℕ). ap (λ (cs : List Couple). count x (couple_members cs)) out.was ∙ members_split x out.before out.after c in
     let kept = λ (x : ℕ). ap (λ (cs : List Couple). count x (couple_members cs)) out.now in
-    let grew = λ (F : List Band → ℕ) (add : Adds F). ap (λ (ks : List Branch). F (branch_bands ks)) g ∙ branch_bands_push F add s.tree.items b in
-    let outside = λ (x : ℕ). ap (λ (v : NestValue). count x (outer_members v.members r.tree.items)) e ∙ ap (λ (ks : List Branch). count x (outer_members s.root.members ks)) g ∙ outer_members_push x s.root.members s.tree.items b in
+    let grew = λ (F : List Band → ℕ) (add : Adds F). ap (λ (ks : List Branch). F (branch_bands ks)) g
+    ∙ branch_bands_push F add s.tree.items b in
+    let outside = λ (x : ℕ). ap (λ (v : NestValue). count x (outer_members v.members r.tree.items)) e
+    ∙ ap (λ (ks : List Branch). count x (outer_members s.root.members ks)) g ∙ outer_members_push x s.root.members s.tree.items b in
     let inside = λ (x : ℕ). ap (λ (ks : List Branch). count x (inner_members ks)) g ∙ inner_members_push x s.tree.items b in
     record {
       search = λ t h i ready.
           let joined = without IsJoined out.before out.after c (subst (λ (cs : List Couple). Each IsJoined cs) out.was i.joined) in
-          let firm = without (IsFirmCouple (entry t) h) out.before out.after c (subst (λ (cs : List Couple). Each (IsFirmCouple (entry t) h) cs) out.was i.rest) in
+          let firm = without (IsFirmCouple (entry t) h) out.before out.after c
+          (subst (λ (cs : List Couple). Each (IsFirmCouple (entry t) h) cs) out.was i.rest) in
           let k = hung_is link c (omega (arith, out.here, held link.to, i.places link.to, is_one t link.to)) joined.0 in
           record {
-            tall = λ x none. omega (arith, i.tall x (free_none x f none), was (height x) (height-append x), now (height x), grew (height x) (height-append x), k.sums (height x), ap (λ (v : NestValue). height x (bands v)) e);
+            tall = λ x none. omega (
+              arith,
+              i.tall x (free_none x f none),
+              was (height x) (height-append x),
+              now (height x),
+              grew (height x)
+                  (height-append x),
+              k.sums (height x),
+              ap (λ (v : NestValue). height x (bands v)) e,
+            );
             room = subst (λ (xs : List ℕ). FreeHaveRoom t h xs) (sym f) i.room;
             places = λ x. omega (arith, i.places x, held x, kept x, outside x, inside x, k.counts x, ap (λ (xs : List ℕ). count x xs) f);
-            grown = subst (λ (v : NestValue). IsGrown v.members r.tree.items) (sym e) (subst (λ (ks : List Branch). IsGrown s.root.members ks) (sym g)
+            grown = subst (λ (v : NestValue). IsGrown v.members r.tree.items) (sym e)
+                (subst (λ (ks : List Branch). IsGrown s.root.members ks) (sym g)
                 (grown_push s.root.members s.tree.items b i.grown (subst (λ (l : Link). 1 ≤ count l.from (outers s)) (sym k.same) ready.0)
                 (subst (λ (l : Link). count l.to b.inner.members ≡ 1) (sym k.same) k.up_to) k.pair_from k.pair_to));
             joined = subst (λ (cs : List Couple). Each IsJoined cs) (sym out.now) joined.1;
             root = subst (λ (v : NestValue). IsSound (entry t) h v) (sym e) i.root;
-            tree = subst (λ (ks : List Branch). Each (IsFirm (entry t) h) ks) (sym g) (each-push (IsFirm (entry t) h) s.tree.items b i.tree (k.firm (entry t) h (entry-comm t) ready.2 firm.0));
+            tree = subst (λ (ks : List Branch). Each (IsFirm (entry t) h) ks) (sym g)
+                (each-push (IsFirm (entry t) h) s.tree.items b i.tree (k.firm (entry t) h (entry-comm t) ready.2 firm.0));
             rest = subst (λ (cs : List Couple). Each (IsFirmCouple (entry t) h) cs) (sym out.now) firm.1;
-            loads = λ x y lx ly ne. omega (arith, i.loads x y lx ly ne, was (load x y) (load-append x y), now (load x y), grew (load x y) (load-append x y), k.sums (load x y), ap (λ (v : NestValue). load x y (bands v)) e);
+            loads = λ x y lx ly ne. omega (
+              arith,
+              i.loads x y lx ly ne,
+              was (load x y) (load-append x y),
+              now (load x y),
+              grew (load x y)
+                  (load-append x y),
+              k.sums (load x y),
+              ap (λ (v : NestValue). load x y (bands v)) e,
+            );
           };
       fewer = omega (
         arith,
@@ -188,7 +273,8 @@ hung link s r c out g e f same =
     }
 
 -- a place in no set has height 0
-pub low_branches : (d : ℕ → ℕ → ℕ) (h : ℕ → ℕ) (x : ℕ) (base : List ℕ) (tree : List Branch) → Each (IsFirm d h) tree → count x (outer_members base tree) ≡ 0 → count x (inner_members tree) ≡ 0 →
+pub low_branches : (d : ℕ → ℕ → ℕ) (h : ℕ → ℕ) (x : ℕ) (base : List ℕ) (tree : List Branch) → Each (IsFirm d h) tree
+    → count x (outer_members base tree) ≡ 0 → count x (inner_members tree) ≡ 0 →
     height x (branch_bands tree) ≡ 0
 low_branches d h x base [] f none empty = refl
 low_branches d h x base (b ∷ bs) f none empty =
@@ -203,7 +289,8 @@ low_branches d h x base (b ∷ bs) f none empty =
       height-append x (bands b.outer) (branch_bands bs),
     )
 
-pub low_couples : (d : ℕ → ℕ → ℕ) (h : ℕ → ℕ) (x : ℕ) (cs : List Couple) → Each (IsFirmCouple d h) cs → count x (couple_members cs) ≡ 0 → height x (couple_bands cs) ≡ 0
+pub low_couples : (d : ℕ → ℕ → ℕ) (h : ℕ → ℕ) (x : ℕ) (cs : List Couple) → Each (IsFirmCouple d h) cs → count x (couple_members cs) ≡ 0
+    → height x (couple_bands cs) ≡ 0
 low_couples d h x [] f none = refl
 low_couples d h x (c ∷ cs) f none =
     let o = count-append x c.first.members (c.second.members ++ couple_members cs) in
@@ -218,7 +305,16 @@ low_couples d h x (c ∷ cs) f none =
     )
 
 -- a place is taken from the free ones
-pub taken_place : (x : ℕ) (xs new : List ℕ) (i place : ℕ) → i < length xs → get_or xs i 0 ≡ place → new ≡ take i xs ++ drop (suc i) xs → count x new + hit x place ≡ count x xs
+pub taken_place : (x : ℕ) (xs new : List ℕ) (i place : ℕ) → i < length xs → get_or xs i 0 ≡ place → new ≡ take i xs ++ drop (suc i) xs
+    → count x new + hit x place ≡ count x xs
 taken_place x xs new i place low is e =
     let here : drop i xs ≡ place ∷ drop (suc i) xs = drop-cons xs i 0 low ∙ ap (λ (y : ℕ). y ∷ drop (suc i) xs) is in
-    omega (arith, ap (λ (ys : List ℕ). count x ys) e, count-append x (take i xs) (drop (suc i) xs), ap (λ (ys : List ℕ). count x ys) (take-append-drop i xs), count-append x (take i xs) (drop i xs), ap (λ (ys : List ℕ). count x ys) here)
+    omega (
+      arith,
+      ap (λ (ys : List ℕ). count x ys) e,
+      count-append x (take i xs) (drop (suc i) xs),
+      ap (λ (ys : List ℕ). count x ys)
+          (take-append-drop i xs),
+      count-append x (take i xs) (drop i xs),
+      ap (λ (ys : List ℕ). count x ys) here,
+    )

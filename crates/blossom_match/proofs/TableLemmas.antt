@@ -40,7 +40,8 @@ made_true true false e f g = cc
 made_true false q e f g = cc
 
 -- two numbers are told by the lower and the higher of them
-other_two : (p : Bool) (a b x y : ℕ) → eqb x a ≡ p → (eqb x a && eqb y b) ≡ false → (eqb x b && eqb y a) ≡ false → min x y ≡ min a b → max x y ≡ max a b → ⊥
+other_two : (p : Bool) (a b x y : ℕ) → eqb x a ≡ p → (eqb x a && eqb y b) ≡ false → (eqb x b && eqb y a) ≡ false → min x y ≡ min a b
+    → max x y ≡ max a b → ⊥
 other_two true a b x y is no_first no_second e f =
     let ex : x ≡ a = eqb-true x a is in
     let ey : y ≡ b = omega (arith, ex, e, f) in
@@ -64,17 +65,20 @@ by_tests true u cells n a b d x y len la lb lx ly e f =
     let both = both_true (eqb x a) (eqb y b) e in
     let ex : x ≡ a = eqb-true x a both.0 in
     let ey : y ≡ b = eqb-true y b both.1 in
-    set_same cells (min a b * n + max a b) (min x y * n + max x y) d (omega (arith, in_cells n (min a b) (max a b) (omega arith) (omega arith)))
+    set_same cells (min a b * n + max a b) (min x y * n + max x y) d
+    (omega (arith, in_cells n (min a b) (max a b) (omega arith) (omega arith)))
     (one_cell n (min x y) (max x y) (min a b) (max a b) (omega arith) (omega arith))
 by_tests false true cells n a b d x y len la lb lx ly e f =
     let both = both_true (eqb x b) (eqb y a) f in
     let ex : x ≡ b = eqb-true x b both.0 in
     let ey : y ≡ a = eqb-true y a both.1 in
-    set_same cells (min a b * n + max a b) (min x y * n + max x y) d (omega (arith, in_cells n (min a b) (max a b) (omega arith) (omega arith)))
+    set_same cells (min a b * n + max a b) (min x y * n + max x y) d
+    (omega (arith, in_cells n (min a b) (max a b) (omega arith) (omega arith)))
     (one_cell n (min x y) (max x y) (min a b) (max a b) (omega arith) (omega arith))
 by_tests false false cells n a b d x y len la lb lx ly e f =
     get_or-set_other cells (min a b * n + max a b) (min x y * n + max x y) d 0
-    (λ g. let s = same_cell n (min a b) (max a b) (min x y) (max x y) (omega arith) (omega arith) g in other_two (eqb x a) a b x y refl e f s.0 s.1)
+    (λ g. let s = same_cell n (min a b) (max a b) (min x y) (max x y) (omega arith) (omega arith) g
+    in other_two (eqb x a) a b x y refl e f s.0 s.1)
 
 abbrev set_cells : TableValue → ℕ → ℕ → ℕ → TableValue
 set_cells t a b d = record { places = t.places; cells = set t.cells (min a b * t.places + max a b) d }
@@ -92,22 +96,26 @@ set_keeps : (t : TableValue) → IsTable t → (a b d : ℕ) → a < t.places �
 set_keeps t is a b d la lb low = record {
   few = is.few;
   filled = omega (arith, is.filled, length-set t.cells (min a b * t.places + max a b) d);
-  short = λ x y lx ly. rw (entry-set_cells t is a b d x y la lb lx ly) (short_either ((eqb x a && eqb y b) || (eqb x b && eqb y a)) d (entry t x y) MAX_DISTANCE low (is.short x y lx ly));
+  short = λ x y lx ly. rw (entry-set_cells t is a b d x y la lb lx ly)
+      (short_either ((eqb x a && eqb y b) || (eqb x b && eqb y a)) d (entry t x y) MAX_DISTANCE low (is.short x y lx ly));
 }
 
 -- the same where the cell has a name
 abbrev pub set_at : TableValue → ℕ → ℕ → TableValue
 set_at t at d = record { places = t.places; cells = set t.cells at d }
 
-pub entry-set_at : (t : TableValue) → IsTable t → (a b d at x y : ℕ) → at ≡ min a b * t.places + max a b → a < t.places → b < t.places → x < t.places → y < t.places →
+pub entry-set_at : (t : TableValue) → IsTable t → (a b d at x y : ℕ) → at ≡ min a b * t.places + max a b → a < t.places → b < t.places
+    → x < t.places → y < t.places →
     entry (set_at t at d) x y ≡ after_set t a b d x y
 entry-set_at t is a b d at x y e la lb lx ly = ap (λ (k : ℕ). entry (set_at t k d) x y) e ∙ entry-set_cells t is a b d x y la lb lx ly
 
-pub set_at_keeps : (t : TableValue) → IsTable t → (a b d at : ℕ) → at ≡ min a b * t.places + max a b → a < t.places → b < t.places → d ≤ MAX_DISTANCE → IsTable (set_at t at d)
+pub set_at_keeps : (t : TableValue) → IsTable t → (a b d at : ℕ) → at ≡ min a b * t.places + max a b → a < t.places → b < t.places
+    → d ≤ MAX_DISTANCE → IsTable (set_at t at d)
 set_at_keeps t is a b d at e la lb low = subst (λ (k : ℕ). IsTable (set_at t k d)) (sym e) (set_keeps t is a b d la lb low)
 
 -- the entry of two places does not depend on their order
 pub entry-comm : (t : TableValue) (a b : ℕ) → entry t a b ≡ entry t b a
 entry-comm t a b =
-    let e : min a b * t.places + max a b ≡ min b a * t.places + max b a = one_cell t.places (min a b) (max a b) (min b a) (max b a) (omega arith) (omega arith) in
+    let e : min a b * t.places + max a b ≡ min b a * t.places + max b a =
+    one_cell t.places (min a b) (max a b) (min b a) (max b a) (omega arith) (omega arith) in
     ap (λ (k : ℕ). get_or t.cells k 0) e

@@ -14,17 +14,41 @@ use Rattle.blossom_match.specs.declared.matching.Pair.{Pair}
 use Rattle.blossom_match.proofs.SumLemmas.{count-append, hit_same, load-append, size-append, total-append}
 use Rattle.blossom_match.proofs.MoatLemmas.{cost_push, ends_push, lie_both, lie_more, lie_none, lie_own, load_own, width_own}
 
-places_of : (x : ℕ) (c : Couple) (rest : List Couple) → count x (couple_members (c ∷ rest)) ≡ count x c.first.members + count x c.second.members + count x (couple_members rest)
-places_of x c rest = omega (arith, count-append x c.first.members (c.second.members ++ couple_members rest), count-append x c.second.members (couple_members rest))
+places_of : (x : ℕ) (c : Couple) (rest : List Couple) → count x (couple_members (c ∷ rest))
+    ≡ count x c.first.members + count x c.second.members + count x (couple_members rest)
+places_of x c rest = omega (
+  arith,
+  count-append x c.first.members (c.second.members ++ couple_members rest),
+  count-append x c.second.members
+      (couple_members rest),
+)
 
-total_of : (c : Couple) (rest : List Couple) → total (couple_bands (c ∷ rest)) ≡ total (bands c.first) + total (bands c.second) + total (couple_bands rest)
-total_of c rest = omega (arith, total-append (bands c.first) (bands c.second ++ couple_bands rest), total-append (bands c.second) (couple_bands rest))
+total_of : (c : Couple) (rest : List Couple) → total (couple_bands (c ∷ rest))
+    ≡ total (bands c.first) + total (bands c.second) + total (couple_bands rest)
+total_of c rest = omega (
+  arith,
+  total-append (bands c.first) (bands c.second ++ couple_bands rest),
+  total-append (bands c.second)
+      (couple_bands rest),
+)
 
-loads_of : (a b : ℕ) (c : Couple) (rest : List Couple) → load a b (couple_bands (c ∷ rest)) ≡ load a b (bands c.first) + load a b (bands c.second) + load a b (couple_bands rest)
-loads_of a b c rest = omega (arith, load-append a b (bands c.first) (bands c.second ++ couple_bands rest), load-append a b (bands c.second) (couple_bands rest))
+loads_of : (a b : ℕ) (c : Couple) (rest : List Couple) → load a b (couple_bands (c ∷ rest))
+    ≡ load a b (bands c.first) + load a b (bands c.second) + load a b (couple_bands rest)
+loads_of a b c rest = omega (
+  arith,
+  load-append a b (bands c.first) (bands c.second ++ couple_bands rest),
+  load-append a b (bands c.second)
+      (couple_bands rest),
+)
 
-sizes_of : (c : Couple) (rest : List Couple) → length (couple_bands (c ∷ rest)) ≡ length (bands c.first) + length (bands c.second) + length (couple_bands rest)
-sizes_of c rest = omega (arith, size-append (bands c.first) (bands c.second ++ couple_bands rest), size-append (bands c.second) (couple_bands rest))
+sizes_of : (c : Couple) (rest : List Couple) → length (couple_bands (c ∷ rest))
+    ≡ length (bands c.first) + length (bands c.second) + length (couple_bands rest)
+sizes_of c rest = omega (
+  arith,
+  size-append (bands c.first) (bands c.second ++ couple_bands rest),
+  size-append (bands c.second)
+      (couple_bands rest),
+)
 
 pub record Head (c : Couple) (all : List Couple) : Type 0 where
   pub from : count c.link.from c.first.members ≡ 1
@@ -49,7 +73,8 @@ head_of all left old now was so_far c rest taking e =
 
 joined_lists : (was a b c : List Moat) (x y z : List Moat) → a ≡ was ++ x → b ≡ a ++ y → c ≡ b ++ z → c ≡ was ++ (x ++ (y ++ z))
 joined_lists was a b c x y z e f g =
-    g ∙ ap (λ (k : List Moat). k ++ z) (f ∙ ap (λ (k : List Moat). k ++ y) e ∙ append_assoc was x y) ∙ append_assoc was (x ++ y) z ∙ ap (λ (k : List Moat). was ++ k) (append_assoc x y z)
+    g ∙ ap (λ (k : List Moat). k ++ z) (f ∙ ap (λ (k : List Moat). k ++ y) e ∙ append_assoc was x y) ∙ append_assoc was (x ++ y) z
+    ∙ ap (λ (k : List Moat). was ++ k) (append_assoc x y z)
 
 pub taking_more : (all left : List Couple) (old now mid end new : List Pair) (was a b z : List Moat) (c : Couple) (rest : List Couple) →
     Taking all left old now was a → left ≡ c ∷ rest → TakesNest c.link.from c.first now mid a b → TakesNest c.link.to c.second mid end b z →
@@ -64,8 +89,25 @@ taking_more all left old now mid end new was a b z c rest taking e one two pushe
       fewer = omega (arith, sizes_of c rest, t.fewer);
       stays = λ tab paid. (t.stays tab paid).1;
       paid = λ tab paid. let s = (t.stays tab paid).0 in
-          rw pushed (omega (arith, cost_push tab end c.link.from c.link.to, total_of c rest, t.paid tab paid, one.paid tab s.first, two.paid tab s.second, s.link));
-      places = λ x. rw pushed (omega (arith, ends_push x end c.link.from c.link.to, places_of x c rest, t.places x, one.places x, two.places x));
+          rw pushed (omega (
+            arith,
+            cost_push tab end c.link.from c.link.to,
+            total_of c rest,
+            t.paid tab paid,
+            one.paid tab s.first,
+            two.paid
+                tab s.second,
+            s.link,
+          ));
+      places = λ x. rw pushed (omega (
+        arith,
+        ends_push x end c.link.from c.link.to,
+        places_of x c rest,
+        t.places x,
+        one.places x,
+        two.places
+            x,
+      ));
       widths = omega (arith, total_of c rest, t.widths, one.widths, two.widths);
       loads = λ x y. omega (arith, loads_of x y c rest, t.loads x y, one.loads x y, two.loads x y);
       taken = t.taken ++ both;
@@ -73,11 +115,13 @@ taking_more all left old now mid end new was a b z c rest taking e one two pushe
       moats = t.moats ++ (one.moats ++ two.moats);
       is = joined_lists was a b z t.moats one.moats two.moats t.is one.is two.is;
       lie = lie_both t.taken both (t.taken ++ both) t.moats (one.moats ++ two.moats) t.lie
-          (lie_both c.first.members c.second.members both one.moats two.moats one.lie two.lie (λ x. omega (arith, places_of x c rest, t.once x, t.rest x)) (λ x. omega (arith, at x)))
+          (lie_both c.first.members c.second.members both one.moats two.moats one.lie two.lie
+          (λ x. omega (arith, places_of x c rest, t.once x, t.rest x)) (λ x. omega (arith, at x)))
           (λ x. omega (arith, at x, places_of x c rest, t.once x, t.rest x)) (λ x. omega (arith, count-append x t.taken both));
     }
 
-pub taking_start : (all left : List Couple) (old : List Pair) (was : List Moat) → Each IsJoined all → ((x : ℕ) → count x (couple_members all) ≤ 1) → left ≡ all → Taking all left old old was was
+pub taking_start : (all left : List Couple) (old : List Pair) (was : List Moat) → Each IsJoined all
+    → ((x : ℕ) → count x (couple_members all) ≤ 1) → left ≡ all → Taking all left old old was was
 taking_start all left old was joined once e = subst (λ (cs : List Couple). Taking all cs old old was was) (sym e) (record {
   joined = joined;
   once = once;
@@ -94,7 +138,8 @@ taking_start all left old was joined once e = subst (λ (cs : List Couple). Taki
   lie = lie_none [];
 })
 
-pub taking_done : (all left : List Couple) (old new : List Pair) (was now : List Moat) → Taking all left old new was now → length left ≡ 0 → TakesCouples all old new was now
+pub taking_done : (all left : List Couple) (old new : List Pair) (was now : List Moat) → Taking all left old new was now → length left ≡ 0
+    → TakesCouples all old new was now
 taking_done all [] old new was now t none = record {
   paid = λ tab p. omega (arith, t.paid tab p);
   places = λ x. omega (arith, t.places x);
@@ -110,65 +155,119 @@ whole : (w n : ℕ) → n ≡ 1 → w * n ≡ w
 whole w n one = rw one (omega arith)
 
 -- a single place
-takes_place : (left w : ℕ) (s : NestValue) (ms : List ℕ) (cs : List Couple) (old new : List Pair) (was a now : List Moat) → ((x : ℕ) → count x s.members ≤ 1) →
+takes_place : (left w : ℕ) (s : NestValue) (ms : List ℕ) (cs : List Couple) (old new : List Pair) (was a now : List Moat)
+    → ((x : ℕ) → count x s.members ≤ 1) →
     OpensAt left s ms w None cs → a ≡ was ++ own_moat s.members s.width → TakesCouples cs old new a now → TakesNest left s old new was now
 takes_place left w s ms cs old new was a now once o own t =
     let sum = o.sums total total-append in
     record {
-      paid = λ tab paid. omega (arith, sum, o.tall, o.places left, hit_same left, once left, t.paid tab (o.paid (entry tab) paid).1, whole s.width (count left s.members) (omega (arith, o.places left, hit_same left, once left)));
+      paid = λ tab paid. omega (
+        arith,
+        sum,
+        o.tall,
+        o.places left,
+        hit_same left,
+        once left,
+        t.paid tab
+            (o.paid (entry tab) paid).1,
+        whole s.width (count left s.members) (omega (arith, o.places left, hit_same left, once left)),
+      );
       places = λ x. omega (arith, o.places x, t.places x);
       widths = omega (arith, sum, t.widths, ap width_of own, width_own s.width s.members was);
-      loads = λ x y. omega (arith, o.sums (load x y) (load-append x y), t.loads x y, ap (λ (k : List Moat). load_on k x y) own, load_own x y s.width s.members was (once x) (once y));
+      loads = λ x y. omega (
+        arith,
+        o.sums (load x y) (load-append x y),
+        t.loads x y,
+        ap
+            (λ (k : List Moat). load_on k x y) own,
+        load_own x y s.width s.members was (once x) (once y),
+      );
       moats = own_moat s.members s.width ++ t.moats;
       is = t.is ∙ ap (λ (k : List Moat). k ++ t.moats) own ∙ append_assoc was (own_moat s.members s.width) t.moats;
-      lie = lie_own s.width s.members [] (couple_members cs) [] t.moats left left o.odd (lie_none []) t.lie (λ x. omega (arith, o.places x, once x)) (λ x. omega (arith, o.places x))
-          refl (omega (arith, o.places left, hit_same left)) (omega (arith, o.places left, hit_same left, once left)) (omega (arith, o.places left, hit_same left));
+      lie = lie_own s.width s.members [] (couple_members cs) [] t.moats left left o.odd (lie_none []) t.lie
+          (λ x. omega (arith, o.places x, once x)) (λ x. omega (arith, o.places x))
+          refl (omega (arith, o.places left, hit_same left)) (omega (arith, o.places left, hit_same left, once left))
+          (omega (arith, o.places left, hit_same left));
     }
 
 -- a ring
-takes_ring : (left w : ℕ) (s p : NestValue) (ms : List ℕ) (cs : List Couple) (old mid new : List Pair) (was a b now : List Moat) → ((x : ℕ) → count x s.members ≤ 1) →
-    OpensAt left s ms w (Some p) cs → a ≡ was ++ own_moat s.members s.width → TakesNest left p old mid a b → TakesCouples cs mid new b now → TakesNest left s old new was now
+takes_ring : (left w : ℕ) (s p : NestValue) (ms : List ℕ) (cs : List Couple) (old mid new : List Pair) (was a b now : List Moat)
+    → ((x : ℕ) → count x s.members ≤ 1) →
+    OpensAt left s ms w (Some p) cs → a ≡ was ++ own_moat s.members s.width → TakesNest left p old mid a b → TakesCouples cs mid new b now
+    → TakesNest left s old new was now
 takes_ring left w s p ms cs old mid new was a b now once o own first t =
     let sum = o.sums total total-append in
     let other = o.holds.1 in
     record {
-      paid = λ tab paid. let q = o.paid (entry tab) paid in omega (arith, sum, o.tall, first.paid tab q.0, t.paid tab q.1, whole s.width (count left s.members) (omega (arith, o.places left, o.holds.0, once left)));
+      paid = λ tab paid. let q = o.paid (entry tab) paid in omega (
+        arith,
+        sum,
+        o.tall,
+        first.paid tab q.0,
+        t.paid tab q.1,
+        whole s.width (count left s.members)
+            (omega (arith, o.places left, o.holds.0, once left)),
+      );
       places = λ x. omega (arith, o.places x, first.places x, t.places x);
       widths = omega (arith, sum, first.widths, t.widths, ap width_of own, width_own s.width s.members was);
-      loads = λ x y. omega (arith, o.sums (load x y) (load-append x y), first.loads x y, t.loads x y, ap (λ (k : List Moat). load_on k x y) own, load_own x y s.width s.members was (once x) (once y));
+      loads = λ x y. omega (
+        arith,
+        o.sums (load x y) (load-append x y),
+        first.loads x y,
+        t.loads x y,
+        ap
+            (λ (k : List Moat). load_on k x y) own,
+        load_own x y s.width s.members was (once x) (once y),
+      );
       moats = own_moat s.members s.width ++ (first.moats ++ t.moats);
       is = joined_lists was a b now (own_moat s.members s.width) first.moats t.moats own first.is t.is;
-      lie = lie_own s.width s.members p.members (couple_members cs) first.moats t.moats other.0 left o.odd first.lie t.lie (λ x. omega (arith, o.places x, once x)) (λ x. omega (arith, o.places x))
-          (omega (arith, other.1, o.places other.0, once other.0)) (omega (arith, other.1, o.places other.0)) (omega (arith, o.holds.0, o.places left, once left)) (omega (arith, o.holds.0, o.places left));
+      lie = lie_own s.width s.members p.members (couple_members cs) first.moats t.moats other.0 left o.odd first.lie t.lie
+          (λ x. omega (arith, o.places x, once x)) (λ x. omega (arith, o.places x))
+          (omega (arith, other.1, o.places other.0, once other.0)) (omega (arith, other.1, o.places other.0))
+          (omega (arith, o.holds.0, o.places left, once left)) (omega (arith, o.holds.0, o.places left));
     }
 
-own_is : (left w : ℕ) (s : NestValue) (ms : List ℕ) (core : Option NestValue) (cs : List Couple) (was a : List Moat) → OpensAt left s ms w core cs → a ≡ was ++ own_moat ms w → a ≡ was ++ own_moat s.members s.width
-own_is left w s ms core cs was a o e = e ∙ ap (λ (k : List ℕ). was ++ own_moat k w) o.same ∙ ap (λ (k : ℕ). was ++ own_moat s.members k) o.wide
+own_is : (left w : ℕ) (s : NestValue) (ms : List ℕ) (core : Option NestValue) (cs : List Couple) (was a : List Moat)
+    → OpensAt left s ms w core cs → a ≡ was ++ own_moat ms w → a ≡ was ++ own_moat s.members s.width
+own_is left w s ms core cs was a o e = e ∙ ap (λ (k : List ℕ). was ++ own_moat k w) o.same
+    ∙ ap (λ (k : ℕ). was ++ own_moat s.members k) o.wide
 
-pub took_place : (left w : ℕ) (s : NestValue) (ms : List ℕ) (core : Option NestValue) (cs : List Couple) (old new : List Pair) (was a now : List Moat) → ((x : ℕ) → count x s.members ≤ 1) → core ≡ None →
+pub took_place : (left w : ℕ) (s : NestValue) (ms : List ℕ) (core : Option NestValue) (cs : List Couple) (old new : List Pair)
+    (was a now : List Moat) → ((x : ℕ) → count x s.members ≤ 1) → core ≡ None →
     OpensAt left s ms w core cs → a ≡ was ++ own_moat ms w → TakesCouples cs old new a now → TakesNest left s old new was now
 took_place left w s ms core cs old new was a now once e o own t =
-    takes_place left w s ms cs old new was a now once (subst (λ (k : Option NestValue). OpensAt left s ms w k cs) e o) (own_is left w s ms core cs was a o own) t
+    takes_place left w s ms cs old new was a now once (subst (λ (k : Option NestValue). OpensAt left s ms w k cs) e o)
+    (own_is left w s ms core cs was a o own) t
 
-pub took_ring : (left w : ℕ) (s p : NestValue) (ms : List ℕ) (core : Option NestValue) (cs : List Couple) (old mid new : List Pair) (was a b now : List Moat) → ((x : ℕ) → count x s.members ≤ 1) → core ≡ Some p →
-    OpensAt left s ms w core cs → a ≡ was ++ own_moat ms w → TakesNest left p old mid a b → TakesCouples cs mid new b now → TakesNest left s old new was now
+pub took_ring : (left w : ℕ) (s p : NestValue) (ms : List ℕ) (core : Option NestValue) (cs : List Couple) (old mid new : List Pair)
+    (was a b now : List Moat) → ((x : ℕ) → count x s.members ≤ 1) → core ≡ Some p →
+    OpensAt left s ms w core cs → a ≡ was ++ own_moat ms w → TakesNest left p old mid a b → TakesCouples cs mid new b now
+    → TakesNest left s old new was now
 took_ring left w s p ms core cs old mid new was a b now once e o own first t =
-    takes_ring left w s p ms cs old mid new was a b now once (subst (λ (k : Option NestValue). OpensAt left s ms w k cs) e o) (own_is left w s ms core cs was a o own) first t
+    takes_ring left w s p ms cs old mid new was a b now once (subst (λ (k : Option NestValue). OpensAt left s ms w k cs) e o)
+    (own_is left w s ms core cs was a o own) first t
 
 pub record CoreOf (left : ℕ) (s p : NestValue) (cs : List Couple) : Type 0 where
   pub holds : count left p.members ≡ 1
   pub once : (x : ℕ) → count x p.members ≤ 1
   pub fewer : length (bands p) < length (bands s)
 
-pub core_of : (left w : ℕ) (s p : NestValue) (ms : List ℕ) (core : Option NestValue) (cs : List Couple) → core ≡ Some p → OpensAt left s ms w core cs → ((x : ℕ) → count x s.members ≤ 1) → CoreOf left s p cs
+pub core_of : (left w : ℕ) (s p : NestValue) (ms : List ℕ) (core : Option NestValue) (cs : List Couple) → core ≡ Some p
+    → OpensAt left s ms w core cs → ((x : ℕ) → count x s.members ≤ 1) → CoreOf left s p cs
 core_of left w s p ms core cs e open_ once =
     let o = subst (λ (k : Option NestValue). OpensAt left s ms w k cs) e open_ in
-    record { holds = o.holds.0; once = λ x. omega (arith, o.places x, once x); fewer = omega (arith, o.sums (λ (bs : List Band). length bs) size-append) }
+    record {
+      holds = o.holds.0;
+      once = λ x. omega (arith, o.places x, once x);
+      fewer =
+          omega (arith, o.sums (λ (bs : List Band). length bs) size-append);
+    }
 
 pub record RestOf (s : NestValue) (cs : List Couple) : Type 0 where
   pub once : (x : ℕ) → count x (couple_members cs) ≤ 1
   pub fewer : length (couple_bands cs) < length (bands s)
 
-pub rest_of : (left w : ℕ) (s : NestValue) (ms : List ℕ) (core : Option NestValue) (cs : List Couple) → OpensAt left s ms w core cs → ((x : ℕ) → count x s.members ≤ 1) → RestOf s cs
+pub rest_of : (left w : ℕ) (s : NestValue) (ms : List ℕ) (core : Option NestValue) (cs : List Couple) → OpensAt left s ms w core cs
+    → ((x : ℕ) → count x s.members ≤ 1) → RestOf s cs
 rest_of left w s ms core cs o once =
     record { once = λ x. omega (arith, o.places x, once x); fewer = omega (arith, o.sums (λ (bs : List Band). length bs) size-append) }

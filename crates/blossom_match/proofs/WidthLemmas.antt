@@ -38,7 +38,13 @@ grown_same by base (b ∷ bs) g = (g.0, g.1, g.2, g.3, grown_same by (b.outer.me
 
 pub sizes_same : (by : ℕ) (bs : List Branch) → length (inner_bands (all_changed by bs)) ≡ length (inner_bands bs)
 sizes_same by [] = refl
-sizes_same by (b ∷ bs) = omega (arith, sizes_same by bs, size-append (bands b.inner) (inner_bands bs), size-append (bands (with_width (b.inner.width - by) b.inner)) (inner_bands (all_changed by bs)))
+sizes_same by (b ∷ bs) = omega (
+  arith,
+  sizes_same by bs,
+  size-append (bands b.inner) (inner_bands bs),
+  size-append
+      (bands (with_width (b.inner.width - by) b.inner)) (inner_bands (all_changed by bs)),
+)
 
 pub drop_changed : (by at : ℕ) (bs : List Branch) → drop at (all_changed by bs) ≡ all_changed by (drop at bs)
 drop_changed by zero bs = refl
@@ -57,12 +63,14 @@ times_by by m n k e = let f = ap (λ (x : ℕ). by * x) e in omega (arith, f)
 pub wide_tall : (x by : ℕ) (s : NestValue) → height x (bands (with_width (s.width + by) s)) ≡ height x (bands s) + by * count x s.members
 wide_tall x by s = omega arith
 
-narrow_tall : (x by : ℕ) (s : NestValue) → by ≤ s.width → height x (bands (with_width (s.width - by) s)) + by * count x s.members ≡ height x (bands s)
+narrow_tall : (x by : ℕ) (s : NestValue) → by ≤ s.width → height x (bands (with_width (s.width - by) s)) + by * count x s.members
+    ≡ height x (bands s)
 narrow_tall x by s low = omega (arith, narrowed s.width by (count x s.members) low)
 
 -- heights rise by the change in outer sets and fall by it in inner sets
 pub branches_tall : (x by : ℕ) (bs : List Branch) → Each (CanChange by) bs →
-    height x (branch_bands (all_changed by bs)) + by * count x (inner_members bs) ≡ height x (branch_bands bs) + by * count x (outer_members [] bs)
+    height x (branch_bands (all_changed by bs)) + by * count x (inner_members bs)
+    ≡ height x (branch_bands bs) + by * count x (outer_members [] bs)
 branches_tall x by [] can = omega arith
 branches_tall x by (b ∷ bs) can =
     let n = with_width (b.inner.width - by) b.inner in
@@ -81,7 +89,8 @@ branches_tall x by (b ∷ bs) can =
     )
 
 -- a set of the outer sets, of the inner sets and of the others
-pub sound_up : (d : ℕ → ℕ → ℕ) (h k : ℕ → ℕ) (by : ℕ) (s : NestValue) → ((x : ℕ) → count x s.members ≤ 1) → ((x : ℕ) → 1 ≤ count x s.members → k x ≡ h x + by) → IsSound d h s →
+pub sound_up : (d : ℕ → ℕ → ℕ) (h k : ℕ → ℕ) (by : ℕ) (s : NestValue) → ((x : ℕ) → count x s.members ≤ 1)
+    → ((x : ℕ) → 1 ≤ count x s.members → k x ≡ h x + by) → IsSound d h s →
     IsSound d k (with_width (s.width + by) s)
 sound_up d h k by s once up i = record {
   kept = record { odd = i.kept.odd; covered = i.kept.covered; single = i.kept.single };
@@ -92,7 +101,8 @@ sound_up d h k by s once up i = record {
   even = λ x y hx hy. omega (arith, i.even x y hx hy, up x hx, up y hy);
 }
 
-sound_down : (d : ℕ → ℕ → ℕ) (h k : ℕ → ℕ) (by : ℕ) (s : NestValue) → by ≤ s.width → ((x : ℕ) → count x s.members ≤ 1) → ((x : ℕ) → 1 ≤ count x s.members → k x + by ≡ h x) → IsSound d h s →
+sound_down : (d : ℕ → ℕ → ℕ) (h k : ℕ → ℕ) (by : ℕ) (s : NestValue) → by ≤ s.width → ((x : ℕ) → count x s.members ≤ 1)
+    → ((x : ℕ) → 1 ≤ count x s.members → k x + by ≡ h x) → IsSound d h s →
     IsSound d k (with_width (s.width - by) s)
 sound_down d h k by s low once down i = record {
   kept = record { odd = i.kept.odd; covered = i.kept.covered; single = i.kept.single };
@@ -111,8 +121,10 @@ sound_same d h k s same i = record {
   even = λ x y hx hy. omega (arith, i.even x y hx hy, same x hx, same y hy);
 }
 
-pub firm_changed : (d : ℕ → ℕ → ℕ) (h k : ℕ → ℕ) (by : ℕ) (base : List ℕ) (bs : List Branch) → IsGrown base bs → Each (CanChange by) bs → Each (IsFirm d h) bs →
-    ((x : ℕ) → count x (outer_members base bs) + count x (inner_members bs) ≤ 1) → ((x : ℕ) → 1 ≤ count x (outer_members base bs) → k x ≡ h x + by) →
+pub firm_changed : (d : ℕ → ℕ → ℕ) (h k : ℕ → ℕ) (by : ℕ) (base : List ℕ) (bs : List Branch) → IsGrown base bs → Each (CanChange by) bs
+    → Each (IsFirm d h) bs →
+    ((x : ℕ) → count x (outer_members base bs) + count x (inner_members bs) ≤ 1)
+    → ((x : ℕ) → 1 ≤ count x (outer_members base bs) → k x ≡ h x + by) →
     ((x : ℕ) → 1 ≤ count x (inner_members bs) → k x + by ≡ h x) → Each (IsFirm d k) (all_changed by bs)
 firm_changed d h k by base [] g can f once up down = tt
 firm_changed d h k by base (b ∷ bs) g can f once up down =
@@ -122,15 +134,23 @@ firm_changed d h k by base (b ∷ bs) g can f once up down =
     let in_inner = λ (x : ℕ) (here : 1 ≤ count x b.inner.members). down x (omega (arith, i x, here)) in
     let in_outer = λ (x : ℕ) (here : 1 ≤ count x b.outer.members). up x (omega (arith, o x, here)) in (
       record {
-        up = omega (arith, f.0.up, up b.up.from (omega (arith, g.0, base_in b.up.from base bs, o b.up.from)), in_inner b.up.to (omega (arith, g.1)));
+        up = omega (
+          arith,
+          f.0.up,
+          up b.up.from (omega (arith, g.0, base_in b.up.from base bs, o b.up.from)),
+          in_inner b.up.to
+              (omega (arith, g.1)),
+        );
         pair = omega (arith, f.0.pair, in_inner b.pair.from (omega (arith, g.2)), in_outer b.pair.to (omega (arith, g.3)));
         inner = sound_down d h k by b.inner can.0.wide (λ x. omega (arith, once x, i x)) in_inner f.0.inner;
         outer = sound_up d h k by b.outer (λ x. omega (arith, once x, o x)) in_outer f.0.outer;
       },
-      firm_changed d h k by (b.outer.members ++ base) bs g.4 can.1 f.1 (λ x. omega (arith, once x, o x, i x, more x)) (λ x here. up x (omega (arith, here, more x, o x))) (λ x here. down x (omega (arith, here, i x))),
+      firm_changed d h k by (b.outer.members ++ base) bs g.4 can.1 f.1 (λ x. omega (arith, once x, o x, i x, more x))
+          (λ x here. up x (omega (arith, here, more x, o x))) (λ x here. down x (omega (arith, here, i x))),
     )
 
-pub couples_same : (d : ℕ → ℕ → ℕ) (h k : ℕ → ℕ) (cs : List Couple) → Each IsJoined cs → Each (IsFirmCouple d h) cs → ((x : ℕ) → 1 ≤ count x (couple_members cs) → k x ≡ h x) → Each (IsFirmCouple d k) cs
+pub couples_same : (d : ℕ → ℕ → ℕ) (h k : ℕ → ℕ) (cs : List Couple) → Each IsJoined cs → Each (IsFirmCouple d h) cs
+    → ((x : ℕ) → 1 ≤ count x (couple_members cs) → k x ≡ h x) → Each (IsFirmCouple d k) cs
 couples_same d h k [] j f same = tt
 couples_same d h k (c ∷ cs) j f same =
     let o = λ (x : ℕ). count-append x c.first.members (c.second.members ++ couple_members cs) in
@@ -158,13 +178,27 @@ abbrev pub inside : ℕ → ℕ → List Branch → ℕ
 inside a b [] = 0
 inside a b (c ∷ cs) = both a b c.inner + inside a b cs
 
-pub counted_out : (a b : ℕ) (bs : List Branch) → between_out a b bs + 2 * around a b bs ≡ count a (outer_members [] bs) + count b (outer_members [] bs)
+pub counted_out : (a b : ℕ) (bs : List Branch) → between_out a b bs + 2 * around a b bs
+    ≡ count a (outer_members [] bs) + count b (outer_members [] bs)
 counted_out a b [] = refl
-counted_out a b (c ∷ cs) = omega (arith, counted_out a b cs, count-append a c.outer.members (outer_members [] cs), count-append b c.outer.members (outer_members [] cs))
+counted_out a b (c ∷ cs) = omega (
+  arith,
+  counted_out a b cs,
+  count-append a c.outer.members
+      (outer_members [] cs),
+  count-append b c.outer.members (outer_members [] cs),
+)
 
-pub counted_in : (a b : ℕ) (bs : List Branch) → between_in a b bs + 2 * inside a b bs ≡ count a (inner_members bs) + count b (inner_members bs)
+pub counted_in : (a b : ℕ) (bs : List Branch) → between_in a b bs + 2 * inside a b bs
+    ≡ count a (inner_members bs) + count b (inner_members bs)
 counted_in a b [] = refl
-counted_in a b (c ∷ cs) = omega (arith, counted_in a b cs, count-append a c.inner.members (inner_members cs), count-append b c.inner.members (inner_members cs))
+counted_in a b (c ∷ cs) = omega (
+  arith,
+  counted_in a b cs,
+  count-append a c.inner.members (inner_members cs),
+  count-append b c.inner.members
+      (inner_members cs),
+)
 
 pub more_wide : (w by k rest new old : ℕ) → new ≡ (w + by) * k + rest → old ≡ w * k + rest → new ≡ old + by * k
 more_wide w by k rest new old e f = omega arith
@@ -172,7 +206,8 @@ more_wide w by k rest new old e f = omega arith
 less_wide : (w by k rest new old : ℕ) → by ≤ w → new ≡ (w - by) * k + rest → old ≡ w * k + rest → new + by * k ≡ old
 less_wide w by k rest new old low e f = omega (arith, narrowed w by k low)
 
-sum_up : (by n w r i o q ci co bi bo new old : ℕ) → new ≡ n + (w + r) → old ≡ i + (o + q) → n + by * ci ≡ i → w ≡ o + by * co → r + by * bi ≡ q + by * bo →
+sum_up : (by n w r i o q ci co bi bo new old : ℕ) → new ≡ n + (w + r) → old ≡ i + (o + q) → n + by * ci ≡ i → w ≡ o + by * co → r + by * bi
+    ≡ q + by * bo →
     new + by * (ci + bi) ≡ old + by * (co + bo)
 sum_up by n w r i o q ci co bi bo new old e f g k m = omega arith
 
@@ -184,16 +219,20 @@ branches_load a b by (c ∷ cs) can =
     let w = with_width (c.outer.width + by) c.outer in
     let ci = apart (count a c.inner.members) (count b c.inner.members) in
     let co = apart (count a c.outer.members) (count b c.outer.members) in
-    sum_up by (load a b (bands n)) (load a b (bands w)) (load a b (branch_bands (all_changed by cs))) (load a b (bands c.inner)) (load a b (bands c.outer)) (load a b (branch_bands cs)) ci co (between_in a b cs) (between_out a b cs) _ _
-    (load-append a b (bands n) (bands w ++ branch_bands (all_changed by cs)) ∙ ap (λ (x : ℕ). load a b (bands n) + x) (load-append a b (bands w) (branch_bands (all_changed by cs))))
-    (load-append a b (bands c.inner) (bands c.outer ++ branch_bands cs) ∙ ap (λ (x : ℕ). load a b (bands c.inner) + x) (load-append a b (bands c.outer) (branch_bands cs)))
+    sum_up by (load a b (bands n)) (load a b (bands w)) (load a b (branch_bands (all_changed by cs))) (load a b (bands c.inner))
+    (load a b (bands c.outer)) (load a b (branch_bands cs)) ci co (between_in a b cs) (between_out a b cs) _ _
+    (load-append a b (bands n) (bands w ++ branch_bands (all_changed by cs))
+    ∙ ap (λ (x : ℕ). load a b (bands n) + x) (load-append a b (bands w) (branch_bands (all_changed by cs))))
+    (load-append a b (bands c.inner) (bands c.outer ++ branch_bands cs)
+    ∙ ap (λ (x : ℕ). load a b (bands c.inner) + x) (load-append a b (bands c.outer) (branch_bands cs)))
     (less_wide c.inner.width by ci (load a b c.inner.below) (load a b (bands n)) (load a b (bands c.inner)) can.0.wide refl refl)
     (more_wide c.outer.width by co (load a b c.outer.below) (load a b (bands w)) (load a b (bands c.outer)) refl refl)
     (branches_load a b by cs can.1)
 
 -- bo, bi: how many outer and inner sets hold exactly one of a and b; oo, ii: how many hold both; oa, ob, ia, ib: how many hold a and b
 pub within : (top old new by bo bi oo ii oa ob ia ib : ℕ) → new + by * bi ≡ old + by * bo → bo + 2 * oo ≡ oa + ob → bi + 2 * ii ≡ ia + ib →
-    oa + ia ≤ 1 → ob + ib ≤ 1 → old ≤ top → (1 ≤ oa + ob → ia + ib ≡ 0 → oo ≡ 0 → old + by ≤ top) → (2 ≤ oa + ob → oo ≡ 0 → old + 2 * by ≤ top) → new ≤ top
+    oa + ia ≤ 1 → ob + ib ≤ 1 → old ≤ top → (1 ≤ oa + ob → ia + ib ≡ 0 → oo ≡ 0 → old + by ≤ top)
+    → (2 ≤ oa + ob → oo ≡ 0 → old + 2 * by ≤ top) → new ≤ top
 within top old new by zero bi oo ii oa ob ia ib e f g p q base one two = omega arith
 within top old new by (suc zero) zero oo ii oa ob ia ib e f g p q base one two =
     let none : ia + ib ≡ 0 = omega arith in
@@ -211,16 +250,28 @@ around-comm a b [] = refl
 around-comm a b (c ∷ cs) = omega (arith, around-comm a b cs)
 
 -- an item behind those before it
-pub each_split : {X : Type 0} (P : X → Type 0) (all rest before : List X) → all ≡ before ++ rest → ((bs : List X) (b : X) (after : List X) → all ≡ bs ++ b ∷ after → P b) → Each P rest
+pub each_split : {X : Type 0} (P : X → Type 0) (all rest before : List X) → all ≡ before ++ rest
+    → ((bs : List X) (b : X) (after : List X) → all ≡ bs ++ b ∷ after → P b) → Each P rest
 each_split P all [] before e f = tt
-each_split P all (b ∷ bs) before e f = (f before b bs e, each_split P all bs (before ++ b ∷ []) (e ∙ sym (append_assoc before (b ∷ []) bs)) f)
+each_split P all (b ∷ bs) before e f = (
+  f before b bs e,
+  each_split P all bs (before ++ b ∷ [])
+      (e ∙ sym (append_assoc before (b ∷ []) bs)) f,
+)
 
 -- a place of an outer set that has room, and so has the set
-pub outer_limit : (t : TableValue) (h : ℕ → ℕ) (s : Search) (c : Change) (x f : ℕ) → IsTable t → IsSearch t h s → Bounds t h s c → 1 ≤ count f s.free.items → 1 ≤ count x (outers s) → h x + c.by ≤ 2 * MAX_DISTANCE
+pub outer_limit : (t : TableValue) (h : ℕ → ℕ) (s : Search) (c : Change) (x f : ℕ) → IsTable t → IsSearch t h s → Bounds t h s c
+    → 1 ≤ count f s.free.items → 1 ≤ count x (outers s) → h x + c.by ≤ 2 * MAX_DISTANCE
 outer_limit t h s c x f is i b hf hx =
-    omega (arith, b.one x f hx (omega (arith, hf)), is.short x f (place_in t x (omega (arith, i.places x, hx))) (place_in t f (omega (arith, i.places f, hf))))
+    omega (
+      arith,
+      b.one x f hx (omega (arith, hf)),
+      is.short x f (place_in t x (omega (arith, i.places x, hx)))
+          (place_in t f (omega (arith, i.places f, hf))),
+    )
 
-pub set_limit : (d : ℕ → ℕ → ℕ) (h : ℕ → ℕ) (n : NestValue) (by : ℕ) → IsSound d h n → ((x : ℕ) → count x n.members ≤ 1) → ((x : ℕ) → 1 ≤ count x n.members → h x + by ≤ 2 * MAX_DISTANCE) → n.width + by < 2 ^ 32
+pub set_limit : (d : ℕ → ℕ → ℕ) (h : ℕ → ℕ) (n : NestValue) (by : ℕ) → IsSound d h n → ((x : ℕ) → count x n.members ≤ 1)
+    → ((x : ℕ) → 1 ≤ count x n.members → h x + by ≤ 2 * MAX_DISTANCE) → n.width + by < 2 ^ 32
 set_limit d h n by i once limit =
     let r = some_member n.members (omega (arith, i.kept.odd)) in
     let one : count r.0 n.members ≡ 1 = omega (arith, r.1, once r.0) in

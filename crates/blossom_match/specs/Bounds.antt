@@ -44,7 +44,8 @@ abbrev pub CanOfferAll : TableValue → List ℕ → Kind → List ℕ → List 
 CanOfferAll t hs k xs ys = (a b : ℕ) → 1 ≤ count a xs → 1 ≤ count b ys → CanOffer t hs k a b
 
 -- the change uses up the room between two of the places
-pub record Found (t : TableValue) (hs : List ℕ) (k : Kind) (xs ys : List ℕ) (c : Change) : Type 0 where
+pub record Found (t : TableValue) (hs : List ℕ) (k : Kind) (xs ys : List ℕ)
+    (c : Change) : Type 0 where
   pub a : ℕ
   pub b : ℕ
   pub in_xs : 1 ≤ count a xs
@@ -53,7 +54,8 @@ pub record Found (t : TableValue) (hs : List ℕ) (k : Kind) (xs ys : List ℕ) 
   pub exact : slice_index hs a + slice_index hs b + rounds k * c.by ≡ 2 * entry t a b
 
 -- the lesser of a change and the least one between two of the places
-pub record Scans (t : TableValue) (hs : List ℕ) (k : Kind) (xs ys : List ℕ) (old new : Change) : Type 0 where
+pub record Scans (t : TableValue) (hs : List ℕ) (k : Kind) (xs ys : List ℕ)
+    (old new : Change) : Type 0 where
   pub less : new.by ≤ old.by
   pub wide : (a b : ℕ) → 1 ≤ count a xs → 1 ≤ count b ys → HasRoom t hs k new.by a b
   pub is : (new ≡ old) ⊎ Found t hs k xs ys new
@@ -63,7 +65,8 @@ abbrev pub holding : ℕ → ℕ → NestValue → List Branch → ℕ
 holding a b root tree = both a b root + around a b tree
 
 -- the change uses up the room between two outer sets
-pub record Crossed (t : TableValue) (hs : List ℕ) (root : NestValue) (tree : List Branch) (c : Change) : Type 0 where
+pub record Crossed (t : TableValue) (hs : List ℕ) (root : NestValue) (tree : List Branch)
+    (c : Change) : Type 0 where
   pub a : ℕ
   pub b : ℕ
   pub in_a : 1 ≤ count a (outer_members root.members tree)
@@ -73,9 +76,11 @@ pub record Crossed (t : TableValue) (hs : List ℕ) (root : NestValue) (tree : L
   pub exact : slice_index hs a + slice_index hs b + 2 * c.by ≡ 2 * entry t a b
 
 -- the lesser of a change and the least one between two outer sets
-pub record Crosses (t : TableValue) (hs : List ℕ) (root : NestValue) (tree : List Branch) (old new : Change) : Type 0 where
+pub record Crosses (t : TableValue) (hs : List ℕ) (root : NestValue) (tree : List Branch)
+    (old new : Change) : Type 0 where
   pub less : new.by ≤ old.by
-  pub wide : (a b : ℕ) → 1 ≤ count a (outer_members root.members tree) → 1 ≤ count b (outer_members root.members tree) → holding a b root tree ≡ 0 →
+  pub wide : (a b : ℕ) → 1 ≤ count a (outer_members root.members tree)
+      → 1 ≤ count b (outer_members root.members tree) → holding a b root tree ≡ 0 →
       HasRoom t hs kind.Shrink new.by a b
   pub is : (new ≡ old) ⊎ Crossed t hs root tree new
 
@@ -84,8 +89,10 @@ abbrev pub HasOuters : NestValue → List Branch → List ℕ → Type 0
 HasOuters root tree xs = (x : ℕ) → count x xs ≡ count x (outer_members root.members tree)
 
 -- between each two outer sets there is room, in whole changes
-pub record CanCross (t : TableValue) (hs : List ℕ) (root : NestValue) (tree : List Branch) : Type 0 where
-  pub offer : (a b : ℕ) → 1 ≤ count a (outer_members root.members tree) → 1 ≤ count b (outer_members root.members tree) → holding a b root tree ≡ 0 →
+pub record CanCross (t : TableValue) (hs : List ℕ) (root : NestValue)
+    (tree : List Branch) : Type 0 where
+  pub offer : (a b : ℕ) → 1 ≤ count a (outer_members root.members tree)
+      → 1 ≤ count b (outer_members root.members tree) → holding a b root tree ≡ 0 →
       CanOffer t hs kind.Shrink a b
   pub once : (x : ℕ) → count x (outer_members root.members tree) ≤ 1
 
@@ -124,16 +131,24 @@ pub record Narrows (tree : List Branch) (old new : Change) : Type 0 where
 
 -- the step can be done after the change
 abbrev pub IsDue : TableValue → (ℕ → ℕ) → Search → ℕ → Step → Type 0
-IsDue t h s by (Meet link) = (1 ≤ count link.from (outers s)) × (1 ≤ count link.to s.free.items) × (h link.from + h link.to + by ≡ 2 * entry t link.from link.to)
-IsDue t h s by (Grow link) = (1 ≤ count link.from (outers s)) × (1 ≤ count link.to (couple_members s.rest.items)) × (h link.from + h link.to + by ≡ 2 * entry t link.from link.to)
+IsDue t h s by (Meet link) = (1 ≤ count link.from (outers s)) × (1 ≤ count link.to s.free.items)
+    × (h link.from + h link.to + by ≡ 2 * entry t link.from link.to)
+IsDue t h s by (Grow link) = (1 ≤ count link.from (outers s))
+    × (1 ≤ count link.to (couple_members s.rest.items))
+    × (h link.from + h link.to + by ≡ 2 * entry t link.from link.to)
 IsDue t h s by (Shrink link) =
-    (1 ≤ count link.from (outers s)) × (1 ≤ count link.to (outers s)) × (holding_both link.from link.to s ≡ 0) × (h link.from + h link.to + 2 * by ≡ 2 * entry t link.from link.to)
+    (1 ≤ count link.from (outers s)) × (1 ≤ count link.to (outers s))
+    × (holding_both link.from link.to s ≡ 0)
+    × (h link.from + h link.to + 2 * by ≡ 2 * entry t link.from link.to)
 IsDue t h s by (Expand at) = FirstIsDue by (drop at s.tree.items)
 
 -- the change leaves room between all places, and the step is due after it
 pub record Bounds (t : TableValue) (h : ℕ → ℕ) (s : Search) (c : Change) : Type 0 where
-  pub one : (a b : ℕ) → 1 ≤ count a (outers s) → 1 ≤ count b (couple_members s.rest.items) + count b s.free.items → h a + h b + c.by ≤ 2 * entry t a b
-  pub two : (a b : ℕ) → 1 ≤ count a (outers s) → 1 ≤ count b (outers s) → holding_both a b s ≡ 0 → h a + h b + 2 * c.by ≤ 2 * entry t a b
+  pub one : (a b : ℕ) → 1 ≤ count a (outers s)
+      → 1 ≤ count b (couple_members s.rest.items) + count b s.free.items
+      → h a + h b + c.by ≤ 2 * entry t a b
+  pub two : (a b : ℕ) → 1 ≤ count a (outers s) → 1 ≤ count b (outers s) → holding_both a b s ≡ 0
+      → h a + h b + 2 * c.by ≤ 2 * entry t a b
   pub rings : Each (RingIsWide c.by) s.tree.items
   pub due : IsDue t h s c.by c.step
 

@@ -8,7 +8,8 @@ use Rattle.blossom_match.specs.declared.couples.Couple.{Couple}
 abbrev pub couples_along : List Part → List Couple
 couples_along [] = []
 couples_along (p ∷ []) = []
-couples_along (p ∷ q ∷ ps) = record { first = p.nest; second = q.nest; link = p.next } ∷ couples_along ps
+couples_along (p ∷ q ∷ ps) = record { first = p.nest; second = q.nest; link = p.next }
+    ∷ couples_along ps
 
 -- all members of the couples
 abbrev pub couple_members : List Couple → List ℕ
@@ -27,7 +28,8 @@ pub record IsJoined (c : Couple) : Type 0 where
 
 -- the link and each link inside use up their distances
 pub record IsSettled (d : ℕ → ℕ → ℕ) (c : Couple) : Type 0 where
-  pub link : 2 * d c.link.from c.link.to ≡ height c.link.from (bands c.first) + height c.link.to (bands c.second)
+  pub link : 2 * d c.link.from c.link.to ≡ height c.link.from (bands c.first)
+      + height c.link.to (bands c.second)
   pub first : IsPaid d c.first.tolls
   pub second : IsPaid d c.second.tolls
 

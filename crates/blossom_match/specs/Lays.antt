@@ -14,7 +14,8 @@ use Rattle.blossom_match.specs.declared.branches.Branch.{Branch}
 -- a chain told from its end, before `told`; each part takes the link before it, from its other end
 abbrev pub told_back : Link → List Part → List Part → List Part
 told_back link [] told = told
-told_back link (p ∷ ps) told = told_back p.next ps (record { nest = p.nest; next = back_of link } ∷ told)
+told_back link (p ∷ ps) told = told_back p.next ps
+    (record { nest = p.nest; next = back_of link } ∷ told)
 
 -- the last link of a chain that begins with the link
 abbrev pub last_link : Link → List Part → Link
@@ -24,7 +25,8 @@ last_link link (p ∷ ps) = last_link p.next ps
 -- the ring told the other way round from the same first part
 abbrev pub mirror_of : List Part → List Part
 mirror_of [] = []
-mirror_of (p ∷ ps) = record { nest = p.nest; next = back_of (last_link p.next ps) } ∷ told_back p.next ps []
+mirror_of (p ∷ ps) = record { nest = p.nest; next = back_of (last_link p.next ps) }
+    ∷ told_back p.next ps []
 
 -- an even number of parts, and then one that holds the place
 abbrev pub EvenlyHolds : ℕ → List Part → Type 0
@@ -39,7 +41,8 @@ pub record GoesEvenly (entry exit : ℕ) (old new : List Part) : Type 0 where
   pub last : EvenlyHolds exit new
   pub places : (x : ℕ) → count x (members_in new) ≡ count x (members_in old)
   pub sums : (F : List Band → ℕ) → Adds F → F (bands_in new) ≡ F (bands_in old)
-  pub firm : (d : ℕ → ℕ → ℕ) (h : ℕ → ℕ) → IsSymmetric d → Each (IsFirmPart d h) old → Each (IsFirmPart d h) new
+  pub firm : (d : ℕ → ℕ → ℕ) (h : ℕ → ℕ) → IsSymmetric d → Each (IsFirmPart d h) old
+      → Each (IsFirmPart d h) new
 
 -- the way leads into the first part, and each link to the next
 abbrev pub WayInto : Link → List Part → Type 0
@@ -47,7 +50,8 @@ WayInto way [] = ⊥
 WayInto way (p ∷ ps) = (count way.to p.nest.members ≡ 1) × Linked p ps
 
 -- a way from the tree into a ring, and a pair out of it
-pub record CanLay (root : NestValue) (tree : List Branch) (ring : List Part) (way pair : Link) (outer : NestValue) : Type 0 where
+pub record CanLay (root : NestValue) (tree : List Branch) (ring : List Part) (way pair : Link)
+    (outer : NestValue) : Type 0 where
   pub grown : IsGrown root.members tree
   pub from : 1 ≤ count way.from (outer_members root.members tree)
   pub into : WayInto way ring
@@ -57,15 +61,22 @@ pub record CanLay (root : NestValue) (tree : List Branch) (ring : List Part) (wa
   pub once : (x : ℕ) → count x (members_in ring) ≤ 1
 
 -- the parts up to the pair's end are branches, and the rest are couples
-pub record Lays (root : NestValue) (old : List Branch) (ring : List Part) (way pair : Link) (outer : NestValue) (new : List Branch) (cs : List Couple) : Type 0 where
+pub record Lays (root : NestValue) (old : List Branch) (ring : List Part) (way pair : Link)
+    (outer : NestValue) (new : List Branch) (cs : List Couple) : Type 0 where
   pub grown : IsGrown root.members new
   pub joined : Each IsJoined cs
-  pub places : (x : ℕ) → count x (outer_members root.members new) + count x (inner_members new) + count x (couple_members cs) ≡
-      count x (outer_members root.members old) + count x (inner_members old) + count x (members_in ring) + count x outer.members
-  pub more : (x : ℕ) → count x (outer_members root.members old) + count x outer.members ≤ count x (outer_members root.members new)
-  pub sums : (F : List Band → ℕ) → Adds F → F (branch_bands new) + F (couple_bands cs) ≡ F (branch_bands old) + F (bands_in ring) + F (bands outer)
-  pub fewer : length (inner_bands new) + length (couple_bands cs) ≤ length (inner_bands old) + length (bands_in ring)
-  pub firm : (d : ℕ → ℕ → ℕ) (h : ℕ → ℕ) → Each (IsFirm d h) old → IsTight d h way → IsTight d h pair → Each (IsFirmPart d h) ring → IsSound d h outer →
+  pub places : (x : ℕ) → count x (outer_members root.members new) + count x (inner_members new)
+      + count x (couple_members cs) ≡
+      count x (outer_members root.members old) + count x (inner_members old)
+      + count x (members_in ring) + count x outer.members
+  pub more : (x : ℕ) → count x (outer_members root.members old) + count x outer.members
+      ≤ count x (outer_members root.members new)
+  pub sums : (F : List Band → ℕ) → Adds F → F (branch_bands new) + F (couple_bands cs)
+      ≡ F (branch_bands old) + F (bands_in ring) + F (bands outer)
+  pub fewer : length (inner_bands new) + length (couple_bands cs)
+      ≤ length (inner_bands old) + length (bands_in ring)
+  pub firm : (d : ℕ → ℕ → ℕ) (h : ℕ → ℕ) → Each (IsFirm d h) old → IsTight d h way
+      → IsTight d h pair → Each (IsFirmPart d h) ring → IsSound d h outer →
       Each (IsFirm d h) new × Each (IsFirmCouple d h) cs
 
 -- the first branch has an inner ring without a width
@@ -83,9 +94,14 @@ pub record Expanding (root : NestValue) (tree : List Branch) (at : ℕ) : Type 0
 pub record Expands (root : NestValue) (old new : List Branch) (was now : List Couple) : Type 0 where
   pub grown : IsGrown root.members new
   pub joined : Each IsJoined was → Each IsJoined now
-  pub places : (x : ℕ) → count x (outer_members root.members new) + count x (inner_members new) + count x (couple_members now) ≡
-      count x (outer_members root.members old) + count x (inner_members old) + count x (couple_members was)
+  pub places : (x : ℕ) → count x (outer_members root.members new) + count x (inner_members new)
+      + count x (couple_members now) ≡
+      count x (outer_members root.members old) + count x (inner_members old)
+      + count x (couple_members was)
   pub ring : List ℕ
-  pub sums : (F : List Band → ℕ) → Adds F → F (branch_bands new) + F (couple_bands now) + F (record { members = ring; width = 0 } ∷ []) ≡ F (branch_bands old) + F (couple_bands was)
-  pub fewer : length (inner_bands new) + length (couple_bands now) < length (inner_bands old) + length (couple_bands was)
-  pub firm : (d : ℕ → ℕ → ℕ) (h : ℕ → ℕ) → IsSymmetric d → Each (IsFirm d h) old → Each (IsFirmCouple d h) was → Each (IsFirm d h) new × Each (IsFirmCouple d h) now
+  pub sums : (F : List Band → ℕ) → Adds F → F (branch_bands new) + F (couple_bands now)
+      + F (record { members = ring; width = 0 } ∷ []) ≡ F (branch_bands old) + F (couple_bands was)
+  pub fewer : length (inner_bands new) + length (couple_bands now)
+      < length (inner_bands old) + length (couple_bands was)
+  pub firm : (d : ℕ → ℕ → ℕ) (h : ℕ → ℕ) → IsSymmetric d → Each (IsFirm d h) old
+      → Each (IsFirmCouple d h) was → Each (IsFirm d h) new × Each (IsFirmCouple d h) now

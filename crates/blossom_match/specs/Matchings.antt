@@ -1,5 +1,7 @@
--- Perfect matchings with moats, after J. Edmonds, "Maximum matching and a polyhedron with 0,1-vertices",
--- Journal of Research of the National Bureau of Standards 69B (1965). Distances count steps; widths of
+-- Perfect matchings with moats, after J. Edmonds, "Maximum matching and a polyhedron with
+-- 0,1-vertices",
+-- Journal of Research of the National Bureau of Standards 69B (1965). Distances count steps; widths
+-- of
 -- moats count halves of a step.
 use Rattle.std.specs.Prelude.{◌≡◌, ◌≢◌, ◌==◌, ℕ, ◌+◌, ◌*◌, ◌%◌, ◌<◌, ◌≤◌, ◌⊎◌, Bool, true, false, not, List, length, nat_lt, if◌then◌else◌}
 use Rattle.std.specs.List.{All, AllPairs, list_any, sum_by}
@@ -10,7 +12,8 @@ use Rattle.blossom_match.specs.declared.matching.Pair.{Pair}
 
 -- how many of the pairs' ends the place is
 abbrev pub ends_at : List Pair → ℕ → ℕ
-ends_at pairs x = sum_by (λ (p : Pair). (if x == p.a then 1 else 0) + (if x == p.b then 1 else 0)) pairs
+ends_at pairs x = sum_by (λ (p : Pair). (if x == p.a then 1 else 0) + (if x == p.b then 1 else 0))
+    pairs
 
 -- each place below n is an end of exactly one pair, and no other number is an end
 abbrev pub PairsEach : ℕ → List Pair → Type 0

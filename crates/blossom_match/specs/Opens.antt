@@ -18,7 +18,8 @@ core_count left x (Some s) = count x s.members
 -- the part that is left holds the place, and others hold some place
 abbrev pub CoreHolds : ℕ → Option NestValue → List Couple → Type 0
 CoreHolds left None cs = Unit {0}
-CoreHolds left (Some s) cs = (count left s.members ≡ 1) × ((x : ℕ) × (1 ≤ count x (couple_members cs)))
+CoreHolds left (Some s) cs = (count left s.members ≡ 1)
+    × ((x : ℕ) × (1 ≤ count x (couple_members cs)))
 
 -- the links inside the part that is left use up their distances
 abbrev pub CoreIsPaid : (ℕ → ℕ → ℕ) → Option NestValue → Type 0
@@ -26,13 +27,16 @@ CoreIsPaid d None = Unit {0}
 CoreIsPaid d (Some s) = IsPaid d s.tolls
 
 -- the shell, the part with the place that is left out, and the other parts in pairs
-pub record OpensAt (left : ℕ) (s : NestValue) (members : List ℕ) (width : ℕ) (core : Option NestValue) (couples : List Couple) : Type 0 where
+pub record OpensAt (left : ℕ) (s : NestValue) (members : List ℕ) (width : ℕ)
+    (core : Option NestValue) (couples : List Couple) : Type 0 where
   pub same : members ≡ s.members
   pub wide : width ≡ s.width
   pub odd : length s.members % 2 ≡ 1
-  pub sums : (F : List Band → ℕ) → Adds F → F s.below ≡ F (core_bands core) + F (couple_bands couples)
+  pub sums : (F : List Band → ℕ) → Adds F → F s.below
+      ≡ F (core_bands core) + F (couple_bands couples)
   pub tall : height left s.below ≡ height left (core_bands core)
-  pub places : (x : ℕ) → count x s.members ≡ core_count left x core + count x (couple_members couples)
+  pub places : (x : ℕ) → count x s.members ≡ core_count left x core
+      + count x (couple_members couples)
   pub holds : CoreHolds left core couples
   pub joined : Each IsJoined couples
   pub paid : (d : ℕ → ℕ → ℕ) → IsPaid d s.tolls → CoreIsPaid d core × Each (IsSettled d) couples

@@ -21,7 +21,8 @@ pub record IsMatched (t : TableValue) (couples : List Couple) : Type 0 where
   pub stands : Stands t couples [] heights
 
 -- the search of a single place
-pub record Begins (place : ℕ) (couples : List Couple) (places prices : List ℕ) (s : Search) : Type 0 where
+pub record Begins (place : ℕ) (couples : List Couple) (places prices : List ℕ)
+    (s : Search) : Type 0 where
   pub root : s.root ≡ single_of place (slice_index prices place)
   pub heights : s.heights.items ≡ prices
   pub tree : s.tree.items ≡ []
@@ -36,4 +37,5 @@ Leads s step (Done r) = Ends s step r
 -- a search with fewer sets outside the outer ones, or its end
 abbrev pub Goes : TableValue → Search → Stepped → Type 0
 Goes t s (More r) = CanSearch t r × (size_of r < size_of s) × (r.free.items ≡ s.free.items)
-Goes t s (Done r) = Stands t r.couples.items r.free.items r.heights.items × (length r.free.items + 1 ≡ length s.free.items)
+Goes t s (Done r) = Stands t r.couples.items r.free.items r.heights.items
+    × (length r.free.items + 1 ≡ length s.free.items)

@@ -8,11 +8,13 @@ use Rattle.blossom_match.specs.declared.search.Standing.{Standing}
 
 -- at the price there is room between the place and each other
 abbrev pub LeavesRoom : TableValue → List ℕ → ℕ → ℕ → Type 0
-LeavesRoom t heights place price = (b : ℕ) → b < t.places → place ≢ b → price + slice_index heights b ≤ 2 * entry t place b
+LeavesRoom t heights place price = (b : ℕ) → b < t.places → place ≢ b
+    → price + slice_index heights b ≤ 2 * entry t place b
 
 -- no price is more than a distance
 abbrev pub AreHalves : TableValue → List ℕ → Type 0
-AreHalves t prices = (a b : ℕ) → a < t.places → b < t.places → a ≢ b → slice_index prices a ≤ entry t a b
+AreHalves t prices = (a b : ℕ) → a < t.places → b < t.places → a ≢ b
+    → slice_index prices a ≤ entry t a b
 
 -- the place and the free ones are places, and there is room between them
 pub record Lies (t : TableValue) (heights free : List ℕ) (place : ℕ) : Type 0 where
@@ -39,6 +41,7 @@ pub record CanPair (place other : ℕ) (s : Standing) : Type 0 where
 
 -- both places are in a couple
 pub record Pairs (place other : ℕ) (s r : Standing) : Type 0 where
-  pub stands : (t : TableValue) → Stands t s.couples.items s.free.items s.heights.items → FindsTight t s.heights.items s.free.items place other →
+  pub stands : (t : TableValue) → Stands t s.couples.items s.free.items s.heights.items
+      → FindsTight t s.heights.items s.free.items place other →
       Stands t r.couples.items r.free.items r.heights.items
   pub fewer : length r.free.items + 2 ≡ length s.free.items

@@ -27,7 +27,12 @@ tolls_in (p ∷ ps) = p.nest.tolls ++ tolls_in ps
 
 -- what the link from p to q uses up
 abbrev pub toll_of : Part → Part → Toll
-toll_of p q = record { from = p.next.from; to = p.next.to; price = height p.next.from (bands p.nest) + height p.next.to (bands q.nest) }
+toll_of p q = record {
+  from = p.next.from;
+  to = p.next.to;
+  price =
+      height p.next.from (bands p.nest) + height p.next.to (bands q.nest);
+}
 
 -- the tolls of a chain that begins with p
 abbrev pub tolls_along : Part → List Part → List Toll
@@ -71,7 +76,13 @@ IsMade members (p ∷ ps) = (members ≡ members_in (p ∷ ps)) × IsRing (p ∷
 
 -- the set that the parts make
 abbrev pub nest_of : List ℕ → ℕ → List Part → NestValue
-nest_of members width parts = record { members = members; width = width; below = bands_in parts; tolls = ring_tolls parts ++ tolls_in parts }
+nest_of members width parts = record {
+  members = members;
+  width = width;
+  below =
+      bands_in parts;
+  tolls = ring_tolls parts ++ tolls_in parts;
+}
 
 -- one place with a width
 abbrev pub single_of : ℕ → ℕ → NestValue

@@ -20,16 +20,20 @@ is_place t x = if nat_lt x t.places then 1 else 0
 
 -- between a free place and any other there is room for their heights
 abbrev pub FreeHaveRoom : TableValue → (ℕ → ℕ) → List ℕ → Type 0
-FreeHaveRoom t h free = (a f : ℕ) → a < t.places → 1 ≤ count f free → a ≢ f → h a + h f ≤ 2 * entry t a f
+FreeHaveRoom t h free = (a f : ℕ) → a < t.places → 1 ≤ count f free → a ≢ f
+    → h a + h f ≤ 2 * entry t a f
 
--- all places that are in couples or free; h is the heights that the couples make, and the prices of the free places
-pub record IsStanding (t : TableValue) (h : ℕ → ℕ) (couples : List Couple) (free : List ℕ) : Type 0 where
+-- all places that are in couples or free; h is the heights that the couples make, and the prices of
+-- the free places
+pub record IsStanding (t : TableValue) (h : ℕ → ℕ) (couples : List Couple)
+    (free : List ℕ) : Type 0 where
   pub tall : (x : ℕ) → count x free ≡ 0 → h x ≡ height x (couple_bands couples)
   pub room : FreeHaveRoom t h free
   pub places : (x : ℕ) → count x (couple_members couples) + count x free ≡ is_place t x
   pub joined : Each IsJoined couples
   pub firm : Each (IsFirmCouple (entry t) h) couples
-  pub loads : (a b : ℕ) → a < t.places → b < t.places → a ≢ b → load a b (couple_bands couples) ≤ 2 * entry t a b
+  pub loads : (a b : ℕ) → a < t.places → b < t.places → a ≢ b
+      → load a b (couple_bands couples) ≤ 2 * entry t a b
 
 -- the places of the root and of the outer sets of a search
 abbrev pub outers : Search → List ℕ
@@ -37,24 +41,28 @@ outers s = outer_members s.root.members s.tree.items
 
 -- the widths of all sets of the search that hold the place
 abbrev pub height_of : Search → ℕ → ℕ
-height_of s x = height x (bands s.root) + height x (branch_bands s.tree.items) + height x (couple_bands s.rest.items)
+height_of s x = height x (bands s.root) + height x (branch_bands s.tree.items)
+    + height x (couple_bands s.rest.items)
 
 -- the height of the place that the search keeps
 abbrev pub height_at : Search → ℕ → ℕ
 height_at s x = slice_index s.heights.items x
 
--- the search tree, the couples beside it and the free places; h is the heights that all sets make, and the prices of the free places
+-- the search tree, the couples beside it and the free places; h is the heights that all sets make,
+-- and the prices of the free places
 pub record IsSearch (t : TableValue) (h : ℕ → ℕ) (s : Search) : Type 0 where
   pub tall : (x : ℕ) → count x s.free.items ≡ 0 → h x ≡ height_of s x
   pub room : FreeHaveRoom t h s.free.items
-  pub places : (x : ℕ) → count x (outers s) + count x (inner_members s.tree.items) + count x (couple_members s.rest.items) + count x s.free.items ≡ is_place t x
+  pub places : (x : ℕ) → count x (outers s) + count x (inner_members s.tree.items)
+      + count x (couple_members s.rest.items) + count x s.free.items ≡ is_place t x
   pub grown : IsGrown s.root.members s.tree.items
   pub joined : Each IsJoined s.rest.items
   pub root : IsSound (entry t) h s.root
   pub tree : Each (IsFirm (entry t) h) s.tree.items
   pub rest : Each (IsFirmCouple (entry t) h) s.rest.items
   pub loads : (a b : ℕ) → a < t.places → b < t.places → a ≢ b →
-      load a b (bands s.root) + load a b (branch_bands s.tree.items) + load a b (couple_bands s.rest.items) ≤ 2 * entry t a b
+      load a b (bands s.root) + load a b (branch_bands s.tree.items)
+      + load a b (couple_bands s.rest.items) ≤ 2 * entry t a b
 
 -- how many outer sets hold both places
 abbrev pub holding_both : ℕ → ℕ → Search → ℕ
@@ -62,10 +70,13 @@ holding_both a b s = both a b s.root + around a b s.tree.items
 
 -- the step can be done
 abbrev pub IsReady : TableValue → (ℕ → ℕ) → Search → Step → Type 0
-IsReady t h s (Meet link) = (1 ≤ count link.from (outers s)) × (1 ≤ count link.to s.free.items) × IsTight (entry t) h link
-IsReady t h s (Grow link) = (1 ≤ count link.from (outers s)) × (1 ≤ count link.to (couple_members s.rest.items)) × IsTight (entry t) h link
+IsReady t h s (Meet link) = (1 ≤ count link.from (outers s)) × (1 ≤ count link.to s.free.items)
+    × IsTight (entry t) h link
+IsReady t h s (Grow link) = (1 ≤ count link.from (outers s))
+    × (1 ≤ count link.to (couple_members s.rest.items)) × IsTight (entry t) h link
 IsReady t h s (Shrink link) =
-    (1 ≤ count link.from (outers s)) × (1 ≤ count link.to (outers s)) × (holding_both link.from link.to s ≡ 0) × IsTight (entry t) h link
+    (1 ≤ count link.from (outers s)) × (1 ≤ count link.to (outers s))
+    × (holding_both link.from link.to s ≡ 0) × IsTight (entry t) h link
 IsReady t h s (Expand at) = FirstComesApart (drop at s.tree.items)
 
 -- a search at which the step can be done
@@ -88,6 +99,7 @@ pub record Advances (s : Search) (step : Step) (r : Search) : Type 0 where
 
 -- the step ends the search
 pub record Ends (s : Search) (step : Step) (r : Standing) : Type 0 where
-  pub standing : (t : TableValue) → IsSearch t (height_at s) s → IsReady t (height_at s) s step → IsStanding t (height_at s) r.couples.items r.free.items
+  pub standing : (t : TableValue) → IsSearch t (height_at s) s → IsReady t (height_at s) s step
+      → IsStanding t (height_at s) r.couples.items r.free.items
   pub fewer : length r.free.items + 1 ≡ length s.free.items
   pub heights : r.heights.items ≡ s.heights.items

@@ -12,7 +12,8 @@ use Rattle.blossom_match.specs.declared.branches.Branch.{Branch}
 -- a way in, a chain of parts, and the place that its last link leads to
 abbrev pub Leads : Link → List Part → ℕ → Type 0
 Leads way [] to = way.to ≡ to
-Leads way (p ∷ ps) to = (count way.to p.nest.members ≡ 1) × (count p.next.from p.nest.members ≡ 1) × Leads p.next ps to
+Leads way (p ∷ ps) to = (count way.to p.nest.members ≡ 1) × (count p.next.from p.nest.members ≡ 1)
+    × Leads p.next ps to
 
 -- a part and a branch by their fields
 abbrev pub part_of : NestValue → Link → Part
@@ -23,7 +24,8 @@ branch_of up inner pair outer = record { up = up; inner = inner; pair = pair; ou
 
 -- the chain with an outer and an inner set behind it
 abbrev pub chained_back : List Part → NestValue → Link → NestValue → Link → List Part
-chained_back chain outer pair inner up = (chain ++ part_of outer (back_of pair) ∷ []) ++ part_of inner (back_of up) ∷ []
+chained_back chain outer pair inner up = (chain ++ part_of outer (back_of pair) ∷ [])
+    ++ part_of inner (back_of up) ∷ []
 
 -- the set that the set at the top and the chain make
 abbrev pub ring_value : NestValue → Link → List Part → NestValue
@@ -54,13 +56,16 @@ pub record Shrinks (link : Link) (root new_root : NestValue) (old new : List Bra
       ≡ count x (outer_members root.members old) + count x (inner_members old)
   pub ring : List ℕ
   pub sums : (F : List Band → ℕ) → Adds F →
-      F (bands new_root) + F (branch_bands new) ≡ F (bands root) + F (branch_bands old) + F (record { members = ring; width = 0 } ∷ [])
+      F (bands new_root) + F (branch_bands new)
+      ≡ F (bands root) + F (branch_bands old) + F (record { members = ring; width = 0 } ∷ [])
   pub fewer : length (inner_bands new) < length (inner_bands old)
-  pub firm : (d : ℕ → ℕ → ℕ) (h : ℕ → ℕ) → IsSymmetric d → IsTight d h link → IsSound d h root → Each (IsFirm d h) old →
+  pub firm : (d : ℕ → ℕ → ℕ) (h : ℕ → ℕ) → IsSymmetric d → IsTight d h link → IsSound d h root
+      → Each (IsFirm d h) old →
       IsSound d h new_root × Each (IsFirm d h) new
 
 -- the tree that is left, the chain so far and the branches set aside
-pub record Chaining (link : Link) (root : NestValue) (tree left : List Branch) (chain : List Part) (aside : List Branch) (way : Link) (to : ℕ) : Type 0 where
+pub record Chaining (link : Link) (root : NestValue) (tree left : List Branch) (chain : List Part)
+    (aside : List Branch) (way : Link) (to : ℕ) : Type 0 where
   pub grown : IsGrown root.members left
   pub leads : Leads way chain to
   pub from : 1 ≤ count way.from (outer_members root.members left)
@@ -71,9 +76,15 @@ pub record Chaining (link : Link) (root : NestValue) (tree left : List Branch) (
   pub kept : AllKept chain
   pub hung : IsGrown (members_in chain ++ outer_members root.members left) (reverse aside)
   pub once : (x : ℕ) → count x (outer_members root.members tree) + count x (inner_members tree) ≤ 1
-  pub places : (x : ℕ) → count x (outer_members root.members left) + count x (inner_members left) + count x (members_in chain)
-      + count x (outer_members [] (reverse aside)) + count x (inner_members (reverse aside)) ≡ count x (outer_members root.members tree) + count x (inner_members tree)
-  pub sums : (F : List Band → ℕ) → Adds F → F (branch_bands left) + F (bands_in chain) + F (branch_bands (reverse aside)) ≡ F (branch_bands tree)
-  pub fewer : 2 * (length (inner_bands left) + length (inner_bands (reverse aside))) + length chain ≤ 2 * length (inner_bands tree)
-  pub firm : (d : ℕ → ℕ → ℕ) (h : ℕ → ℕ) → IsSymmetric d → IsTight d h link → Each (IsFirm d h) tree →
-      Each (IsFirm d h) left × Each (IsFirm d h) (reverse aside) × Each (IsFirmPart d h) chain × IsTight d h way
+  pub places : (x : ℕ) → count x (outer_members root.members left) + count x (inner_members left)
+      + count x (members_in chain)
+      + count x (outer_members [] (reverse aside)) + count x (inner_members (reverse aside))
+      ≡ count x (outer_members root.members tree) + count x (inner_members tree)
+  pub sums : (F : List Band → ℕ) → Adds F → F (branch_bands left) + F (bands_in chain)
+      + F (branch_bands (reverse aside)) ≡ F (branch_bands tree)
+  pub fewer : 2 * (length (inner_bands left) + length (inner_bands (reverse aside))) + length chain
+      ≤ 2 * length (inner_bands tree)
+  pub firm : (d : ℕ → ℕ → ℕ) (h : ℕ → ℕ) → IsSymmetric d → IsTight d h link → Each (IsFirm d h) tree
+      →
+      Each (IsFirm d h) left × Each (IsFirm d h) (reverse aside) × Each (IsFirmPart d h) chain
+      × IsTight d h way

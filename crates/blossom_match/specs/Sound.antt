@@ -14,7 +14,8 @@ IsSymmetric d = (a b : ℕ) → d a b ≡ d b a
 abbrev pub IsTight : (ℕ → ℕ → ℕ) → (ℕ → ℕ) → Link → Type 0
 IsTight d h l = 2 * d l.from l.to ≡ h l.from + h l.to
 
--- a set whose inner links use up their distances, that alone makes the heights of its members, which are all even or all odd
+-- a set whose inner links use up their distances, that alone makes the heights of its members,
+-- which are all even or all odd
 pub record IsSound (d : ℕ → ℕ → ℕ) (h : ℕ → ℕ) (s : NestValue) : Type 0 where
   pub kept : Kept s
   pub paid : IsPaid d s.tolls

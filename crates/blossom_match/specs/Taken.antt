@@ -12,7 +12,8 @@ use Rattle.blossom_match.specs.declared.couples.Couple.{Couple}
 
 -- a moat for the set, unless its width is 0
 abbrev pub own_moat : List ℕ → ℕ → List Moat
-own_moat members width = if nat_lt 0 width then record { members = members; width = width } ∷ [] else []
+own_moat members width = if nat_lt 0 width then record { members = members; width = width } ∷ []
+    else []
 
 -- an odd set with a width whose members are among the places
 pub record IsOddIn (places : List ℕ) (m : Moat) : Type 0 where
@@ -26,8 +27,10 @@ pub record LieIn (places : List ℕ) (moats : List Moat) : Type 0 where
   pub apart : EachPair AreLaminar moats
 
 -- the pairs inside a set whose member `left` is paired outside, and its moats
-pub record TakesNest (left : ℕ) (s : NestValue) (old new : List Pair) (was now : List Moat) : Type 0 where
-  pub paid : (t : TableValue) → IsPaid (entry t) s.tolls → 2 * cost_of t new + height left (bands s) ≡ 2 * cost_of t old + total (bands s)
+pub record TakesNest (left : ℕ) (s : NestValue) (old new : List Pair)
+    (was now : List Moat) : Type 0 where
+  pub paid : (t : TableValue) → IsPaid (entry t) s.tolls → 2 * cost_of t new + height left (bands s)
+      ≡ 2 * cost_of t old + total (bands s)
   pub places : (x : ℕ) → ends_at new x + hit x left ≡ ends_at old x + count x s.members
   pub widths : width_of now ≡ width_of was + total (bands s)
   pub loads : (a b : ℕ) → load_on now a b ≡ load_on was a b + load a b (bands s)
@@ -36,8 +39,10 @@ pub record TakesNest (left : ℕ) (s : NestValue) (old new : List Pair) (was now
   pub lie : LieIn s.members moats
 
 -- the pairs of the couples and inside them, and their moats
-pub record TakesCouples (cs : List Couple) (old new : List Pair) (was now : List Moat) : Type 0 where
-  pub paid : (t : TableValue) → Each (IsSettled (entry t)) cs → 2 * cost_of t new ≡ 2 * cost_of t old + total (couple_bands cs)
+pub record TakesCouples (cs : List Couple) (old new : List Pair)
+    (was now : List Moat) : Type 0 where
+  pub paid : (t : TableValue) → Each (IsSettled (entry t)) cs → 2 * cost_of t new
+      ≡ 2 * cost_of t old + total (couple_bands cs)
   pub places : (x : ℕ) → ends_at new x ≡ ends_at old x + count x (couple_members cs)
   pub widths : width_of now ≡ width_of was + total (couple_bands cs)
   pub loads : (a b : ℕ) → load_on now a b ≡ load_on was a b + load a b (couple_bands cs)
@@ -46,15 +51,19 @@ pub record TakesCouples (cs : List Couple) (old new : List Pair) (was now : List
   pub lie : LieIn (couple_members cs) moats
 
 -- so far, with the couples that are left
-pub record Taking (all left : List Couple) (old now : List Pair) (was so_far : List Moat) : Type 0 where
+pub record Taking (all left : List Couple) (old now : List Pair)
+    (was so_far : List Moat) : Type 0 where
   pub joined : Each IsJoined left
   pub once : (x : ℕ) → count x (couple_members all) ≤ 1
   pub fewer : length (couple_bands left) ≤ length (couple_bands all)
   pub stays : (t : TableValue) → Each (IsSettled (entry t)) all → Each (IsSettled (entry t)) left
-  pub paid : (t : TableValue) → Each (IsSettled (entry t)) all → 2 * cost_of t now + total (couple_bands left) ≡ 2 * cost_of t old + total (couple_bands all)
-  pub places : (x : ℕ) → ends_at now x + count x (couple_members left) ≡ ends_at old x + count x (couple_members all)
+  pub paid : (t : TableValue) → Each (IsSettled (entry t)) all
+      → 2 * cost_of t now + total (couple_bands left) ≡ 2 * cost_of t old + total (couple_bands all)
+  pub places : (x : ℕ) → ends_at now x + count x (couple_members left)
+      ≡ ends_at old x + count x (couple_members all)
   pub widths : width_of so_far + total (couple_bands left) ≡ width_of was + total (couple_bands all)
-  pub loads : (a b : ℕ) → load_on so_far a b + load a b (couple_bands left) ≡ load_on was a b + load a b (couple_bands all)
+  pub loads : (a b : ℕ) → load_on so_far a b + load a b (couple_bands left)
+      ≡ load_on was a b + load a b (couple_bands all)
   pub taken : List ℕ
   pub rest : (x : ℕ) → count x taken + count x (couple_members left) ≡ count x (couple_members all)
   pub moats : List Moat

@@ -33,7 +33,8 @@ inner_bands (b ∷ bs) = bands b.inner ++ inner_bands bs
 abbrev pub IsGrown : List ℕ → List Branch → Type 0
 IsGrown places [] = Unit {0}
 IsGrown places (b ∷ bs) =
-    (1 ≤ count b.up.from places) × (count b.up.to b.inner.members ≡ 1) × (count b.pair.from b.inner.members ≡ 1)
+    (1 ≤ count b.up.from places) × (count b.up.to b.inner.members ≡ 1)
+    × (count b.pair.from b.inner.members ≡ 1)
     × (count b.pair.to b.outer.members ≡ 1) × IsGrown (b.outer.members ++ places) bs
 
 -- 1 where the set holds both places
@@ -46,21 +47,27 @@ around a b [] = 0
 around a b (c ∷ cs) = both a b c.outer + around a b cs
 
 -- the hand: a set and a link to it from an outer set
-pub record Augmenting (met : NestValue) (link : Link) (root : NestValue) (tree : List Branch) : Type 0 where
+pub record Augmenting (met : NestValue) (link : Link) (root : NestValue)
+    (tree : List Branch) : Type 0 where
   pub grown : IsGrown root.members tree
   pub from : 1 ≤ count link.from (outer_members root.members tree)
   pub to : count link.to met.members ≡ 1
-  pub once : (x : ℕ) → count x met.members + count x (outer_members root.members tree) + count x (inner_members tree) ≤ 1
+  pub once : (x : ℕ) → count x met.members + count x (outer_members root.members tree)
+      + count x (inner_members tree) ≤ 1
 
 -- all sets of the tree and the hand in pairs, with the pairs of before
-pub record Augments (root met : NestValue) (link : Link) (tree : List Branch) (old new : List Couple) : Type 0 where
+pub record Augments (root met : NestValue) (link : Link) (tree : List Branch)
+    (old new : List Couple) : Type 0 where
   pub joined : Each IsJoined old → Each IsJoined new
-  pub firm : (d : ℕ → ℕ → ℕ) (h : ℕ → ℕ) → IsTight d h link → IsSound d h root → IsSound d h met → Each (IsFirm d h) tree →
+  pub firm : (d : ℕ → ℕ → ℕ) (h : ℕ → ℕ) → IsTight d h link → IsSound d h root → IsSound d h met
+      → Each (IsFirm d h) tree →
       Each (IsFirmCouple d h) old → Each (IsFirmCouple d h) new
   pub places : (x : ℕ) → count x (couple_members new) ≡
-      count x (couple_members old) + count x met.members + count x (outer_members root.members tree) + count x (inner_members tree)
+      count x (couple_members old) + count x met.members + count x (outer_members root.members tree)
+      + count x (inner_members tree)
   pub sums : (F : List Band → ℕ) → Adds F →
-      F (couple_bands new) ≡ F (couple_bands old) + F (bands met) + F (bands root) + F (branch_bands tree)
+      F (couple_bands new) ≡ F (couple_bands old) + F (bands met) + F (bands root)
+      + F (branch_bands tree)
 
 -- the couple hung below an outer set by the link
 abbrev pub hung_by : Link → Couple → Branch

@@ -13,7 +13,13 @@ use Rattle.blossom_match.specs.declared.least.Change.{Change}
 
 -- the branch with a wider outer set and a narrower inner one
 abbrev pub changed_by : ℕ → Branch → Branch
-changed_by by b = record { up = b.up; inner = with_width (b.inner.width - by) b.inner; pair = b.pair; outer = with_width (b.outer.width + by) b.outer }
+changed_by by b = record {
+  up = b.up;
+  inner = with_width (b.inner.width - by) b.inner;
+  pair =
+      b.pair;
+  outer = with_width (b.outer.width + by) b.outer;
+}
 
 -- all branches so
 abbrev pub all_changed : ℕ → List Branch → List Branch
@@ -28,11 +34,15 @@ pub record CanChange (by : ℕ) (b : Branch) : Type 0 where
 -- the heights of outer places rise, and those of inner places fall
 abbrev pub Moves : ℕ → NestValue → List Branch → List ℕ → List ℕ → Type 0
 Moves by root tree old new =
-    (x : ℕ) → slice_index new x + by * count x (inner_members tree) ≡ slice_index old x + by * count x (outer_members root.members tree)
+    (x : ℕ) → slice_index new x + by * count x (inner_members tree)
+    ≡ slice_index old x + by * count x (outer_members root.members tree)
 
--- each place of the tree has a cell, that of an outer set has room for the change, and that of an inner set has its height
-pub record CanChangeHeights (by : ℕ) (root : NestValue) (tree : List Branch) (heights : List ℕ) : Type 0 where
-  pub cells : HasCells (λ x. count x (outer_members root.members tree) + count x (inner_members tree)) heights
+-- each place of the tree has a cell, that of an outer set has room for the change, and that of an
+-- inner set has its height
+pub record CanChangeHeights (by : ℕ) (root : NestValue) (tree : List Branch)
+    (heights : List ℕ) : Type 0 where
+  pub cells : HasCells (λ x. count x (outer_members root.members tree)
+      + count x (inner_members tree)) heights
   pub rise : CanRise (λ x. by * count x (outer_members root.members tree)) heights
   pub fall : CanFall (λ x. by * count x (inner_members tree)) heights
 
@@ -60,6 +70,7 @@ pub record StepsOn (t : TableValue) (c : Change) (r : Search) : Type 0 where
 
 -- after the change the step can be done
 pub record Widens (s : Search) (c : Change) (r : Search) : Type 0 where
-  pub search : (t : TableValue) → IsMetric t → CanSearch t s → Bounds t (height_at s) s c → StepsOn t c r
+  pub search : (t : TableValue) → IsMetric t → CanSearch t s → Bounds t (height_at s) s c
+      → StepsOn t c r
   pub size : size_of r ≡ size_of s
   pub free : r.free.items ≡ s.free.items

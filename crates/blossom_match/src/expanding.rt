@@ -20,7 +20,8 @@ pub fn expand(
     rest: &mut Vec<Couple>,
 ) -> Result<(), Memory>
     requires { Expanding root.now tree.old.items at }
-    ensures { OnOk result (Expands root.now tree.old.items tree.new.items rest.old.items rest.new.items) }
+    ensures { OnOk result (Expands root.now tree.old.items tree.new.items rest.old.items
+        rest.new.items) }
 {
     let mut later = tree.split_off(at + 1)?;
     match tree.pop() {

@@ -22,7 +22,8 @@ enum Stepped {
 /// Searches from a free place until it is paired.
 pub fn pair_up(alloc: Global, t: &DistTable, place: u32, from: Standing) -> Result<Standing, Memory>
     requires metric { IsMetric t.now }
-    requires stands { Stands t.now from.couples.items (from.free.items ++ place ∷ []) from.heights.items }
+    requires stands { Stands t.now from.couples.items
+        (from.free.items ++ place ∷ []) from.heights.items }
     requires some { 1 ≤ length from.free.items }
     ensures stands { IfOk result (λ r. Stands t.now r.couples.items r.free.items r.heights.items) }
     ensures fewer { IfOk result (λ r. length r.free.items + 1 ≡ length from.free.items) }
@@ -39,7 +40,8 @@ pub fn pair_up(alloc: Global, t: &DistTable, place: u32, from: Standing) -> Resu
 /// A search with the place alone in its tree.
 pub fn begin(alloc: Global, place: u32, from: Standing) -> Result<Search, Memory>
     requires { place < length from.heights.items }
-    ensures { IfOk result (λ s. Begins place from.couples.items from.free.items from.heights.items s) }
+    ensures { IfOk result (λ s. Begins place from.couples.items from.free.items from.heights.items
+        s) }
 {
     let Standing {
         couples,

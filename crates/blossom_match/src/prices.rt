@@ -42,7 +42,8 @@ fn half_priced(alloc: Global, t: &DistTable) -> Result<Standing, Memory>
 
 /// The places from 0 on.
 fn all_places(alloc: Global, n: u32) -> Result<Vec<u32>, Memory>
-    ensures counts { IfOk result (λ xs. (x : ℕ) → count x xs.items ≡ (if nat_lt x n then 1 else 0)) }
+    ensures counts { IfOk result (λ xs. (x : ℕ) → count x xs.items
+        ≡ (if nat_lt x n then 1 else 0)) }
     ensures size { IfOk result (λ xs. length xs.items ≡ n) }
 {
     let mut places = Vec::new(alloc);
@@ -88,7 +89,8 @@ fn lesser(t: &DistTable, heights: &[u32], place: u32, other: u32, best: u32) -> 
     requires other_in { other < t.now.places }
     requires low { place ≢ other → slice_index heights.now other ≤ 2 * entry t.now place other }
     ensures less { result ≤ best }
-    ensures room { place ≢ other → result + slice_index heights.now other ≤ 2 * entry t.now place other }
+    ensures room { place ≢ other → result + slice_index heights.now other
+        ≤ 2 * entry t.now place other }
 {
     if place == other {
         best
@@ -144,7 +146,8 @@ fn raise_price(t: &DistTable, place: u32, from: Standing) -> Standing
 fn tight_with(t: &DistTable, place: u32, s: &Standing) -> Option<u32>
     requires stands { Stands t.now s.now.couples.items s.now.free.items s.now.heights.items }
     requires here { 1 ≤ count place s.now.free.items }
-    ensures { IfSome result (λ other. FindsTight t.now s.now.heights.items s.now.free.items place other) }
+    ensures { IfSome result (λ other. FindsTight t.now s.now.heights.items s.now.free.items place
+        other) }
 {
     tight_place(t, &s.heights, &s.free, place)
 }
@@ -168,7 +171,8 @@ fn is_tight(t: &DistTable, heights: &[u32], place: u32, other: u32) -> bool
     requires cells { length heights.now ≡ t.now.places }
     requires within { place < t.now.places }
     requires other_in { other < t.now.places }
-    requires low { place ≢ other → slice_index heights.now place + slice_index heights.now other ≤ 2 * entry t.now place other }
+    requires low { place ≢ other → slice_index heights.now place + slice_index heights.now other
+        ≤ 2 * entry t.now place other }
     ensures { IsTrue result → IsTightPair t.now heights.now place other }
 {
     let distance = t.get(place, other);

@@ -79,7 +79,8 @@ fn push_left(
     outer: Nest,
     way: Link,
 ) -> Result<(), Memory>
-    ensures { OnOk result (chain.new.items ≡ part_of inner pair ∷ part_of outer way ∷ chain.old.items) }
+    ensures { OnOk result (chain.new.items ≡ part_of inner pair ∷ part_of outer way
+        ∷ chain.old.items) }
 {
     chain.push_front(Part {
         nest: outer,

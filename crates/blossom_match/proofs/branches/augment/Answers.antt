@@ -4,11 +4,13 @@ use Rattle.blossom_match.proofs.branches.augment.Goals as goal
 
 pub loop-b-preserved-then-holds : goal.loop-b-preserved-then-holds
 loop-b-preserved-then-holds c =
-    pairing_matched _ _ _ _ _ _ _ _ _ c.loop-b.left.items c.pop.new.self.items c.in-Some.b c.loop-b.invariant c.in-Some.ensures.items (c.if-holds.ensures.yes refl) c.in_ok-push.ensures.items
+    pairing_matched _ _ _ _ _ _ _ _ _ c.loop-b.left.items c.pop.new.self.items c.in-Some.b c.loop-b.invariant c.in-Some.ensures.items
+    (c.if-holds.ensures.yes refl) c.in_ok-push.ensures.items
 
 pub loop-b-preserved : goal.loop-b-preserved
 loop-b-preserved c =
-    pairing_kept _ _ _ _ _ _ _ _ _ c.loop-b.left.items c.pop.new.self.items c.in-Some.b c.loop-b.invariant c.in-Some.ensures.items (c.if-holds.ensures.no refl) c.in_ok-push-2.ensures.items
+    pairing_kept _ _ _ _ _ _ _ _ _ c.loop-b.left.items c.pop.new.self.items c.in-Some.b c.loop-b.invariant c.in-Some.ensures.items
+    (c.if-holds.ensures.no refl) c.in_ok-push-2.ensures.items
 
 pub returns : goal.returns
 returns c =

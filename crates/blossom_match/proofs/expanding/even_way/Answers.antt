@@ -7,17 +7,26 @@ use Rattle.blossom_match.proofs.expanding.even_way.Goals as goal
 
 pub part_with-end-requires : goal.part_with-end-requires
 part_with-end-requires c =
-    omega (arith, c.requires.exit_in, ap (λ (qs : List Part). count c.args.exit (members_in qs)) c.deref.ensures.value, turned_places c.args.exit c.args.parts.items c.turned_to-ring.result.items c.turned_to-ring.ensures.turned)
+    omega (
+      arith,
+      c.requires.exit_in,
+      ap (λ (qs : List Part). count c.args.exit (members_in qs)) c.deref.ensures.value,
+      turned_places
+          c.args.exit c.args.parts.items c.turned_to-ring.result.items c.turned_to-ring.ensures.turned,
+    )
 
 pub returns-then-end-eq0 : goal.returns-then-end-eq0
 returns-then-end-eq0 c =
-    goes_on c.args.entry c.args.exit c.args.parts.items c.turned_to-ring.result.items c.part_with-end.result c.requires.ring c.turned_to-ring.ensures.turned c.turned_to-ring.ensures.first
+    goes_on c.args.entry c.args.exit c.args.parts.items c.turned_to-ring.result.items c.part_with-end.result c.requires.ring
+    c.turned_to-ring.ensures.turned c.turned_to-ring.ensures.first
     (subst (λ (qs : List Part). c.part_with-end.result < length qs) c.deref.ensures.value c.part_with-end.ensures.within)
-    (subst (λ (qs : List Part). HoldsAt c.args.exit qs c.part_with-end.result) c.deref.ensures.value c.part_with-end.ensures.there) c.if-end-eq0.true
+    (subst (λ (qs : List Part). HoldsAt c.args.exit qs c.part_with-end.result) c.deref.ensures.value c.part_with-end.ensures.there)
+    c.if-end-eq0.true
 
 pub returns-in_ok-back : goal.returns-in_ok-back
 returns-in_ok-back c =
-    goes_back c.args.entry c.args.exit c.args.parts.items c.turned_to-ring.result.items c.in_ok-back.back.items c.part_with-end.result c.requires.ring c.turned_to-ring.ensures.turned c.turned_to-ring.ensures.first
+    goes_back c.args.entry c.args.exit c.args.parts.items c.turned_to-ring.result.items c.in_ok-back.back.items c.part_with-end.result
+    c.requires.ring c.turned_to-ring.ensures.turned c.turned_to-ring.ensures.first
     (subst (λ (qs : List Part). c.part_with-end.result < length qs) c.deref.ensures.value c.part_with-end.ensures.within)
     (subst (λ (qs : List Part). HoldsAt c.args.exit qs c.part_with-end.result) c.deref.ensures.value c.part_with-end.ensures.there)
     (omega (arith, c.if-end-eq0.false)) c.in_ok-back.ensures

@@ -7,7 +7,8 @@ use Rattle.blossom_match.proofs.expanding.mirrored.Given as goal
 -- the chain told back so far, and the parts that are left
 abbrev pub invariant-loop-p : goal.invariant-loop-p
 invariant-loop-p l =
-    record { nest = l.first.nest; next = back_of (last_link l.link (into_iter_items l.left)) } ∷ told_back l.link (into_iter_items l.left) l.told.items ≡ mirror_of l.fn.ring.items
+    record { nest = l.first.nest; next = back_of (last_link l.link (into_iter_items l.left)) }
+    ∷ told_back l.link (into_iter_items l.left) l.told.items ≡ mirror_of l.fn.ring.items
 
 abbrev pub decreases-loop-p : goal.decreases-loop-p
 decreases-loop-p l = length (into_iter_items l.left)

@@ -5,16 +5,40 @@ use Rattle.blossom_match.proofs.heights.lower_inners.Goals as goal
 
 pub lower-requires-clause-within : goal.lower-requires-clause-within
 lower-requires-clause-within c = λ x here.
-    c.loop-b.invariant.within x (omega (arith, here, inner_places x c.args.tree.now c.loop-b.b-index c.b-item.result c.loop-b-test.true c.b-item.is, ap (λ (xs : List ℕ). count x xs) c.members.ensures))
+    c.loop-b.invariant.within x (omega (
+      arith,
+      here,
+      inner_places x c.args.tree.now c.loop-b.b-index c.b-item.result c.loop-b-test.true
+          c.b-item.is,
+      ap (λ (xs : List ℕ). count x xs) c.members.ensures,
+    ))
 
 pub lower-requires-clause-fits : goal.lower-requires-clause-fits
 lower-requires-clause-fits c = λ x.
-    omega (arith, more_by c.args.by _ _ _ (inner_places x c.args.tree.now c.loop-b.b-index c.b-item.result c.loop-b-test.true c.b-item.is), c.loop-b.invariant.sum x, c.requires.fits x, ap (λ (xs : List ℕ). c.args.by * count x xs) c.members.ensures)
+    omega (
+      arith,
+      more_by c.args.by _ _ _ (inner_places x c.args.tree.now c.loop-b.b-index c.b-item.result c.loop-b-test.true c.b-item.is),
+      c.loop-b.invariant.sum x,
+      c.requires.fits x,
+      ap (λ (xs : List ℕ). c.args.by * count x xs) c.members.ensures,
+    )
 
 pub loop-b-preserved : goal.loop-b-preserved
 loop-b-preserved c = record {
-  sum = λ x. omega (arith, more_by c.args.by _ _ _ (inner_places x c.args.tree.now c.loop-b.b-index c.b-item.result c.loop-b-test.true c.b-item.is), c.loop-b.invariant.sum x, c.lower.ensures x, ap (λ (xs : List ℕ). c.args.by * count x xs) c.members.ensures);
+  sum = λ x. omega (
+    arith,
+    more_by c.args.by _ _ _ (inner_places x c.args.tree.now c.loop-b.b-index c.b-item.result c.loop-b-test.true
+        c.b-item.is),
+    c.loop-b.invariant.sum x,
+    c.lower.ensures x,
+    ap (λ (xs : List ℕ). c.args.by * count x xs) c.members.ensures,
+  );
   within = λ x here.
-      let low = c.loop-b.invariant.within x (omega (arith, here, inner_places x c.args.tree.now c.loop-b.b-index c.b-item.result c.loop-b-test.true c.b-item.is)) in
+      let low = c.loop-b.invariant.within x (omega (
+        arith,
+        here,
+        inner_places x c.args.tree.now c.loop-b.b-index c.b-item.result
+            c.loop-b-test.true c.b-item.is,
+      )) in
       omega (arith, low, c.lower.auto.heights);
 }

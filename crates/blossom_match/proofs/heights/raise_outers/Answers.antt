@@ -5,16 +5,40 @@ use Rattle.blossom_match.proofs.heights.raise_outers.Goals as goal
 
 pub raise-requires-clause-within : goal.raise-requires-clause-within
 raise-requires-clause-within c = λ x here.
-    c.loop-b.invariant.within x (omega (arith, here, outer_places x c.args.tree.now c.loop-b.b-index c.b-item.result c.loop-b-test.true c.b-item.is, ap (λ (xs : List ℕ). count x xs) c.members.ensures))
+    c.loop-b.invariant.within x (omega (
+      arith,
+      here,
+      outer_places x c.args.tree.now c.loop-b.b-index c.b-item.result c.loop-b-test.true
+          c.b-item.is,
+      ap (λ (xs : List ℕ). count x xs) c.members.ensures,
+    ))
 
 pub raise-requires-clause-fits : goal.raise-requires-clause-fits
 raise-requires-clause-fits c = λ x.
-    omega (arith, more_by c.args.by _ _ _ (outer_places x c.args.tree.now c.loop-b.b-index c.b-item.result c.loop-b-test.true c.b-item.is), c.loop-b.invariant.sum x, c.requires.fits x, ap (λ (xs : List ℕ). c.args.by * count x xs) c.members.ensures)
+    omega (
+      arith,
+      more_by c.args.by _ _ _ (outer_places x c.args.tree.now c.loop-b.b-index c.b-item.result c.loop-b-test.true c.b-item.is),
+      c.loop-b.invariant.sum x,
+      c.requires.fits x,
+      ap (λ (xs : List ℕ). c.args.by * count x xs) c.members.ensures,
+    )
 
 pub loop-b-preserved : goal.loop-b-preserved
 loop-b-preserved c = record {
-  sum = λ x. omega (arith, more_by c.args.by _ _ _ (outer_places x c.args.tree.now c.loop-b.b-index c.b-item.result c.loop-b-test.true c.b-item.is), c.loop-b.invariant.sum x, c.raise.ensures x, ap (λ (xs : List ℕ). c.args.by * count x xs) c.members.ensures);
+  sum = λ x. omega (
+    arith,
+    more_by c.args.by _ _ _ (outer_places x c.args.tree.now c.loop-b.b-index c.b-item.result c.loop-b-test.true
+        c.b-item.is),
+    c.loop-b.invariant.sum x,
+    c.raise.ensures x,
+    ap (λ (xs : List ℕ). c.args.by * count x xs) c.members.ensures,
+  );
   within = λ x here.
-      let low = c.loop-b.invariant.within x (omega (arith, here, outer_places x c.args.tree.now c.loop-b.b-index c.b-item.result c.loop-b-test.true c.b-item.is)) in
+      let low = c.loop-b.invariant.within x (omega (
+        arith,
+        here,
+        outer_places x c.args.tree.now c.loop-b.b-index c.b-item.result
+            c.loop-b-test.true c.b-item.is,
+      )) in
       omega (arith, low, c.raise.auto.heights);
 }

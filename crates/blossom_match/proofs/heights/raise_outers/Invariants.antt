@@ -6,6 +6,7 @@ use Rattle.blossom_match.proofs.heights.raise_outers.Given as goal
 -- the branches that are left are still to change
 abbrev pub invariant-loop-b : goal.invariant-loop-b
 invariant-loop-b l = record {
-  sum : (x : ℕ) → get_or l.heights x 0 + l.by * count x (outer_members [] (drop l.b-index l.tree)) ≡ get_or l.fn.heights x 0 + l.by * count x (outer_members [] l.tree);
+  sum : (x : ℕ) → get_or l.heights x 0 + l.by * count x (outer_members [] (drop l.b-index l.tree))
+      ≡ get_or l.fn.heights x 0 + l.by * count x (outer_members [] l.tree);
   within : (x : ℕ) → 1 ≤ count x (outer_members [] (drop l.b-index l.tree)) → x < length l.heights;
 }

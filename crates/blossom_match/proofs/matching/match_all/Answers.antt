@@ -14,5 +14,7 @@ take_couples-requires-clause-once c = once_each c.args.t.now c.in_ok-couples.cou
 pub returns : goal.returns
 returns c =
     matched c.args.t.now c.in_ok-couples.couples.items c.take_couples.new.pairs c.take_couples.new.moats c.in_ok-couples.ensures
-    (subst (λ (ps : List Pair). TakesCouples c.in_ok-couples.couples.items ps c.take_couples.new.pairs [] c.take_couples.new.moats) c.new-pairs.ensures
-    (subst (λ (ms : List Moat). TakesCouples c.in_ok-couples.couples.items c.new-pairs.result c.take_couples.new.pairs ms c.take_couples.new.moats) c.new-moats.ensures c.in_ok-take_couples.ensures))
+    (subst (λ (ps : List Pair). TakesCouples c.in_ok-couples.couples.items ps c.take_couples.new.pairs [] c.take_couples.new.moats)
+    c.new-pairs.ensures
+    (subst (λ (ms : List Moat). TakesCouples c.in_ok-couples.couples.items c.new-pairs.result c.take_couples.new.pairs ms
+    c.take_couples.new.moats) c.new-moats.ensures c.in_ok-take_couples.ensures))

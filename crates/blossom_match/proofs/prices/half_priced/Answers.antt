@@ -5,4 +5,5 @@ use Rattle.blossom_match.proofs.prices.half_priced.Goals as goal
 pub returns-clause-stands : goal.returns-clause-stands
 returns-clause-stands c =
     half_free c.args.t.now _ c.in_ok-free.free.items c.in_ok-heights.heights.items c.new.ensures.items
-    (λ x. c.in_ok-free.ensures.counts x ∙ ap (λ (n : ℕ). cond (ltb x n) 1 0) c.places.ensures.value) c.in_ok-heights.ensures.half c.in_ok-heights.ensures.size
+    (λ x. c.in_ok-free.ensures.counts x ∙ ap (λ (n : ℕ). cond (ltb x n) 1 0) c.places.ensures.value) c.in_ok-heights.ensures.half
+    c.in_ok-heights.ensures.size

@@ -7,4 +7,5 @@ pub tight_place-requires-clause-lies : goal.tight_place-requires-clause-lies
 tight_place-requires-clause-lies c =
     subst (λ (xs : List ℕ). Lies c.args.t.now c.deref.result.now xs c.args.place) (sym c.deref-2.ensures.value)
     (subst (λ (hs : List ℕ). Lies c.args.t.now hs c.args.s.now.free.items c.args.place) (sym c.deref.ensures.value)
-    (free_lies c.args.t.now c.args.s.now.couples.items c.args.s.now.free.items c.args.s.now.heights.items c.args.place c.requires.stands c.requires.here))
+    (free_lies c.args.t.now c.args.s.now.couples.items c.args.s.now.free.items c.args.s.now.heights.items c.args.place c.requires.stands
+    c.requires.here))

@@ -3,4 +3,5 @@ use Rattle.blossom_match.proofs.shrinking.close.Goals as goal
 
 pub ring_of-requires : goal.ring_of-requires
 ring_of-requires c =
-    rw (c.in_ok-parts.ensures, c.in_ok-push_front.ensures.items) (ring_from c.args.top c.args.way c.args.chain.items c.args.to c.requires c.know.ensures)
+    rw (c.in_ok-parts.ensures, c.in_ok-push_front.ensures.items)
+    (ring_from c.args.top c.args.way c.args.chain.items c.args.to c.requires c.know.ensures)

@@ -18,7 +18,8 @@ take_couples-take_nest-requires-in-Some t c =
 
 pub take_couples-loop-c-preserved : goal.take_couples-loop-c-preserved
 take_couples-loop-c-preserved t c =
-    taking_more c.args.couples.items (into_iter_items c.loop-c.rest) _ _ _ _ _ _ _ _ _ c.in-Some.c _ c.loop-c.invariant c.in-Some.ensures.items
+    taking_more c.args.couples.items (into_iter_items c.loop-c.rest) _ _ _ _ _ _ _ _ _ c.in-Some.c _ c.loop-c.invariant
+    c.in-Some.ensures.items
     c.in_ok-take_nest.ensures c.in_ok-take_nest-2.ensures c.in_ok-add_pair.ensures
 
 pub take_couples-returns : goal.take_couples-returns
@@ -43,8 +44,10 @@ take_nest-take_couples-requires-in-Some t c =
 
 pub take_nest-returns-in_ok-take_couples-in-None : goal.take_nest-returns-in_ok-take_couples-in-None
 take_nest-returns-in_ok-take_couples-in-None t c =
-    took_place c.args.left _ c.args.s _ _ _ _ _ _ _ _ c.requires.once c.in-None.is c.in_ok-members.ensures c.in_ok-add_moat.ensures c.in_ok-take_couples-in-None.ensures
+    took_place c.args.left _ c.args.s _ _ _ _ _ _ _ _ c.requires.once c.in-None.is c.in_ok-members.ensures c.in_ok-add_moat.ensures
+    c.in_ok-take_couples-in-None.ensures
 
 pub take_nest-returns-in_ok-take_couples-in-Some : goal.take_nest-returns-in_ok-take_couples-in-Some
 take_nest-returns-in_ok-take_couples-in-Some t c =
-    took_ring c.args.left _ c.args.s c.in-Some.part _ _ _ _ _ _ _ _ _ _ c.requires.once c.in-Some.is c.in_ok-members.ensures c.in_ok-add_moat.ensures c.in_ok-take_nest-in-Some.ensures c.in_ok-take_couples-in-Some.ensures
+    took_ring c.args.left _ c.args.s c.in-Some.part _ _ _ _ _ _ _ _ _ _ c.requires.once c.in-Some.is c.in_ok-members.ensures
+    c.in_ok-add_moat.ensures c.in_ok-take_nest-in-Some.ensures c.in_ok-take_couples-in-Some.ensures

@@ -6,11 +6,23 @@ use Rattle.blossom_match.proofs.widening.change_heights.Goals as goal
 
 pub raise-requires-clause-within : goal.raise-requires-clause-within
 raise-requires-clause-within c = λ x here.
-    c.requires.cells x (omega (arith, here, ap (λ (xs : List ℕ). count x xs) c.members.ensures, base_in x c.args.root.now.members c.args.tree.now))
+    c.requires.cells x (omega (
+      arith,
+      here,
+      ap (λ (xs : List ℕ). count x xs) c.members.ensures,
+      base_in x c.args.root.now.members
+          c.args.tree.now,
+    ))
 
 pub raise-requires-clause-fits : goal.raise-requires-clause-fits
 raise-requires-clause-fits c = λ x.
-    omega (arith, c.requires.rise x, ap (λ (xs : List ℕ). c.args.by * count x xs) c.members.ensures, more_by c.args.by _ _ _ (outer-append x c.args.root.now.members [] c.args.tree.now))
+    omega (
+      arith,
+      c.requires.rise x,
+      ap (λ (xs : List ℕ). c.args.by * count x xs) c.members.ensures,
+      more_by c.args.by _ _ _
+          (outer-append x c.args.root.now.members [] c.args.tree.now),
+    )
 
 pub raise_outers-requires-clause-within : goal.raise_outers-requires-clause-within
 raise_outers-requires-clause-within c = λ x here.
@@ -18,7 +30,14 @@ raise_outers-requires-clause-within c = λ x here.
 
 pub raise_outers-requires-clause-fits : goal.raise_outers-requires-clause-fits
 raise_outers-requires-clause-fits c = λ x.
-    omega (arith, c.requires.rise x, c.raise.ensures x, ap (λ (xs : List ℕ). c.args.by * count x xs) c.members.ensures, more_by c.args.by _ _ _ (outer-append x c.args.root.now.members [] c.args.tree.now))
+    omega (
+      arith,
+      c.requires.rise x,
+      c.raise.ensures x,
+      ap (λ (xs : List ℕ). c.args.by * count x xs) c.members.ensures,
+      more_by c.args.by _
+          _ _ (outer-append x c.args.root.now.members [] c.args.tree.now),
+    )
 
 pub lower_inners-requires-clause-within : goal.lower_inners-requires-clause-within
 lower_inners-requires-clause-within c = λ x here.
