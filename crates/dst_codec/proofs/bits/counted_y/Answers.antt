@@ -1,5 +1,5 @@
 use Rattle.std.proofs.Common.{arith}
-use Rattle.dst_codec.proofs.TableLemmas.{Sums, fits_byte, y_sums}
+use Rattle.dst_codec.proofs.TableLemmas.{fits_byte, y_sums}
 use Rattle.dst_codec.proofs.bits.counted_y.Goals as goal
 
 pub overflow_add-result : goal.overflow_add-result

@@ -1,6 +1,6 @@
 use Rattle.std.proofs.Common.{◌≡◌, arith, rules}
 use Rattle.dst_codec.specs.Spelling.{shifted}
-use Rattle.dst_codec.proofs.TableLemmas.{Shares, fits_byte, second_shares}
+use Rattle.dst_codec.proofs.TableLemmas.{fits_byte, second_shares}
 use Rattle.dst_codec.proofs.spelling.second_byte.Goals as goal
 
 pub overflow_add-result : goal.overflow_add-result
