@@ -6,7 +6,7 @@ use Rattle.outside_io.specs.Causes.{with_more}
 use Rattle.outside_io.specs.Counts.{Rose}
 use Rattle.stitch_cli.specs.declared.status.Status.{Status}
 use Rattle.stitch_cli.specs.declared.status.Status.TheVariants as status
-use Rattle.stitch_cli.specs.Endings.{Tells}
+use Rattle.stitch_cli.specs.Endings.{Gathers, Tells}
 use Rattle.outside_io.specs.Sights.{SinkSight}
 use Rattle.stitch_cli.specs.Puts.{Broke, Puts, fed}
 
@@ -56,14 +56,6 @@ broke_of before after bytes (count, taken) rose = record {
   rose = rose;
 }
 
--- nothing put is nothing taken
-fed-nil : (now : SinkSight) → now ≡ fed now []
-fed-nil now = ap (λ (t : Option (List ℕ)). seen_sink t now.faults) (same now.taken)
-  where
-    same : (held : Option (List ℕ)) → held ≡ with_more held []
-    same None = refl
-    same (Some bytes) = ap (λ (xs : List ℕ). Some xs) (sym (append-nil bytes))
-
 -- some pieces of a text were put, and once those that are left are put too, the whole is; so it is where one breaks
 pub record PutsOn (whole left : List ℕ) (before now : SinkSight) : Type 0 where
   pub ok : (after : SinkSight) → after ≡ fed now left → after ≡ fed before whole
@@ -85,12 +77,63 @@ pub puts_broke : (whole left piece rest : List ℕ) (before now next : SinkSight
 puts_broke whole left piece rest before now next on is broke =
     on.err next (subst (λ (xs : List ℕ). Broke now next xs) (sym is) (broke-more now next piece rest broke))
 
-pub puts_all : (whole left : List ℕ) (before now : SinkSight) → PutsOn whole left before now → left ≡ [] → now ≡ fed before whole
-puts_all whole left before now on none = on.ok now (subst (λ (xs : List ℕ). now ≡ fed now xs) (sym none) (fed-nil now))
-
 -- the status that is planned where a text was put, and `Fault` where it wasn't, tell that text
 pub told_by : {T : Type 0} (text : List ℕ) (before after : SinkSight) (planned : Status) (put : Result T Failed) (s : Status)
     → Puts text before after put → OnOk put (s ≡ planned) → OnErr put (s ≡ status.Fault)
     → Tells text planned before after s
 told_by text before after planned (Ok _) s puts ok err = inl (ok, puts.ok)
 told_by text before after planned (Err _) s puts ok err = inr (err, puts.err)
+
+-- a piece is gathered, and then what is left is
+pub gathers_on : (whole left piece rest line next_line first : List ℕ) (before now next : SinkSight)
+    → PutsOn whole (line ++ left) before now
+    → left ≡ piece ++ rest → first ++ next_line ≡ line ++ piece → next ≡ fed now first → PutsOn whole (next_line ++ rest) before next
+gathers_on whole left piece rest line next_line first before now next on is parts taken =
+    puts_on whole (line ++ left) first (next_line ++ rest) before now next on
+    (ap (λ (xs : List ℕ). line ++ xs) is ∙ (sym (append_assoc line piece rest)
+    ∙ (ap (λ (xs : List ℕ). xs ++ rest) (sym parts) ∙ append_assoc first next_line rest))) taken
+
+-- a put failed while a piece was gathered
+pub gathers_broke : (whole left piece rest line : List ℕ) (before now next : SinkSight) → PutsOn whole (line ++ left) before now
+    → left ≡ piece ++ rest → Broke now next (line ++ piece) → Broke before next whole
+gathers_broke whole left piece rest line before now next on is broke =
+    puts_broke whole (line ++ left) (line ++ piece) rest before now next on
+    (ap (λ (xs : List ℕ). line ++ xs) is ∙ sym (append_assoc line piece rest)) broke
+
+-- the last line is put
+pub gathers_all : {T : Type 0} (whole left line text : List ℕ) (before now after : SinkSight) (result : Result T Failed)
+    → PutsOn whole (line ++ left) before now → left ≡ [] → text ≡ line → Puts text now after result → Puts whole before after result
+gathers_all whole left line text before now after (Ok _) on none is puts = record {
+  ok = on.ok after (subst (λ (xs : List ℕ). after ≡ fed now xs)
+      (is ∙ sym (ap (λ (xs : List ℕ). line ++ xs) none ∙ append-nil line)) puts.ok);
+  err = tt;
+}
+gathers_all whole left line text before now after (Err _) on none is puts = record {
+  ok = tt;
+  err = on.err after (subst (λ (xs : List ℕ). Broke now after xs)
+      (is ∙ sym (ap (λ (xs : List ℕ). line ++ xs) none ∙ append-nil line)) puts.err);
+}
+
+-- the line could not be put, and so the piece wasn't either
+pub gather_broke : {T : Type 0} (text line piece new_line : List ℕ) (before after : SinkSight) (fault : Failed) → text ≡ line
+    → Broke before after text → Gathers {T = T} (line ++ piece) new_line before after (Err fault)
+gather_broke text line piece new_line before after fault is broke = record {
+  ok = tt;
+  err = broke-more before after line piece (subst (λ (xs : List ℕ). Broke before after xs) is broke);
+}
+
+-- the line is put, and then the piece
+pub gather_put : {T : Type 0} (text line piece new_line : List ℕ) (before mid after : SinkSight) (result : Result T Failed) → text ≡ line
+    → new_line ≡ [] → mid ≡ fed before text → Puts piece mid after result → Gathers (line ++ piece) new_line before after result
+gather_put text line piece new_line before mid after (Ok _) is none taken puts = record {
+  ok = (
+    line ++ piece,
+    ap (λ (xs : List ℕ). (line ++ piece) ++ xs) none ∙ append-nil (line ++ piece),
+    fed-append before mid after line piece (subst (λ (xs : List ℕ). mid ≡ fed before xs) is taken) puts.ok,
+  );
+  err = tt;
+}
+gather_put text line piece new_line before mid after (Err _) is none taken puts = record {
+  ok = tt;
+  err = broke-after before mid after line piece (subst (λ (xs : List ℕ). mid ≡ fed before xs) is taken) puts.err;
+}

@@ -1,5 +1,6 @@
 -- How the inner steps of a run end. No public clause cites this file.
-use Rattle.std.specs.Prelude.{◌≡◌, ◌⊎◌, ℕ, List, Option, Some, None, Result, Ok, Err}
+use Rattle.std.specs.Prelude.{◌≡◌, ◌⊎◌, ℕ, List, ◌++◌, Option, Some, None, Result, Ok, Err, OnErr, OnOk}
+use Rattle.outside_io.specs.declared.store.Failed.{Failed}
 use Rattle.outside_io.specs.Blames.{read_of}
 use Rattle.outside_io.specs.Causes.{Faults}
 use Rattle.outside_io.specs.Files.{Lacks}
@@ -31,6 +32,13 @@ status_of halt.Memory = status.Memory
 abbrev pub Tells : List ℕ → Status → SinkSight → SinkSight → Status → Type 0
 Tells text planned err err' s =
     ((s ≡ planned) × (err' ≡ fed err text)) ⊎ ((s ≡ status.Fault) × Broke err err' text)
+
+-- of these bytes some first ones were put and the others are in the line; or a put failed on their
+-- way
+pub record Gathers {T : Type 0} (bytes line : List ℕ) (before after : SinkSight)
+    (result : Result T Failed) : Type 0 where
+  pub ok : OnOk result ((first : List ℕ) × (first ++ line ≡ bytes) × (after ≡ fed before first))
+  pub err : OnErr result (Broke before after bytes)
 
 -- what each reason means for which a plan came to no product
 abbrev pub Halts : Plan → StoreSight → StoreSight → Halt → Type 0

@@ -1,11 +1,15 @@
-ghost use Rattle.std.specs.Prelude.{◌≡◌, OnErr, OnOk, map};
+ghost use Rattle.std.specs.Prelude.{◌≡◌, ◌++◌, OnErr, OnOk, map};
 ghost use Rattle.std.specs.List.{concat};
 ghost use Rattle.stitch_cli.specs.declared.status.Status.TheVariants as status;
-ghost use Rattle.stitch_cli.specs.Endings.{Tells};
+ghost use Rattle.stitch_cli.specs.Endings.{Gathers, Tells};
 ghost use Rattle.stitch_cli.specs.Puts.{Puts};
 
 use crate::status::Status;
+use arrayvec::ArrayVec;
 use outside_io::{Failed, Sink};
+
+/// The room for a line: the longest name, and what else a line about it says.
+const LINE_ROOM: usize = 4_608;
 
 /// Puts one text.
 pub(crate) fn put_one<E: Sink>(err: &mut E, text: &[u8]) -> Result<(), Failed>
@@ -17,18 +21,51 @@ pub(crate) fn put_one<E: Sink>(err: &mut E, text: &[u8]) -> Result<(), Failed>
     }
 }
 
-/// Puts pieces of a text one after another.
+/// Puts pieces of a text, in one put where they fit into the room for a line.
 fn put_all<E: Sink>(err: &mut E, pieces: &[&[u8]]) -> Result<(), Failed>
     ensures { Puts (concat (map (λ piece. piece.now) pieces.now)) (E.sight err.old)
         (E.sight err.new) result }
 {
+    let mut line = ArrayVec::new();
     for piece in pieces {
-        match put_one(err, piece) {
+        match gather(err, &mut line, piece) {
             Ok(()) => {}
             Err(Failed) => return Err(Failed),
         }
     }
-    Ok(())
+    put_one(err, line.as_slice())
+}
+
+/// Adds a piece to the line. Where it has no room, the line is put, and then the piece.
+fn gather<E: Sink>(
+    err: &mut E,
+    line: &mut ArrayVec<u8, LINE_ROOM>,
+    piece: &[u8],
+) -> Result<(), Failed>
+    ensures { Gathers (line.old.items ++ piece.now) line.new.items (E.sight err.old)
+        (E.sight err.new) result }
+{
+    match line.try_extend_from_slice(piece) {
+        Ok(()) => Ok(()),
+        Err(_) => put_both(err, line, piece),
+    }
+}
+
+/// Puts the line and then a piece, and empties the line.
+fn put_both<E: Sink>(
+    err: &mut E,
+    line: &mut ArrayVec<u8, LINE_ROOM>,
+    piece: &[u8],
+) -> Result<(), Failed>
+    ensures { Gathers (line.old.items ++ piece.now) line.new.items (E.sight err.old)
+        (E.sight err.new) result }
+{
+    match put_one(err, line.as_slice()) {
+        Ok(()) => {}
+        Err(Failed) => return Err(Failed),
+    }
+    line.clear();
+    put_one(err, piece)
 }
 
 /// Puts the pieces of a text, and answers the status that is planned where that went well.

@@ -1,27 +1,24 @@
 use Rattle.std.proofs.Common.{ap, map}
 use Rattle.std.specs.List.{concat}
 use Rattle.std.proofs.lemmas.List.{at_drop_more, drop_all}
-use Rattle.stitch_cli.proofs.PutLemmas.{puts_all, puts_broke, puts_on}
+use Rattle.stitch_cli.proofs.PutLemmas.{gathers_all, gathers_broke, gathers_on}
 use Rattle.stitch_cli.proofs.putting.put_all.Goals as goal
 
 pub returns-in-Err : goal.returns-in-Err
 returns-in-Err g c = record {
   ok = tt;
-  err = puts_broke _ _ _ _ _ _ _ c.loop-piece.invariant
+  err = gathers_broke _ _ _ _ _ _ _ _ c.loop-piece.invariant
       (at_drop_more (λ pieces. concat (map (λ piece. piece.now) pieces)) c.args.pieces.now c.loop-piece.piece-index _
       c.loop-piece-test.true)
       c.in-Err.ensures.err;
 }
 
 pub loop-piece-preserved : goal.loop-piece-preserved
-loop-piece-preserved g c = puts_on _ _ _ _ _ _ _ c.loop-piece.invariant
+loop-piece-preserved g c = gathers_on _ _ _ _ _ _ _ _ _ _ c.loop-piece.invariant
     (at_drop_more (λ pieces. concat (map (λ piece. piece.now) pieces)) c.args.pieces.now c.loop-piece.piece-index _ c.loop-piece-test.true)
-    c.in-Ok.ensures.ok
+    c.in-Ok.ensures.ok.1 c.in-Ok.ensures.ok.2
 
 pub returns : goal.returns
-returns g c = record {
-  ok = puts_all _ _ _ _ c.loop-piece.invariant
-      (ap (λ pieces. concat (map (λ piece. piece.now) pieces)) (drop_all c.loop-piece.piece-index c.args.pieces.now
-      c.loop-piece-test.false));
-  err = tt;
-}
+returns g c = gathers_all _ _ _ _ _ _ _ _ c.loop-piece.invariant
+    (ap (λ pieces. concat (map (λ piece. piece.now) pieces)) (drop_all c.loop-piece.piece-index c.args.pieces.now c.loop-piece-test.false))
+    c.as_slice.ensures.value c.put_one.ensures
