@@ -43,7 +43,9 @@ def built_over_memory():
             if name != "stitch" and os.path.isdir(place):
                 shutil.copytree(place, os.path.join(crates, name, part), dirs_exist_ok=True)
     crate = os.path.join(crates, "over_memory")
-    shutil.copytree(os.path.join(HERE, "over_memory"), crate, dirs_exist_ok=True)
+    os.makedirs(os.path.join(crate, "src"), exist_ok=True)
+    # The gate reads each .rt file of the repository as a crate's, so this one has another ending here.
+    shutil.copy(os.path.join(HERE, "over_memory.rattle"), os.path.join(crate, "src", "main.rt"))
     # without words nothing is begun, and the status says so
     subprocess.run(["rt", "run"], cwd=crate, stdin=subprocess.DEVNULL)
     return os.path.join(crate, "out", "over_memory")
