@@ -33,7 +33,9 @@ macro_rules! refused {
 
 mod checks;
 mod files;
+mod limits;
 mod outside;
+mod prefixes;
 mod rewrites;
 mod routes;
 mod rows;

@@ -11,19 +11,26 @@ const ROUTE: [&str; 4] = ["route", "a.rw", "b.dst", "b.cert"];
 
 const CERT: &[u8] = b"redwork-certificate 1\npiece 0\nwalk 1\nend\n";
 
-const DRAWN: &[(&str, Holds)] = &[
-    ("a.rw", Holds::Bytes(SQUARE)),
-    ("a.exp", Holds::Bytes(&[0, 0])),
+/// In EXP: a stitch, four jumps of 100 to the right, and a stitch.
+const FLOAT: [u8; 20] = [
+    0x00, 0x00, 0x80, 0x04, 0x64, 0x00, 0x80, 0x04, 0x64, 0x00, 0x80, 0x04, 0x64, 0x00, 0x80, 0x04,
+    0x64, 0x00, 0x00, 0x00,
 ];
 
-/// A route whose call of that number fails, or whose print does, and what it leaves.
+const DRAWN: &[(&str, Holds)] = &[
+    ("a.rw", Holds::Bytes(SQUARE)),
+    ("a.exp", Holds::Bytes(&FLOAT)),
+];
+
+/// A route whose call of that number fails, or whose print does, and what it leaves: the certificate, and
+/// how long the design is.
 #[derive(Clone, Copy)]
 struct Case {
     fails: u64,
     prints: u64,
     line: &'static str,
     cert: Option<&'static [u8]>,
-    design: Option<&'static [u8]>,
+    design: Option<usize>,
 }
 
 const READ: &str = "stitch: cannot read a.rw\n";
@@ -36,7 +43,7 @@ fn fails(
     fails: u64,
     line: &'static str,
     cert: Option<&'static [u8]>,
-    design: Option<&'static [u8]>,
+    design: Option<usize>,
 ) -> Case {
     Case {
         fails,
@@ -58,10 +65,8 @@ fn plays(rt: &impl Abort, alloc: Global, case: Case, store: &mut MemStore) -> Re
     assert_eq!(rt; status, Status::Fault, "{line}");
     assert_eq!(rt; printed.taken(), b"".as_slice(), "{line}");
     assert_eq!(rt; store.file("b.cert"), case.cert, "{line}");
-    assert!(rt;
-        case.prints == 1 || store.file("b.dst") == case.design,
-        "{line}"
-    );
+    let length = store.file("b.dst").map(|file| file.len());
+    assert_eq!(rt; length, case.design, "{line}");
     Ok(())
 }
 
@@ -73,7 +78,7 @@ fn a_fault_names_its_file_and_leaves_what_was_written_before(rt: HostRuntime) ->
         fails(3, WRITE_CERT, None, None),
         fails(4, WRITE_CERT, Some(b""), None),
         fails(5, WRITE_DESIGN, Some(CERT), None),
-        fails(6, WRITE_DESIGN, Some(CERT), Some(b"")),
+        fails(6, WRITE_DESIGN, Some(CERT), Some(0)),
     ];
     for case in cases {
         let mut store = stocked(rt.alloc(), DRAWN)?;
@@ -97,7 +102,7 @@ fn a_missing_file_and_a_failed_report_are_faults(rt: HostRuntime) -> Result<(), 
         prints: 1,
         line: "stitch: cannot print\n",
         cert: Some(CERT),
-        design: None,
+        design: Some(539),
     };
     plays(&rt, rt.alloc(), case, &mut store)?;
     Ok(())
@@ -106,7 +111,7 @@ fn a_missing_file_and_a_failed_report_are_faults(rt: HostRuntime) -> Result<(), 
 /// What commands are given, and the number of the first call of the store that they don't make.
 const CALLS: [(&[&str], u64); 3] = [
     (&["route", "a.rw", "b.dst", "b.cert"], 7),
-    (&["convert", "a.exp", "b.dst"], 5),
+    (&["convert", "a.exp", "b.dst", "--cut"], 5),
     (&["show", "a.exp"], 3),
 ];
 
@@ -126,11 +131,39 @@ fn a_command_makes_so_many_calls(rt: HostRuntime) -> Result<(), Fail> {
 }
 
 #[test]
-fn a_line_that_cannot_be_put_is_a_fault(rt: HostRuntime) -> Result<(), Fail> {
+fn a_conversion_that_cannot_be_written_leaves_an_empty_file(rt: HostRuntime) -> Result<(), Fail> {
+    let mut store = stocked(rt.alloc(), DRAWN)?;
+    store.fail_at(4)?;
+    let mut out = MemSink::new(rt.alloc(), 1_000)?;
+    let mut err = MemSink::new(rt.alloc(), 1_000)?;
+    let words = ["convert", "a.exp", "b.dst", "--cut"];
+    let status = answer(rt.alloc(), &words, &mut store, &mut out, &mut err)?;
+    assert_eq!(rt; status, Status::Fault);
+    assert_eq!(rt; err.taken(), WRITE_DESIGN.as_bytes());
+    assert_eq!(rt; out.taken(), b"".as_slice());
+    assert_eq!(rt; store.file("b.dst"), Some(b"".as_slice()));
+    Ok(())
+}
+
+#[test]
+fn a_line_is_one_put_and_one_that_cannot_be_put_is_a_fault(rt: HostRuntime) -> Result<(), Fail> {
     let mut store = MemStore::new(rt.alloc());
     let mut out = MemSink::new(rt.alloc(), 0)?;
-    let mut err = MemSink::new(rt.alloc(), 10)?;
+    let mut err = MemSink::new(rt.alloc(), 1_000)?;
+    err.fail_at(1)?;
     let status = answer(rt.alloc(), &[], &mut store, &mut out, &mut err)?;
     assert_eq!(rt; status, Status::Fault);
+    assert_eq!(rt; err.taken(), b"".as_slice());
+    let mut err = MemSink::new(rt.alloc(), 1_000)?;
+    err.fail_at(2)?;
+    let status = answer(
+        rt.alloc(),
+        &["show", "a.dst"],
+        &mut store,
+        &mut out,
+        &mut err,
+    )?;
+    assert_eq!(rt; status, Status::Fault);
+    assert_eq!(rt; err.taken(), b"stitch: cannot read a.dst\n".as_slice());
     Ok(())
 }

@@ -82,7 +82,7 @@ fn put(alloc: Global, store: &mut MemStore, name: &str, holds: Holds) -> Result<
 }
 
 /// A text, filled with spaces up to that length, and then so many times these bytes.
-fn behind(
+pub fn behind(
     alloc: Global,
     text: &[u8],
     length: usize,
