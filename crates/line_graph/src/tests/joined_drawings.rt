@@ -114,8 +114,8 @@ fn long_drawing(alloc: Global, count: i32) -> Result<Drawing, DrawKind> {
     let mut maker = DrawingMaker::new(alloc, b"", 2_047);
     maker.add_block(1)?;
     let mut few = Points::new(alloc);
-    for i in 0..10 {
-        few.push(Point { x: i * 2, y: 0 })?;
+    for x in [0, 2, 4, 6, 8, 10, 12, 14, 16, 18] {
+        few.push(Point { x, y: 0 })?;
     }
     maker.add_line(few)?;
     let mut points = Points::new(alloc);
