@@ -16,7 +16,8 @@ use Rattle.stitch_cli.specs.Plans.{Makes}
 use Rattle.stitch_cli.specs.Products.{ProductValue, product_of}
 use Rattle.stitch_cli.specs.Refusals.{refusal_of}
 use Rattle.stitch_cli.specs.RunSights.{Sights, seen}
-use Rattle.stitch_cli.specs.Runs.{CallsFor, IsDone, IsFault, IsMemory, IsRefused, IsUsage, RunEnds, failed, memory, missing, not_read, not_written, refused, unprinted, usage}
+use Rattle.stitch_cli.specs.RunFailures.{missing, not_read, not_written, unprinted}
+use Rattle.stitch_cli.specs.Runs.{CallsFor, IsDone, IsFault, IsMemory, IsRefused, IsUsage, RunEnds, failed, memory, refused, usage}
 use Rattle.stitch_cli.specs.UsageText.{usage_text}
 use Rattle.stitch_cli.specs.Texts.{halt_text, memory_line, refusal_line, unprinted_line, unread_line, unwritten_line}
 use Rattle.line_graph.specs.OnePieces.{PiecesAreOne}
