@@ -73,8 +73,8 @@ abbrev pub IsPaid : (ℕ → ℕ → ℕ) → List Toll → Type 0
 IsPaid d [] = Unit {0}
 IsPaid d (t ∷ ts) = TollIsPaid d t × IsPaid d ts
 
--- what each set keeps: it is odd, a place that is no member is in no set inside, and without a set
--- inside it is one place
+-- what each set keeps: it is odd, a place that is no member is in no set inside, and without a
+-- set inside it is one place
 pub record Kept (s : NestValue) : Type 0 where
   pub odd : length s.members % 2 ≡ 1
   pub covered : (x : ℕ) → count x s.members ≡ 0 → NoneHold x s.below

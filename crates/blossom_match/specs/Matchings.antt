@@ -1,8 +1,6 @@
 -- Perfect matchings with moats, after J. Edmonds, "Maximum matching and a polyhedron with
--- 0,1-vertices",
--- Journal of Research of the National Bureau of Standards 69B (1965). Distances count steps; widths
--- of
--- moats count halves of a step.
+-- 0,1-vertices", Journal of Research of the National Bureau of Standards 69B (1965). Distances
+-- count steps; widths of moats count halves of a step.
 use Rattle.std.specs.Prelude.{◌≡◌, ◌≢◌, ◌==◌, ℕ, ◌+◌, ◌*◌, ◌%◌, ◌<◌, ◌≤◌, ◌⊎◌, Bool, true, false, not, List, length, nat_lt, if◌then◌else◌}
 use Rattle.std.specs.List.{All, AllPairs, list_any, sum_by}
 use Rattle.blossom_match.specs.Tables.{entry}

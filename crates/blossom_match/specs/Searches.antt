@@ -23,8 +23,8 @@ abbrev pub FreeHaveRoom : TableValue → (ℕ → ℕ) → List ℕ → Type 0
 FreeHaveRoom t h free = (a f : ℕ) → a < t.places → 1 ≤ count f free → a ≢ f
     → h a + h f ≤ 2 * entry t a f
 
--- all places that are in couples or free; h is the heights that the couples make, and the prices of
--- the free places
+-- all places that are in couples or free; h is the heights that the couples make, and the
+-- prices of the free places
 pub record IsStanding (t : TableValue) (h : ℕ → ℕ) (couples : List Couple)
     (free : List ℕ) : Type 0 where
   pub tall : (x : ℕ) → count x free ≡ 0 → h x ≡ height x (couple_bands couples)

@@ -1,6 +1,6 @@
--- What one line of a certificate text says, where a line is its bytes without the 10 that ends it.
--- Own text: words are separated by one space, lines of a drawing and junctions of a piece have
--- numbers from 1.
+-- What one line of a certificate text says, where a line is its bytes without the 10 that
+-- ends it. Own text: words are separated by one space, lines of a drawing and junctions of a
+-- piece have numbers from 1.
 use Rattle.std.specs.Prelude.{ℕ, ◌-◌, ◌==◌, ◌^◌, ◌&&◌, Bool, true, false, not, nat_lt, List, [], ◌∷◌, Option, Some, None, bytes_eq, codes, option_map, if◌then◌else◌}
 use Rattle.std.specs.Char.{is_ascii_digit}
 use Rattle.std.specs.List.{slice_split}

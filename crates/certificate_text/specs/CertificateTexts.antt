@@ -1,7 +1,6 @@
--- The certificate of a route: for each piece its retraced cost, its walk and its cuts. Own text:
--- every line
--- ends with the byte 10, words are separated by one space, and numbers are decimal without leading
--- zeros.
+-- The certificate of a route: for each piece its retraced cost, its walk and its cuts. Own
+-- text: every line ends with the byte 10, words are separated by one space, and numbers are
+-- decimal without leading zeros.
 use Rattle.std.specs.Prelude.{ℕ, ◌+◌, List, [], ◌∷◌, ◌++◌, codes, decimal, if◌then◌else◌}
 use Rattle.std.specs.List.{flat_map}
 use Rattle.cut_certificate.specs.declared.certificate.PieceCert.{PieceCert}

@@ -38,8 +38,8 @@ judged said other = None
 abbrev pub drafted : Draft → List ℕ → Option Draft
 drafted said bytes = option_and_then (judged said) (line_said bytes)
 
--- what is said where the text ends before the line of that number, with these bytes behind
--- the last one
+-- what is said where the text ends before the line of that number, with these
+-- bytes behind the last one
 abbrev pub at_end : ℕ → Draft → List ℕ → Result (List PieceCert) ℕ
 at_end number (draft.Ended pieces) [] = Ok pieces
 at_end number said rest = Err number

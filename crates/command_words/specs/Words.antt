@@ -85,8 +85,8 @@ thread_by (Some place) (Some number) = Some (thread place number)
 thread_by None number = None
 thread_by (Some place) None = None
 
--- a thread by the numbers before and after a comma: a place from 1 to 255, and a thread from 0 to
--- 255
+-- a thread by the numbers before and after a comma: a place from 1 to 255,
+-- and a thread from 0 to 255
 abbrev pub thread_in : Option (List ℕ × List ℕ) → Option Change
 thread_in None = None
 thread_in (Some (place, number)) = thread_by (bounded 1 255 (whole_of place))

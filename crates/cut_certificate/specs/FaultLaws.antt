@@ -15,8 +15,8 @@ abbrev pub WalkFaultsAreExact : Type 0
 WalkFaultsAreExact = (p : PieceValue) (walk : List Pass) → KeepsPiece p
     → (walk_fault p walk ≡ None) ↔ (fits p walk ≡ true)
 
--- cuts of a piece have none exactly where they are a packing with a total of twice the retraced
--- cost
+-- cuts of a piece have none exactly where they are a packing with a total of
+-- twice the retraced cost
 abbrev pub CutFaultsAreExact : Type 0
 CutFaultsAreExact = (p : PieceValue) (retraced : ℕ) (cuts : List Cut) → KeepsPiece p
     → (cuts_fault p retraced cuts ≡ None) ↔ (IsPacking p cuts × (total_of cuts ≡ 2 * retraced))

@@ -1,5 +1,5 @@
--- Moats over the odd junctions of a piece, which become cuts of the piece. Widths count halves of a
--- step.
+-- Moats over the odd junctions of a piece, which become cuts of the piece. Widths
+-- count halves of a step.
 use Rattle.std.specs.Prelude.{◌≡◌, ℕ, ◌*◌, ◌<◌, ◌≤◌, List, length}
 use Rattle.std.specs.List.{All, AllPairs}
 use Rattle.blossom_match.specs.declared.matching.Moat.{Moat}
@@ -11,8 +11,7 @@ use Rattle.line_graph.specs.PieceGraphs.{PieceValue, odd_junctions}
 use Rattle.odd_paths.specs.LeastRows.{AreRows, RowsValue, cost_at, terminal_of}
 
 -- moats over the odd junctions of a piece by their places in order: odd sets, nested or disjoint,
--- and no two
--- junctions have more between them than two halves for each step of a least walk
+-- and no two junctions have more between them than two halves for each step of a least walk
 pub record AreMoats (p : PieceValue) (rows : RowsValue) (moats : List Moat) : Type 0 where
   pub rows_are : AreRows p rows
   pub terminals : rows.terminals ≡ odd_junctions p
@@ -21,8 +20,8 @@ pub record AreMoats (p : PieceValue) (rows : RowsValue) (moats : List Moat) : Ty
   pub loads : (t u : ℕ) → t < length rows.terminals → u < length rows.terminals
       → moats_between moats t u ≤ 2 * cost_at rows t (terminal_of rows u)
 
--- a packing with the total of all widths, whose cuts weigh something and name their members in
--- order
+-- a packing with the total of all widths, whose cuts weigh something and
+-- name their members in order
 pub record IsLifted (p : PieceValue) (moats : List Moat) (cuts : List Cut) : Type 0 where
   pub packing : IsPacking p cuts
   pub total : total_of cuts ≡ width_of moats

@@ -1,6 +1,6 @@
--- Packings of odd cuts, after J. Edmonds and E. L. Johnson, "Matching, Euler tours and the Chinese
--- postman",
--- Mathematical Programming 5 (1973). Weights and loads count halves of a step, costs count steps.
+-- Packings of odd cuts, after J. Edmonds and E. L. Johnson, "Matching, Euler tours and the
+-- Chinese postman", Mathematical Programming 5 (1973). Weights and loads count halves of a
+-- step, costs count steps.
 use Rattle.std.specs.Prelude.{◌≡◌, ℕ, ◌*◌, ◌%◌, ◌<◌, ◌≤◌, true, List, length, All, count_by}
 use Rattle.cut_certificate.specs.declared.cut.Cut.{Cut}
 use Rattle.cut_certificate.specs.Cuts.{holds, load_on}

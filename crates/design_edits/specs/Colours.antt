@@ -1,5 +1,5 @@
--- The threads of a design's first blocks. Own rule: the blocks 0 to 254 are the places for a
--- thread.
+-- The threads of a design's first blocks. Own rule: the blocks 0 to 254 are
+-- the places for a thread.
 use Rattle.std.specs.Prelude.{◌≡◌, ◌==◌, ℕ, ◌+◌, ◌-◌, ◌<◌, ◌≤◌, min, List, ◌++◌, length, map, slice_set, Result, Ok, Err, if◌then◌else◌}
 use Rattle.std.specs.List.{range_with_len}
 use Rattle.design_model.specs.declared.design.TheConstants.{MAX_THREADS}
@@ -8,8 +8,8 @@ use Rattle.design_model.specs.Designs.{DesignValue, thread_of}
 use Rattle.design_edits.specs.declared.edit_fault.EditFault.{EditFault}
 use Rattle.design_edits.specs.declared.edit_fault.EditFault.TheVariants as fault
 
--- the number of places: that of the blocks, of which there is one more than stops, or of all that a
--- design may keep
+-- the number of places: that of the blocks, of which there is one more than stops, or of
+-- all that a design may keep
 abbrev pub place_count : DesignValue → ℕ
 place_count d = min ((counts_of d).stops + 1) MAX_THREADS
 

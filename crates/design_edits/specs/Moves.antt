@@ -1,5 +1,5 @@
--- Moves of a design: a map over its points, in whole tenths of a millimetre; x grows to the right,
--- y downwards.
+-- Moves of a design: a map over its points, in whole tenths of a millimetre; x grows to
+-- the right, y downwards.
 use Rattle.std.specs.Prelude.{ℕ, zero, suc, ℤ, ◌+ℤ◌, neg_ℤ, not, List, Option, map}
 use Rattle.std.specs.List.{position_from}
 use Rattle.design_model.specs.declared.command.Command.{Command}
@@ -49,7 +49,7 @@ turned quarters d = with_mapped_points (turn_point quarters) d
 abbrev pub mirrored : Axis → DesignValue → DesignValue
 mirrored a d = with_mapped_points (mirror_point a) d
 
--- the number of the first command whose point is out of its range, if there is one; numbers count
--- from 1
+-- the number of the first command whose point is out of its range, if there is
+-- one; numbers count from 1
 abbrev pub first_outside : List Command → Option ℕ
 first_outside commands = position_from (λ c. not (is_in_range c)) 1 commands

@@ -1,6 +1,5 @@
 -- The drawing that a text says, or the first fault of the text. Own format: lines of words, each
--- judged by
--- the lines before it. Lines of the text count from 1.
+-- judged by the lines before it. Lines of the text count from 1.
 use Rattle.std.specs.Prelude.{◌≡◌, ℕ, ◌+◌, true, ◌⊎◌, List, [], ◌∷◌, Option, Some, None, Result, Ok, Err, bytes_eq, codes, if◌then◌else◌}
 use Rattle.line_graph.specs.declared.draw_kind.DrawKind.{DrawKind}
 use Rattle.line_graph.specs.declared.draw_kind.DrawKind.TheVariants as kind
@@ -16,8 +15,7 @@ use Rattle.drawing_text.specs.TextLines.{first_draft, judged}
 use Rattle.drawing_text.specs.Words.{is_passed_over, words_by_line}
 
 -- the line that a fault is told of: the one that opened the block where that is empty, else the one
--- where
--- the fault was met; want of memory is told of none
+-- where the fault was met; want of memory is told of none
 abbrev pub line_of_fault : (number opened : ℕ) → DrawKind → ℕ
 line_of_fault number opened kind.EmptyBlock = opened
 line_of_fault number opened kind.Memory = 0
@@ -33,8 +31,7 @@ at_line number opened (Ok a) = Ok a
 at_line number opened (Err why) = Err (told_at number opened why)
 
 -- what the drawing of a text's lines means by its version: in version 2 its lines meet at each
--- point that
--- their block lists again
+-- point that their block lists again
 abbrev pub meant_by : Version → DrawingValue → Result DrawingValue DrawKind
 meant_by version.One d = Ok d
 meant_by version.Two d = joined_drawing d
@@ -64,8 +61,8 @@ header_in words = None
 abbrev pub bad_header : ℕ → DrawFault
 bad_header number = record { number = number; kind = kind.BadHeader }
 
--- a text behind its header: the version that this names, the number of the first line, and the
--- lines
+-- a text behind its header: the version that this names, the number of the
+-- first line, and the lines
 pub record Body : Type 0 where
   pub version : Version
   pub first : ℕ
@@ -114,8 +111,8 @@ abbrev pub IsMeant : Version → DrawingValue → Type 0
 IsMeant version.One d = Unit {0}
 IsMeant version.Two d = is_joined d ≡ true
 
--- the plain spelling of a drawing says that drawing, in version 2 where its lines meet at ends
--- alone
+-- the plain spelling of a drawing says that drawing, in version 2 where its
+-- lines meet at ends alone
 abbrev pub PlainSpellingSays : Type 0
 PlainSpellingSays = (d : DrawingValue) → KeepsDrawing d → drawing_of (plain_spelling d) ≡ Ok d
 

@@ -1,6 +1,5 @@
 -- The plain spelling of a drawing, as bytes of ASCII. Own format: each line ends with the byte 10,
--- words
--- stand one space (32) apart, and numbers have no leading zeros.
+-- words stand one space (32) apart, and numbers have no leading zeros.
 use Rattle.std.specs.Prelude.{ℕ, ◌+◌, ◌==◌, if◌then◌else◌, List, [], ◌∷◌, ◌++◌, length, codes, filter}
 use Rattle.std.specs.Fmt.{decimal, signed_decimal}
 use Rattle.std.specs.List.{flat_map}

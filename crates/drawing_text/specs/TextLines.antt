@@ -1,6 +1,5 @@
 -- What one line of a drawing text says after the lines before it. Numbers are in tenths of a
--- millimetre,
--- lines of the text count from 1.
+-- millimetre, lines of the text count from 1.
 use Rattle.std.specs.Prelude.{ℕ, ℤ, pos, negsuc, ◌==◌, Bool, true, false, not, ◌&&◌, ◌||◌, nat_le, unsigned_abs, List, [], ◌∷◌, Option, Some, None, Result, Ok, Err, length, bytes_eq, codes, if◌then◌else◌}
 use Rattle.design_model.specs.declared.point.Point.{Point}
 use Rattle.design_model.specs.declared.point.TheConstants.{NEEDLE_LIMIT}

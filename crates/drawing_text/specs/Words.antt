@@ -6,8 +6,8 @@ use Rattle.std.specs.List.{onto_first, slice_split}
 abbrev pub is_line_feed : ℕ → Bool
 is_line_feed b = b == 10
 
--- the lines of a text: each is ended by the byte 10, and bytes behind the last of these are a line
--- too
+-- the lines of a text: each is ended by the byte 10, and bytes behind the last
+-- of these are a line too
 abbrev pub text_lines : List ℕ → List (List ℕ)
 text_lines [] = []
 text_lines (b ∷ rest) = if is_line_feed b then [] ∷ text_lines rest

@@ -15,8 +15,8 @@ use Rattle.dst_codec.specs.declared.record_kind.RecordKind.TheVariants as kind
 abbrev pub bit : ℕ → ℕ → ℕ
 bit byte worth = byte / worth % 2
 
--- the sum of the set bits of one direction: bit `one` counts 1 and 3, bit `nine` counts 9, 27 and
--- 81
+-- the sum of the set bits of one direction: bit `one` counts 1 and 3, bit
+-- `nine` counts 9, 27 and 81
 abbrev pub sum_along : ℕ → ℕ → ℕ → ℕ → ℕ → ℕ
 sum_along one nine first second third = bit first one + 3 * bit second one
     + 9 * bit first nine + 27 * bit second nine + 81 * bit third nine

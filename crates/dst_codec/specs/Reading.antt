@@ -37,8 +37,8 @@ run_after kind.Stop run = 0
 run_after kind.Sequin run = 0
 run_after kind.End run = 0
 
--- the records from that offset on, after that run; one or two bytes that are left over are no
--- record
+-- the records from that offset on, after that run; one or two bytes that are
+-- left over are no record
 abbrev pub records_from : ℕ → ℕ → List ℕ → Records
 records_from run at (a ∷ b ∷ c ∷ rest) =
     record_as (kind_of c) at run (move_of a b c)

@@ -1,7 +1,6 @@
 -- Walks that pass each line of a piece once, and once more for each of its copies; after C.
--- Hierholzer,
--- "Ueber die Möglichkeit, einen Linienzug ohne Wiederholung und ohne Unterbrechung zu umfahren",
--- Mathematische Annalen 6 (1873). Costs count steps.
+-- Hierholzer, "Ueber die Möglichkeit, einen Linienzug ohne Wiederholung und ohne Unterbrechung zu
+-- umfahren", Mathematische Annalen 6 (1873). Costs count steps.
 use Rattle.std.specs.Prelude.{◌≡◌, ℕ, ◌+◌, ◌*◌, ◌%◌, ◌<◌, ◌==◌, ◌^◌, true, List, [], ◌∷◌, None, length, get_or, sum_by}
 use Rattle.line_graph.specs.declared.edge.Edge.{Edge}
 use Rattle.line_graph.specs.declared.pass.Pass.{Pass}
@@ -9,8 +8,8 @@ use Rattle.line_graph.specs.PieceGraphs.{PieceValue, bit, closing, degree, from_
 use Rattle.line_graph.specs.Pieces.{first_line}
 use Rattle.line_graph.specs.PieceWalks.{BeginsWith, covers, leads, passes, piece_cost, walk_cost}
 
--- how many ends of passes are at a junction, where each line is passed once and once more for each
--- copy
+-- how many ends of passes are at a junction, where each line is passed once and
+-- once more for each copy
 abbrev pub pass_ends : List Edge → List ℕ → ℕ → ℕ
 pass_ends [] copies j = 0
 pass_ends (e ∷ edges) [] j = 0
@@ -28,8 +27,7 @@ abbrev pub pass_count : List ℕ → ℕ
 pass_count copies = sum_by (λ c. c + 1) copies
 
 -- a walk can pass each line so often: an even number of ends of passes is at each junction, the
--- line from
--- where the walk ends back to where it begins counted with them; and the passes are few
+-- line from where the walk ends back to where it begins counted with them; and the passes are few
 pub record CanPass (p : PieceValue) (copies : List ℕ) : Type 0 where
   pub beside : length copies ≡ length p.lines
   pub even : (j : ℕ) → (degree (closing (from_of p) (to_of p)) j + pass_ends p.edges copies j) % 2
@@ -37,8 +35,7 @@ pub record CanPass (p : PieceValue) (copies : List ℕ) : Type 0 where
   pub few : pass_count copies < 2 ^ 32
 
 -- a fitting walk that passes the line at each place once and as often again as it has copies; where
--- no
--- start and no end is said, it begins with the first line, forwards
+-- no start and no end is said, it begins with the first line, forwards
 pub record IsTour (p : PieceValue) (copies : List ℕ) (walk : List Pass) : Type 0 where
   pub led : leads p walk ≡ true
   pub covered : covers p.lines walk ≡ true

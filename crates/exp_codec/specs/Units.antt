@@ -40,8 +40,8 @@ abbrev pub short_unit : ℕ → (a b : ℕ) → (behind_two : Records) → Recor
 short_unit at a b behind_two =
     if a == 0x80 then over false else next at (event.Stitch (move_of a b)) behind_two
 
--- the units from that offset on; the file has ended where no byte of an incomplete unit is left
--- over
+-- the units from that offset on; the file has ended where no byte of an
+-- incomplete unit is left over
 abbrev pub units_from : ℕ → List ℕ → Records
 units_from at [] = over true
 units_from at (a ∷ []) = over false

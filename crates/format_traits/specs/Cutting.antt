@@ -1,5 +1,5 @@
--- What it means to cut the first record from the bytes that are left of a file, and to read them
--- all.
+-- What it means to cut the first record from the bytes that are left of a
+-- file, and to read them all.
 use Rattle.std.specs.Prelude.{◌≡◌, ℕ, ◌+◌, ◌<◌, ◌≤◌, Bool, List, length, drop, Result, Ok, Err, IsTrue}
 use Rattle.std.specs.List.{list_all}
 use Rattle.design_model.specs.Designs.{DesignValue}
@@ -38,8 +38,8 @@ RefusesAs model (fault.Range at) = model ≡ Err (fault.Range at)
 RefusesAs model (fault.TooMany at) = model ≡ Err (fault.TooMany at)
 RefusesAs model fault.Memory = Unit {0}
 
--- what an answer of reading all records into a design without commands means; its label and its
--- threads stay
+-- what an answer of reading all records into a design without commands means; its
+-- label and its threads stay
 abbrev pub ReadsRecords : Records → DesignValue → Result Bool ReadFault → DesignValue → Type 0
 ReadsRecords records d (Ok ended) d' =
     SameButCommands d d' × (course_of records

@@ -1,6 +1,5 @@
 -- The records of a file, in any format, and the commands that they come to. Each record stands at
--- an
--- offset of the file and asks for one event.
+-- an offset of the file and asks for one event.
 use Rattle.std.specs.Prelude.{ℕ, ◌+◌, Bool, true, false, ◌&&◌, List, [], ◌∷◌, ◌++◌, length, nat_le, Result, Ok, Err, if◌then◌else◌}
 use Rattle.std.specs.List.{list_all}
 use Rattle.design_model.specs.declared.command.Command.{Command}

@@ -1,6 +1,5 @@
 -- That what is written reads again, in any format: what a reader has to make of the records that
--- its
--- writer spells, and what then follows of all acts.
+-- its writer spells, and what then follows of all acts.
 use Rattle.std.specs.Prelude.{◌≡◌, ℕ, suc, ◌+◌, ◌-◌, ◌<◌, ◌≤◌, Bool, true, false, ◌⊎◌, List, [], ◌∷◌, ◌++◌, length, Option, Some, None, option_map, Ok, IsTrue, if◌then◌else◌}
 use Rattle.std.specs.List.{concat, list_all}
 use Rattle.design_model.specs.declared.act.NumberedAct.{NumberedAct}
@@ -19,10 +18,8 @@ use Rattle.format_traits.specs.Refusals.{first_refusal}
 use Rattle.format_traits.specs.Spellings.{Spelling, is_most, records_of}
 
 -- what a reader takes spelled records for: the most jump records of an unbroken run that it takes
--- for
--- jumps before it takes one for a trim and a jump, where there is a most; what the records of a
--- trim ask
--- for, and how long a run of jump records they leave; and what a stop asks for
+-- for jumps before it takes one for a trim and a jump, where there is a most; what the records of a
+-- trim ask for, and how long a run of jump records they leave; and what a stop asks for
 pub record Taken : Type 0 where
   pub most_jumps : Option ℕ
   pub trim : List Event

@@ -8,8 +8,8 @@ use Rattle.design_model.specs.Points.{origin, move_between}
 use Rattle.design_model.specs.ActPlaces.{place_after, is_loose_after}
 use Rattle.format_traits.specs.Placing.{hops}
 
--- a loose needle takes its jumps and a stitch; of three jumps in a run the last may read as a trim
--- besides
+-- a loose needle takes its jumps and a stitch; of three jumps in a run the last
+-- may read as a trim besides
 abbrev pub loose_room : ℕ → ℕ
 loose_room jumps = if nat_le jumps 2 then jumps + 1 else jumps + 2
 

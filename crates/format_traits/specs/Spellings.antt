@@ -1,6 +1,5 @@
 -- How acts are written, in any format: the records of each act in order. A format says how it
--- spells
--- its records; which records an act takes is the same for all.
+-- spells its records; which records an act takes is the same for all.
 use Rattle.std.specs.Prelude.{◌≡◌, ℕ, ◌-◌, max, Bool, true, false, List, [], ◌∷◌, ◌++◌, map, Option, Some, None, Result, Ok, Err, ◌==◌, if◌then◌else◌}
 use Rattle.std.specs.List.{concat}
 use Rattle.design_model.specs.declared.act.Act.{Act}
@@ -16,8 +15,7 @@ use Rattle.format_traits.specs.Placing.{hops, part_of, parts, parts_from}
 use Rattle.format_traits.specs.Refusals.{beginning, standing_after, own_refusal, refusal_at, first_refusal}
 
 -- how a format spells its records: a stitch and a jump by their moves, a trim, which may take
--- several,
--- and a stop by the number of stops before it
+-- several, and a stop by the number of stops before it
 pub record Spelling : Type 0 where
   pub stitch : Point → List ℕ
   pub jump : Point → List ℕ

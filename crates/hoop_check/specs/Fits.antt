@@ -1,6 +1,5 @@
 -- Whether a design fits into a hoop. Lengths are in whole tenths of a millimetre. Own rule: the
--- jumps count
--- for nothing, and a design that fits either way is upright.
+-- jumps count for nothing, and a design that fits either way is upright.
 use Rattle.std.specs.Prelude.{ℕ, ◌-◌, ◌&&◌, nat_le, if◌then◌else◌}
 use Rattle.design_model.specs.Designs.{DesignValue}
 use Rattle.design_model.specs.Extents.{extent_of, height_of, width_of}
@@ -8,8 +7,7 @@ use Rattle.hoop_check.specs.declared.fitting.Fit.{Fit}
 use Rattle.hoop_check.specs.declared.fitting.Fit.TheVariants as fit
 
 -- how something of that width and height fits into a hoop of w by h: upright, else turned by a
--- quarter, else not,
--- with what it has above w and above h
+-- quarter, else not, with what it has above w and above h
 abbrev pub fit_of_size : ℕ → ℕ → ℕ → ℕ → Fit
 fit_of_size width height w h =
     if nat_le width w && nat_le height h then fit.Upright

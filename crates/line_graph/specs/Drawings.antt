@@ -54,8 +54,8 @@ abbrev pub HasNoRepeat : List Point → Type 0
 HasNoRepeat [] = Unit {0}
 HasNoRepeat (p ∷ rest) = KeepsMoving p rest
 
--- a line can be sewn: it has a segment, no point repeats the one before, and needles may go down
--- there
+-- a line can be sewn: it has a segment, no point repeats the one before, and
+-- needles may go down there
 pub record IsLine (points : List Point) : Type 0 where
   pub long : 2 ≤ length points
   pub moving : HasNoRepeat points

@@ -1,6 +1,5 @@
--- Which lines of a drawing are linked, so that those that touch can be found. Indexes of lines
--- count
--- from 0.
+-- Which lines of a drawing are linked, so that those that touch can be found.
+-- Indexes of lines count from 0.
 use Rattle.std.specs.Prelude.{◌≡◌, ℕ, ◌<◌, ◌==◌, ◌&&◌, ◌⊎◌, Bool, List, [], ◌∷◌, ◌++◌, Option, Some, length, get_or, All, Contains}
 use Rattle.design_model.specs.Points.{is_same_point}
 use Rattle.line_graph.specs.declared.first_lines.Spot.{Spot}

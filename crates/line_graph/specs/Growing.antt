@@ -63,8 +63,8 @@ abbrev pub has_repeat : List Point → Bool
 has_repeat [] = false
 has_repeat (p ∷ rest) = repeats_after p rest
 
--- the steps of the drawing's lines and a further line through these points, or the first fault of
--- that line
+-- the steps of the drawing's lines and a further line through these points, or the
+-- first fault of that line
 abbrev pub steps_with : DrawingValue → List Point → Result ℕ DrawKind
 steps_with d points =
     if nat_lt (length points) 2 then Err kind.FewPoints

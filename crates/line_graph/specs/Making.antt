@@ -31,8 +31,7 @@ pub record AreLines (step : ℕ) (lines : List LineValue) : Type 0 where
   pub cost : step_count step lines ≤ MAX_COST
 
 -- the drawing keeps these limits, and these are what is known of its lines: whether the last block
--- is
--- empty, and how many points and steps there are
+-- is empty, and how many points and steps there are
 pub record IsMade (d : DrawingValue) (empty : Bool) (points steps : ℕ) : Type 0 where
   pub head : IsHead d.label d.step
   pub blocks : AreBlocks d.threads d.lines

@@ -1,6 +1,5 @@
 -- The needle points of a line of straight segments at a longest step, in whole tenths of a
--- millimetre.
--- Costs count steps.
+-- millimetre. Costs count steps.
 use Rattle.std.specs.Prelude.{ℕ, ◌+◌, List, [], ◌∷◌, ◌++◌}
 use Rattle.design_model.specs.declared.point.Point.{Point}
 use Rattle.step_splitter.specs.Steps.{split_points, steps_of}

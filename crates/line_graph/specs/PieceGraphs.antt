@@ -1,6 +1,5 @@
 -- The graph of a piece: its junctions by number, and its lines between them. Junctions count from
--- 0, lines
--- as in the drawing. Costs count steps.
+-- 0, lines as in the drawing. Costs count steps.
 use Rattle.std.specs.Prelude.{ℕ, zero, suc, ◌+◌, ◌%◌, ◌==◌, Bool, true, false, List, [], ◌∷◌, ◌++◌, Option, Some, None, length, map, filter, if◌then◌else◌}
 use Rattle.std.specs.List.{flat_map, list_any, position_or_len, range_with_len}
 use Rattle.std.specs.Option.{option_or}
@@ -12,8 +11,7 @@ use Rattle.line_graph.specs.Pieces.{ends_of, first_line}
 use Rattle.line_graph.specs.Walks.{cost_of_line}
 
 -- lines of one block, the junctions at their ends, an edge for each line, how many line ends are at
--- each
--- junction, and where a walk is to begin and to end, if that is said
+-- each junction, and where a walk is to begin and to end, if that is said
 pub record PieceValue : Type 0 where
   pub block : ℕ
   pub lines : List ℕ
@@ -104,8 +102,7 @@ abbrev pub closed_edges : PieceValue → List Edge
 closed_edges p = closing (from_of p) (to_of p) ++ p.edges
 
 -- an odd number of line ends is at the junction, the line back counted with the others; so start
--- and end
--- of a piece change from odd to even or back, where they differ
+-- and end of a piece change from odd to even or back, where they differ
 abbrev pub is_odd_junction : PieceValue → ℕ → Bool
 is_odd_junction p j = is_odd (degree (closed_edges p) j)
 

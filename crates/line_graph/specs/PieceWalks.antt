@@ -1,8 +1,6 @@
 -- Walks in the graph of a piece, after J. Edmonds and E. L. Johnson, "Matching, Euler tours and the
--- Chinese
--- postman", Mathematical Programming 5 (1973). Lines and edges of a piece stand side by side. Costs
--- count
--- steps.
+-- Chinese postman", Mathematical Programming 5 (1973). Lines and edges of a piece stand side by
+-- side. Costs count steps.
 use Rattle.std.specs.Prelude.{◌≡◌, ℕ, ◌+◌, ◌≤◌, ◌==◌, ◌&&◌, ◌||◌, Bool, true, false, List, [], ◌∷◌, Option, Some, None, nat_lt, if◌then◌else◌}
 use Rattle.std.specs.Option.{option_or}
 use Rattle.line_graph.specs.declared.edge.Edge.{Edge}
@@ -34,8 +32,7 @@ after_pass lines edges pass None = None
 after_pass lines edges pass (Some at) = after_edge (edge_of lines edges pass.line) pass.back at
 
 -- where a walk leads from a junction: nowhere, where a pass is no line of the piece or doesn't
--- start where
--- the one before ends
+-- start where the one before ends
 abbrev pub walk_on : List ℕ → List Edge → Option ℕ → List Pass → Option ℕ
 walk_on lines edges at [] = at
 walk_on lines edges at (pass ∷ rest) = walk_on lines edges (after_pass lines edges pass at) rest
@@ -64,8 +61,8 @@ begin_of p walk = option_or (from_of p) (first_start p.lines p.edges walk)
 abbrev pub finish_of : PieceValue → List Pass → Option ℕ
 finish_of p walk = option_or (to_of p) (first_start p.lines p.edges walk)
 
--- the walk leads from where it is to begin to where it is to end; without a start and an end it is
--- closed
+-- the walk leads from where it is to begin to where it is to end; without a start
+-- and an end it is closed
 abbrev pub leads : PieceValue → List Pass → Bool
 leads p walk = are_one (walk_on p.lines p.edges (begin_of p walk) walk) (finish_of p walk)
 
@@ -79,8 +76,8 @@ abbrev pub covers : List ℕ → List Pass → Bool
 covers [] walk = true
 covers (line ∷ lines) walk = passed line walk && covers lines walk
 
--- a fitting walk: it leads from start to end, or is closed where neither is said, and it passes
--- each line
+-- a fitting walk: it leads from start to end, or is closed where neither is said,
+-- and it passes each line
 abbrev pub fits : PieceValue → List Pass → Bool
 fits p walk = leads p walk && covers p.lines walk
 

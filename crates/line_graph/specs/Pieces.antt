@@ -1,5 +1,5 @@
--- The pieces of a drawing: lines of one block that are joined at their ends. Indexes of lines count
--- from 0.
+-- The pieces of a drawing: lines of one block that are joined at their ends.
+-- Indexes of lines count from 0.
 use Rattle.std.specs.Prelude.{◌≡◌, ◌≢◌, ℕ, ◌<◌, ◌==◌, Bool, true, ◌&&◌, List, [], ◌∷◌, Some, length, map, slice_get, All, AllPairs, Contains}
 use Rattle.std.specs.List.{concat, list_any}
 use Rattle.std.specs.List.Sorted.{IsStrictlyIncreasing}
@@ -44,8 +44,7 @@ first_line [] = 0
 first_line (line ∷ rest) = line
 
 -- the pieces of a drawing, in the order of their first lines: each line is in one of them, and two
--- lines
--- are in the same one where they are joined; the lines of a piece rise
+-- lines are in the same one where they are joined; the lines of a piece rise
 pub record ArePieces (d : DrawingValue) (pieces : List (List ℕ)) : Type 0 where
   pub filled : All (λ piece. piece ≢ []) pieces
   pub there : All (λ line. line < length d.lines) (concat pieces)

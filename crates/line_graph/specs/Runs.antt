@@ -21,8 +21,7 @@ pub record Run : Type 0 where
   pub needles : List Point
 
 -- the acts that sew the runs where the block before was that one: as many stops as a run's block is
--- above
--- it, the needles of the run, none of them a float, and a trim
+-- above it, the needles of the run, none of them a float, and a trim
 abbrev pub acts_after : ℕ → List Run → List Act
 acts_after block [] = []
 acts_after block (run ∷ rest) =
@@ -57,8 +56,8 @@ runs_of d walks = map (run_of d) walks
 abbrev pub Sews : DrawingValue → List (List Pass) → List NumberedAct → Type 0
 Sews d walks acts = bare acts ≡ sewn_acts (runs_of d walks)
 
--- the design of runs: the drawing's label, the threads of its blocks, and the commands that sew the
--- runs
+-- the design of runs: the drawing's label, the threads of its blocks, and the
+-- commands that sew the runs
 abbrev pub design_of_runs : DrawingValue → List Run → DesignValue
 design_of_runs d runs = record {
   label = d.label;
@@ -80,8 +79,8 @@ abbrev pub RunsAreSewn : Type 0
 RunsAreSewn = (d : DrawingValue) (runs : List Run) → All HasNeedle runs
     → bare (acts_of (design_of_runs d runs)) ≡ sewn_acts runs
 
--- the needles of a run: there is one, all are in range, and each lies within the step of the one
--- before
+-- the needles of a run: there is one, all are in range, and each lies within
+-- the step of the one before
 pub record AreNear (step : ℕ) (points : List Point) : Type 0 where
   pub some : points ≢ []
   pub in_range : All IsNeedlePoint points

@@ -1,6 +1,5 @@
 -- Drawings whose lines meet at each point that their block lists at several places: lines are cut
--- there into
--- sections. Costs count steps.
+-- there into sections. Costs count steps.
 use Rattle.std.specs.Prelude.{◌≡◌, ℕ, ◌==◌, Bool, true, false, not, ◌&&◌, nat_le, nat_lt, List, [], ◌∷◌, Result, Ok, Err, length, map, filter, if◌then◌else◌}
 use Rattle.std.specs.List.{count_by, flat_map, list_all, list_any}
 use Rattle.design_model.specs.declared.point.Point.{Point}
@@ -47,8 +46,8 @@ abbrev pub led_from : Point → List (List Point) → List (List Point)
 led_from p [] = (p ∷ []) ∷ []
 led_from p (section ∷ rest) = (p ∷ section) ∷ rest
 
--- the sections of a line from its point p on: it is cut at each point inside it that passes the
--- test
+-- the sections of a line from its point p on: it is cut at each point inside
+-- it that passes the test
 abbrev pub sections_from : (Point → Bool) → Point → List Point → List (List Point)
 sections_from is_cut p [] = (p ∷ []) ∷ []
 sections_from is_cut p (q ∷ rest) =
@@ -64,8 +63,8 @@ sections_of is_cut (p ∷ rest) = sections_from is_cut p rest
 abbrev pub lines_through : ℕ → List (List Point) → List LineValue
 lines_through block sections = map (λ points. record { block = block; points = points }) sections
 
--- the sections of a line that stands among these lines: it is cut where its block lists a point
--- again
+-- the sections of a line that stands among these lines: it is cut where its
+-- block lists a point again
 abbrev pub line_sections : List LineValue → LineValue → List LineValue
 line_sections lines line =
     lines_through line.block (sections_of (is_shared lines line.block) line.points)

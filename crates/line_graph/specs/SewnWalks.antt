@@ -12,8 +12,7 @@ use Rattle.line_graph.specs.Runs.{AreNear, runs_of, stops_after}
 use Rattle.line_graph.specs.Walks.{needles_of_walk}
 
 -- the passes of a walk go along these lines; its needles are one more than it costs, in range, and
--- each within
--- the step of the one before
+-- each within the step of the one before
 pub record IsSewable (d : DrawingValue) (lines : List ℕ) (walk : List Pass) : Type 0 where
   pub there : All (λ (pass : Pass). Contains lines pass.line) walk
   pub penetrations : length (needles_of_walk d walk) ≡ walk_cost (piece_of d lines) walk + 1
@@ -31,8 +30,7 @@ pub record GoesAlong (lines : List ℕ) (walk : List Pass) : Type 0 where
   pub there : All (λ (pass : Pass). Contains lines pass.line) walk
 
 -- the pieces of a drawing cost no more than the drawing may, are no more than its lines, and walks
--- along them
--- in order have no more stops between them than there are blocks behind the first
+-- along them in order have no more stops between them than there are blocks behind the first
 pub record ArePiecesWithin (d : DrawingValue) (pieces : List (List ℕ)) : Type 0 where
   pub cost : sum_by (λ lines. piece_cost (piece_of d lines)) pieces ≤ MAX_COST
   pub count : length pieces ≤ MAX_LINES

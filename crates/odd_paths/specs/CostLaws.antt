@@ -6,10 +6,8 @@ use Rattle.line_graph.specs.PieceGraphs.{PieceValue}
 use Rattle.odd_paths.specs.LeastRows.{IsLeastCost}
 
 -- a junction is at no cost from itself alone, the way back costs the same, a line changes a least
--- cost
--- by no more than its own, and a way through a third junction costs no less, also where that
--- junction is
--- one to which both lead
+-- cost by no more than its own, and a way through a third junction costs no less, also where that
+-- junction is one to which both lead
 pub record AreDistances (p : PieceValue) : Type 0 where
   pub home : (i d : ℕ) → IsLeastCost p i i d → d ≡ 0
   pub apart : (i j d : ℕ) → i ≢ j → IsLeastCost p i j d → 1 ≤ d

@@ -1,6 +1,5 @@
 -- Tables with a lane of sixteen costs for each junction, one from each of sixteen terminals. A
--- column
--- of a table is the row of one of these terminals.
+-- column of a table is the row of one of these terminals.
 use Rattle.std.specs.Prelude.{◌≡◌, ℕ, ◌+◌, ◌<◌, ◌≤◌, List, [], ◌∷◌, ◌++◌, Vec, length, map, min, slice_index, slice_set, sum, sum_by}
 use Rattle.std.proofs.Common.{Global}
 use Rattle.line_graph.specs.declared.edge.Edge.{Edge}

@@ -9,8 +9,7 @@ abbrev pub LeadsFrom : PieceValue → ℕ → ℕ → List Pass → Type 0
 LeadsFrom p i j walk = walk_on p.lines p.edges (Some i) walk ≡ Some j
 
 -- a walk of that cost leads from one junction to the other, and none costs less; the walk without a
--- pass
--- leads from each junction to itself
+-- pass leads from each junction to itself
 pub record IsLeastCost (p : PieceValue) (i j cost : ℕ) : Type 0 where
   pub walk : List Pass
   pub leads : LeadsFrom p i j walk
@@ -50,8 +49,7 @@ pub record AreTerminals (p : PieceValue) (terminals : List ℕ) : Type 0 where
   pub there : All (λ t. t < length p.junctions) terminals
 
 -- the rows of a piece for these terminals: each number is the least cost from the row's terminal to
--- the
--- junction, and no more than all lines cost
+-- the junction, and no more than all lines cost
 pub record AreRows (p : PieceValue) (rows : RowsValue) : Type 0 where
   pub terminals : AreTerminals p rows.terminals
   pub sized : length rows.table ≡ length rows.terminals
@@ -65,8 +63,8 @@ pub record AreRows (p : PieceValue) (rows : RowsValue) : Type 0 where
 abbrev pub lines_at : PieceValue → List ℕ → List ℕ
 lines_at p places = map (λ k. get_or p.lines k 0) places
 
--- the places are those of the lines of a walk of that cost from one junction to the other, in its
--- order
+-- the places are those of the lines of a walk of that cost from one junction to
+-- the other, in its order
 pub record IsPath (p : PieceValue) (i j cost : ℕ) (places : List ℕ) : Type 0 where
   pub there : All (λ k. k < length p.lines) places
   pub walk : List Pass

@@ -1,14 +1,13 @@
 -- Sinks in memory: the bytes so far, the room for them, the numbers of the puts that are to fail,
--- the
--- number of puts so far, and the faults.
+-- the number of puts so far, and the faults.
 use Rattle.std.specs.Prelude.{◌≡◌, ℕ, ◌+◌, Bool, true, false, ◌||◌, List, [], ◌++◌, length, Some, Result, Ok, Err, nat_lt}
 use Rattle.outside_io.specs.declared.store.Failed.{Failed}
 use Rattle.outside_io.specs.Counts.{counted_on}
 use Rattle.outside_io.specs.MemStores.{is_listed}
 use Rattle.outside_io.specs.Sights.{SinkSight}
 
--- the bytes and their room, the numbers of the puts that are to fail, the puts and the faults so
--- far
+-- the bytes and their room, the numbers of the puts that are to fail, the
+-- puts and the faults so far
 pub record MemSinkValue : Type 0 where
   pub bytes : List ℕ
   pub room : ℕ

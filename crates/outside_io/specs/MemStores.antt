@@ -1,6 +1,5 @@
 -- Stores in memory: an entry for each name that has a file or room, the numbers of the calls that
--- are
--- to fail, the number of calls so far, and the faults.
+-- are to fail, the number of calls so far, and the faults.
 use Rattle.std.specs.Prelude.{◌≡◌, ℕ, ◌+◌, ◌==◌, Bool, true, false, not, ◌||◌, List, [], ◌∷◌, ◌++◌, length, take, drop, Option, Some, None, Result, Ok, Err, if◌then◌else◌, is_some, nat_lt, max, min, unwrap_or, option_map, option_and_then, find, bytes_eq}
 use Rattle.std.specs.List.{list_any}
 use Rattle.outside_io.specs.declared.store.Failed.{Failed}
@@ -132,8 +131,7 @@ after_fault store call = record store {
 }
 
 -- what each answer to a read means; it fails where its number is listed, and nowhere else. Bytes of
--- the
--- content from the offset on stand at the buffer's front, and the others of the buffer stay
+-- the content from the offset on stand at the buffer's front, and the others of the buffer stay
 abbrev pub MemReads : MemStoreValue → MemStoreValue → List ℕ → ℕ → (before after : List ℕ)
     → Result ℕ ReadStop → Type 0
 MemReads old new name offset before after (Ok count) =

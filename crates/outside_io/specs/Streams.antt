@@ -1,5 +1,5 @@
--- Streams of the system: the bytes that a writer holds, where these are known, and the faults so
--- far.
+-- Streams of the system: the bytes that a writer holds, where these are
+-- known, and the faults so far.
 use Rattle.std.specs.Prelude.{◌≡◌, ℕ, List, ◌++◌, Option, Result, Ok, Err}
 use Rattle.std.specs.Io.KnownBytes.{Appends}
 use Rattle.outside_io.specs.declared.store.Failed.{Failed}
@@ -16,8 +16,8 @@ pub record AddsUpTo (old new : Option (List ℕ)) (bytes left : List ℕ) : Type
   pub parts : first ++ left ≡ bytes
   pub added : Appends old new first
 
--- what each answer to a put means: all bytes were added, or some first ones and one fault was
--- counted
+-- what each answer to a put means: all bytes were added, or some first ones
+-- and one fault was counted
 abbrev pub StreamPuts : {T : Type 0} → StreamValue → StreamValue → List ℕ → Result T Failed → Type 0
 StreamPuts old new bytes (Ok _) = Appends old.held new.held bytes × (new.faults ≡ old.faults)
 StreamPuts old new bytes (Err _) =

@@ -1,7 +1,6 @@
--- The coordinates of a record's move, in tenths of a millimetre. A byte below 128 is a number of 7
--- bits
--- by itself. Else a number of 12 bits stands in two bytes, the higher first, and the first has the
--- marks:
+-- The coordinates of a record's move, in tenths of a millimetre. A byte below 128 is a number
+-- of 7 bits by itself. Else a number of 12 bits stands in two bytes, the higher first, and
+-- the first has the marks:
 --
 --          bit 7  bit 6  bit 5  bit 4  bits 3 to 0
 --   first   set   any    trim   jump   high bits

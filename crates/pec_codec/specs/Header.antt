@@ -1,6 +1,6 @@
--- The header of a block: its label and the threads of its blocks of colour in 512 bytes, then 16
--- bytes with the distance to the thumbnails and the size of the design. Words have the low byte
--- first.
+-- The header of a block: its label and the threads of its blocks of colour in 512 bytes,
+-- then 16 bytes with the distance to the thumbnails and the size of the design. Words
+-- have the low byte first.
 use Rattle.std.specs.Prelude.{ℕ, ◌+◌, nat_eq, List, [], ◌∷◌, ◌++◌, take, drop, map, replicate, Option, slice_index, ◌==◌, codes, if◌then◌else◌}
 use Rattle.std.specs.List.{range_with_len, starts_with}
 use Rattle.byteorder.specs.Endian.{little_bytes}
@@ -15,8 +15,8 @@ use Rattle.pec_codec.specs.declared.block.TheConstants.{LABELS_LENGTH}
 abbrev pub threads_of : DesignValue → ℕ → List ℕ
 threads_of d count = map (thread_of d) (range_with_len 0 count)
 
--- the label and the threads of a design with so many stops; the number of its blocks is told less
--- one
+-- the label and the threads of a design with so many stops; the number of its
+-- blocks is told less one
 abbrev pub labels_of : DesignValue → ℕ → List ℕ
 labels_of d stops = codes "LA:" ++ label_field d.label ++ 13 ∷ replicate 12 32
     ++ 255 ∷ 0 ∷ 6 ∷ 38 ∷ replicate 12 32 ++ stops ∷ threads_of d (stops + 1)

@@ -1,6 +1,5 @@
 -- The records of a block: the end, stops, and moves of two coordinates. An incomplete one at the
--- end of
--- the bytes is none.
+-- end of the bytes is none.
 use Rattle.std.specs.Prelude.{ℕ, zero, suc, ◌+◌, ◌-◌, Bool, true, false, ◌&&◌, ◌||◌, List, [], ◌∷◌, drop, Option, Some, None, ◌==◌, if◌then◌else◌}
 use Rattle.design_model.specs.declared.point.Point.{Point}
 use Rattle.format_traits.specs.declared.event.Event.{Event}

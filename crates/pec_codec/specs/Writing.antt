@@ -1,5 +1,5 @@
--- What a design is written as: a header, the records of its acts in order and their end, and blank
--- thumbnails.
+-- What a design is written as: a header, the records of its acts in order and their
+-- end, and blank thumbnails.
 use Rattle.std.specs.Prelude.{ℕ, ◌+◌, ◌-◌, ◌*◌, List, [], ◌∷◌, ◌++◌, length, replicate, Some, None, Result}
 use Rattle.std.specs.List.{concat}
 use Rattle.design_model.specs.Acts.{acts_of}

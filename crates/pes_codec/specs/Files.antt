@@ -19,7 +19,6 @@ abbrev pub pec_front : List ℕ
 pec_front = codes "#PEC0001"
 
 -- the front of a PES file of version 1 without sewing segments: its signature and version, the
--- offset of
--- the block, and ten bytes that tell nothing
+-- offset of the block, and ten bytes that tell nothing
 abbrev pub pes_front : List ℕ
 pes_front = codes "#PES0001" ++ little_bytes 4 22 ++ replicate 10 0

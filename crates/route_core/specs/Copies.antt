@@ -1,5 +1,5 @@
--- Copies of the lines of a piece, one for each line of the paths between matched junctions. Costs
--- count steps.
+-- Copies of the lines of a piece, one for each line of the paths between matched
+-- junctions. Costs count steps.
 use Rattle.std.specs.Prelude.{◌≡◌, ℕ, zero, suc, ◌+◌, ◌*◌, ◌%◌, ◌<◌, ◌==◌, List, [], ◌∷◌, length, slice_get}
 use Rattle.blossom_match.specs.declared.matching.Pair.{Pair}
 use Rattle.line_graph.specs.declared.edge.Edge.{Edge}
@@ -57,8 +57,7 @@ pub record IsPairOf (rows : RowsValue) (q : Pair) : Type 0 where
   pub b_in : q.b < length rows.terminals
 
 -- further copies for least walks between the pairs: they cost what these walks cost, and change the
--- parity of
--- the ends of passes at a junction as often as it is an end of a pair
+-- parity of the ends of passes at a junction as often as it is an end of a pair
 pub record AddsPairs (p : PieceValue) (rows : RowsValue) (pairs : List Pair)
     (old new : List ℕ) : Type 0 where
   pub sized : length new ≡ length old

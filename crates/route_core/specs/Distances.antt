@@ -5,8 +5,8 @@ use Rattle.blossom_match.specs.TableValue.{TableValue}
 use Rattle.line_graph.specs.PieceGraphs.{PieceValue}
 use Rattle.odd_paths.specs.LeastRows.{AreRows, RowsValue, cost_at, terminal_of}
 
--- the entry of two terminals is the least cost from the first to the second, and from a terminal to
--- itself 0
+-- the entry of two terminals is the least cost from the first to the second, and
+-- from a terminal to itself 0
 pub record HasDistances (rows : RowsValue) (t : TableValue) : Type 0 where
   pub entries : (a b : ℕ) → a < b → b < t.places → entry t a b ≡ cost_at rows a (terminal_of rows b)
   pub none : (a : ℕ) → a < t.places → entry t a a ≡ 0

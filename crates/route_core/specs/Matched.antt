@@ -1,5 +1,5 @@
--- The odd junctions of a piece in pairs, with moats that pay for them. Costs count steps, widths
--- halves of a step.
+-- The odd junctions of a piece in pairs, with moats that pay for them. Costs count steps,
+-- widths halves of a step.
 use Rattle.std.specs.Prelude.{◌≡◌, ◌*◌, ◌+◌, ◌<◌, ◌≤◌, ◌^◌, true, List, None, length, All}
 use Rattle.blossom_match.specs.declared.matching.Moat.{Moat}
 use Rattle.blossom_match.specs.declared.matching.Pair.{Pair}
@@ -17,8 +17,8 @@ pub record AreOddRows (p : PieceValue) (rows : RowsValue) : Type 0 where
   pub rows_are : AreRows p rows
   pub terminals : rows.terminals ≡ odd_junctions p
 
--- pairs of all odd junctions, and few moats that are twice as wide as least walks between the pairs
--- cost
+-- pairs of all odd junctions, and few moats that are twice as wide as least
+-- walks between the pairs cost
 pub record IsMatched (p : PieceValue) (rows : RowsValue) (pairs : List Pair)
     (moats : List Moat) : Type 0 where
   pub moats_are : AreMoats p rows moats

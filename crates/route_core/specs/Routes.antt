@@ -1,6 +1,5 @@
 -- The route of a drawing: for each piece a walk that none undercuts, and cuts that prove it.
--- Weights of cuts
--- count halves of a step, costs count steps.
+-- Weights of cuts count halves of a step, costs count steps.
 use Rattle.std.specs.Prelude.{◌≡◌, ℕ, ◌+◌, List, length, map, All}
 use Rattle.std.specs.List.{AllZip}
 use Rattle.cut_certificate.specs.declared.certificate.PieceCert.{PieceCert}
@@ -20,16 +19,15 @@ abbrev pub walks_of : List PieceCert → List (List Pass)
 walks_of certs = map (λ (cert : PieceCert). cert.walk) certs
 
 -- the certificate proves the walk least over the piece of these lines, and the needle goes down
--- once more often
--- than the walk costs steps
+-- once more often than the walk costs steps
 pub record IsBest (d : DrawingValue) (lines : List ℕ) (cert : PieceCert) : Type 0 where
   pub proved : Proves (piece_of d lines) cert
   pub penetrations : length (needles_of_walk d cert.walk)
       ≡ walk_cost (piece_of d lines) cert.walk + 1
 
--- the route over the pieces of a drawing: a certificate that is right for each of them in order,
--- and the design
--- that sews its walks, which every format can write whose limit the drawing's step keeps
+-- the route over the pieces of a drawing: a certificate that is right for each of them
+-- in order, and the design that sews its walks, which every format can write whose
+-- limit the drawing's step keeps
 pub record IsRouteOver (d : DrawingValue) (pieces : List (List ℕ)) (routed : Routed) : Type 0 where
   pub pieces_are : ArePieces d pieces
   pub best : AllZip (IsBest d) pieces routed.cert.pieces

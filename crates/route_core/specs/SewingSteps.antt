@@ -15,8 +15,7 @@ abbrev pub with_commands : DesignValue → List Command → DesignValue
 with_commands d more = record d { commands = d.commands ++ more }
 
 -- the commands of a run after one in the block before: as many stops as its block is above that, a
--- stitch at
--- each needle, and a trim
+-- stitch at each needle, and a trim
 abbrev pub run_commands : (before block : ℕ) → List Point → List Command
 run_commands before block points =
     replicate (block - before) command.Stop

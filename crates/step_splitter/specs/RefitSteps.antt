@@ -40,8 +40,8 @@ RefuseActs m limit acts (fault.TooMany number) =
     (MAX_COMMANDS < length (refitted_commands m limit acts)) × IsFirstPast m limit acts number
 RefuseActs m limit acts fault.Memory = Unit {0}
 
--- what each answer means where the commands of all refitted acts are added to a design without
--- commands
+-- what each answer means where the commands of all refitted acts are added to a
+-- design without commands
 abbrev pub RefitsAll : {T : Type 0} → RefitMode → ℕ → List NumberedAct → DesignValue
     → Result T RefitFault
     → DesignValue → Type 0

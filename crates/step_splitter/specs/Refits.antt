@@ -26,8 +26,8 @@ is_far limit p q = not (is_within limit (move_between p q))
 abbrev pub needles_at : List Point → List Act
 needles_at points = map (λ p. act.Needle p false) points
 
--- a needle too far from the one before, if neither loose nor a float, gives way to the ends of the
--- steps to it
+-- a needle too far from the one before, if neither loose nor a float, gives way to the
+-- ends of the steps to it
 abbrev pub split_needle : ℕ → Bool → Point → Point → Bool → List Act
 split_needle limit loose place p true = act.Needle p true ∷ []
 split_needle limit loose place p false =
@@ -39,8 +39,8 @@ abbrev pub cut_needle : Point → Bool → List Act
 cut_needle p true = act.Trim ∷ act.Needle p false ∷ []
 cut_needle p false = act.Needle p false ∷ []
 
--- the acts in the place of a needle; the thread is loose or not, and the needle before was at that
--- place
+-- the acts in the place of a needle; the thread is loose or not, and the needle
+-- before was at that place
 abbrev pub refitted_needle : RefitMode → ℕ → Bool → Point → Point → Bool → List Act
 refitted_needle mode.Split limit loose place p float = split_needle limit loose place p float
 refitted_needle mode.Cut limit loose place p float = cut_needle p float
@@ -106,8 +106,8 @@ refitted_commands m limit acts = commands_of (refitted_acts m limit (bare acts))
 abbrev pub refitted_design : RefitMode → ℕ → DesignValue → DesignValue
 refitted_design m limit d = record d { commands = refitted_commands m limit (acts_of d) }
 
--- with the act of the command of that number, and with none before, there are more commands than a
--- design may have
+-- with the act of the command of that number, and with none before, there are more
+-- commands than a design may have
 pub record IsFirstPast (m : RefitMode) (limit : ℕ) (acts : List NumberedAct)
     (number : ℕ) : Type 0 where
   pub before : List NumberedAct

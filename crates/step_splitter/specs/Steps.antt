@@ -1,6 +1,5 @@
 -- The steps of a segment, in whole tenths of a millimetre. Own rule: as few steps as the longest
--- step
--- allows on each axis, of equal size before each end is rounded towards the lesser number.
+-- step allows on each axis, of equal size before each end is rounded towards the lesser number.
 use Rattle.std.specs.Prelude.{ℕ, ℤ, pos, negsuc, ◌/◌, ◌+ℤ◌, ◌-ℤ◌, ◌*ℤ◌, List, map}
 use Rattle.std.specs.Int.{div_ceil}
 use Rattle.std.specs.List.{range_with_len}

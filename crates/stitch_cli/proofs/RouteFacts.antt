@@ -26,8 +26,8 @@ strokes = record {
 abbrev retraced : ℕ → PieceCert
 retraced cost = record { retraced = cost; walk = []; cuts = [] }
 
--- each stroke there and back; pieces are counted through the whole drawing, and the needle goes down once more often
--- than it makes steps
+-- each stroke there and back; pieces are counted through the whole drawing, and the needle goes
+-- down once more often than it makes steps
 pub known_report : route_report (piece_reports strokes 1 ((0 ∷ []) ∷ (1 ∷ 2 ∷ []) ∷ []) (retraced 4 ∷ retraced 5 ∷ []))
     ≡ codes "block 1 piece 1 lines 1 cost 4 retraced 4 penetrations 9" ++ (line_end
     ++ (codes "block 2 piece 2 lines 2 cost 5 retraced 5 penetrations 11" ++ (line_end

@@ -1,6 +1,5 @@
 -- What the command `check` comes to: whether a design sews a drawing by the walks of a certificate,
--- and the
--- certificate proves that none undercuts them.
+-- and the certificate proves that none undercuts them.
 use Rattle.std.specs.Prelude.{◌≡◌, ℕ, List, ◌++◌, Result, Ok, Err, codes}
 use Rattle.cut_certificate.specs.declared.certificate.PieceCert.{PieceCert}
 use Rattle.certificate_text.specs.CertificateTexts.{line_end}
@@ -19,8 +18,8 @@ use Rattle.stitch_cli.specs.Plans.{Plan, decides, reads, refuses}
 use Rattle.stitch_cli.specs.Products.{ProductValue, only_report}
 use Rattle.stitch_cli.specs.Refusals.{RefusalValue, disproved, uncertified, undrawn, unread}
 
--- the verdict is yes: the design sews for each piece of the drawing a fitting walk that none
--- undercuts
+-- the verdict is yes: the design sews for each piece of the drawing a fitting
+-- walk that none undercuts
 pub record IsProved (d : DrawingValue) (design : DesignValue) (certs : List PieceCert)
     (product : ProductValue) : Type 0 where
   pub verdict : IsVerdict d design certs verdict.Yes

@@ -27,14 +27,14 @@ status_of (halt.NotRead name) = status.Fault
 status_of (halt.Refused why) = status.Refused
 status_of halt.Memory = status.Memory
 
--- the text is on the standard error and the status is as planned; or it could not be put there, and
--- the status is `Fault`
+-- the text is on the standard error and the status is as planned; or it could not be put there,
+-- and the status is `Fault`
 abbrev pub Tells : List ℕ → Status → SinkSight → SinkSight → Status → Type 0
 Tells text planned err err' s =
     ((s ≡ planned) × (err' ≡ fed err text)) ⊎ ((s ≡ status.Fault) × Broke err err' text)
 
--- of these bytes some first ones were put and the others are in the line; or a put failed on their
--- way
+-- of these bytes some first ones were put and the others are in the line; or a
+-- put failed on their way
 pub record Gathers {T : Type 0} (bytes line : List ℕ) (before after : SinkSight)
     (result : Result T Failed) : Type 0 where
   pub ok : OnOk result ((first : List ℕ) × (first ++ line ≡ bytes) × (after ≡ fed before first))
@@ -70,8 +70,8 @@ pub record Prepares (plan : Plan) (store store' : StoreSight)
 pub record Settles (plan : Plan) (result : Result Product Halt) : Type 0 where
   pub at : (store : StoreSight) → IsPrepared plan store store result
 
--- what words come to: nothing where they ask for none, and else what the plan of their order comes
--- to
+-- what words come to: nothing where they ask for none, and else what the plan
+-- of their order comes to
 abbrev pub Answers : Option Order → StoreSight → StoreSight → Result Product Halt → Type 0
 Answers None store store' result = (result ≡ Err halt.Unasked) × (store' ≡ store)
 Answers (Some order) store store' result = Prepares (plan_of order) store store' result

@@ -13,8 +13,7 @@ use Rattle.stitch_cli.specs.Refusals.{undrawn}
 use Rattle.stitch_cli.specs.Reports.{migrate_report}
 
 -- a drawing is written in its plain spelling of version 2, and the report counts its lines and its
--- pieces and
--- tells what the lines cost
+-- pieces and tells what the lines cost
 pub record IsMigrated (output : List ℕ) (d : DrawingValue) (product : ProductValue) : Type 0 where
   pub pieces : List (List ℕ)
   pub pieces_are : ArePieces d pieces

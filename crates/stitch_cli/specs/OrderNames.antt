@@ -36,8 +36,8 @@ pub record ShowOrder : Type 0 where
   pub file : List ℕ
   pub format : Meaning
 
--- the file that is read and the one that is written, what their formats mean, and the changes
--- between
+-- the file that is read and the one that is written, what their formats mean,
+-- and the changes between
 pub record RewriteOrder : Type 0 where
   pub input : List ℕ
   pub output : List ℕ

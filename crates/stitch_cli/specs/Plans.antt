@@ -1,6 +1,5 @@
--- What a command does with the files that it reads: one after another, and the first step that does
--- not succeed
--- decides.
+-- What a command does with the files that it reads: one after another, and the first step that
+-- does not succeed decides.
 use Rattle.std.specs.Prelude.{◌≡◌, ◌⊎◌, ℕ, ◌≤◌, List, length, Option, Result, Ok, Err}
 use Rattle.outside_io.specs.Causes.{IsLonger}
 use Rattle.outside_io.specs.Files.{Files, HoldsNow, Lacks, WhereTold}
@@ -9,8 +8,7 @@ use Rattle.stitch_cli.specs.Products.{ProductValue}
 use Rattle.stitch_cli.specs.Refusals.{RefusalValue, too_long}
 
 -- a plan: to read a file and go on by its bytes; to be refused; to be accepted, and to make a
--- product of which
--- this holds; or to be decided, by a relation that tells the product or the reason
+-- product of which this holds; or to be decided, by a relation that tells the product or the reason
 pub data Plan : Type 1 where
   reads : (name : List ℕ) → (List ℕ → Plan) → Plan
   refuses : RefusalValue → Plan

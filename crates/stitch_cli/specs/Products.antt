@@ -83,8 +83,8 @@ pub record Wrote (outputs : List Written) (before after : StoreSight) : Type 0 w
   pub faults : after.faults ≡ before.faults
   pub blame : after.blame ≡ before.blame
 
--- the file of that name, one of the outputs, could not be written: those before it are written, and
--- those after it aren't
+-- the file of that name, one of the outputs, could not be written: those before it are written,
+-- and those after it aren't
 pub record WroteUpTo (outputs : List Written) (name : List ℕ)
     (before after : StoreSight) : Type 0 where
   pub done : List Written

@@ -1,6 +1,5 @@
 -- Why a check says no, as a line on the standard error. Pieces, passes, cuts, junctions, lines and
--- acts are told by
--- number, from 1.
+-- acts are told by number, from 1.
 use Rattle.std.specs.Prelude.{ℕ, List, [], ◌++◌, codes, decimal}
 use Rattle.cut_certificate.specs.declared.faults.CutFault.{CutFault}
 use Rattle.cut_certificate.specs.declared.faults.CutFault.TheVariants as cut

@@ -1,5 +1,5 @@
--- Why an order is refused: each reason with what its line says. A name is the bytes of a file's
--- name.
+-- Why an order is refused: each reason with what its line says. A name is the
+-- bytes of a file's name.
 use Rattle.std.specs.Prelude.{ℕ, List}
 use Rattle.drawing_text.specs.declared.draw_fault.DrawFault.{DrawFault}
 use Rattle.format_traits.specs.declared.fault.ReadFault.{ReadFault}

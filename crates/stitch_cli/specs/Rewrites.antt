@@ -21,8 +21,7 @@ written_report counts = number_text (codes "needles ") counts.needles
     ++ (number_text (codes " trims ") counts.trims ++ number_line (codes " stops ") counts.stops)
 
 -- the design becomes another by the changes, and that is written: what is written reads again as
--- the same
--- acts, and no record of it moves farther than the limit
+-- the same acts, and no record of it moves farther than the limit
 pub record Rewritten (order : RewriteOrder) (loaded : Loaded)
     (product : ProductValue) : Type 0 where
   pub design : DesignValue

@@ -41,8 +41,8 @@ piece_report p number cert = record {
   retraced = cert.retraced;
 }
 
--- what the report says of pieces of a drawing, each with its certificate, numbered from that number
--- on
+-- what the report says of pieces of a drawing, each with its certificate,
+-- numbered from that number on
 abbrev pub piece_reports : DrawingValue → ℕ → List (List ℕ) → List PieceCert → List PieceReport
 piece_reports d number [] certs = []
 piece_reports d number (lines ∷ pieces) [] = []
@@ -61,8 +61,7 @@ pub record IsRouted (format : Meaning) (d : DrawingValue)
   pub report_is : report ≡ route_report (piece_reports d 1 pieces certs)
 
 -- what an accepted drawing makes: the certificate of best walks, which is written first, the file
--- of the
--- design that sews it by them, and the report
+-- of the design that sews it by them, and the report
 pub record RouteMakes (order : RouteOrder) (d : DrawingValue)
     (product : ProductValue) : Type 0 where
   pub design : List ℕ

@@ -19,8 +19,7 @@ abbrev pub AsksFor : Option Order → Order → Type 0
 AsksFor asked order = asked ≡ Some order
 
 -- `Done`: the words ask for an order that makes this product: its outputs are written and its
--- report
--- is printed, and nothing stands on the standard error
+-- report is printed, and nothing stands on the standard error
 pub record IsDone (asked : Option Order) (before after : Sights) : Type 0 where
   pub order : Order
   pub asks : AsksFor asked order
@@ -94,10 +93,9 @@ KeepsOthers (Some order) before after = ChangesAmong
 abbrev pub IsOrMemory : Status → Status → Type 0
 IsOrMemory s planned = (s ≡ planned) ⊎ (s ≡ status.Memory)
 
--- the words and the files decide, where files are told: nothing asked for is `Usage`; an order that
--- is accepted
--- is done, one that is refused is refused, and one whose file is not there fails, unless memory
--- runs out
+-- the words and the files decide, where files are told: nothing asked for is `Usage`; an order
+-- that is accepted is done, one that is refused is refused, and one whose file is not there
+-- fails, unless memory runs out
 pub record IsDecided (asked : Option Order) (files : Option Files) (s : Status) : Type 0 where
   pub usage : asked ≡ None → s ≡ status.Usage
   pub done : (order : Order) → AsksFor asked order → IsSome files → IsAccepted (plan_of order) files
@@ -109,8 +107,7 @@ pub record IsDecided (asked : Option Order) (files : Option Files) (s : Status) 
       → IsOrMemory s status.Fault
 
 -- how a run ends: what its status means, what stays whatever the status is, and that where no count
--- of faults
--- rises the words and the files decide it
+-- of faults rises the words and the files decide it
 pub record RunEnds (asked : Option Order) (before after : Sights) (s : Status) : Type 0 where
   pub done : s ≡ status.Done → IsDone asked before after
   pub refused : s ≡ status.Refused → IsRefused asked before after

@@ -36,8 +36,7 @@ abbrev pub cut_sum : List PieceCert → ℕ
 cut_sum certs = sum_by (λ cert. total_of cert.cuts) certs
 
 -- what is told of the drawing with that number and of a route over its pieces: each walk puts the
--- needle down
--- once more often than it costs steps
+-- needle down once more often than it costs steps
 abbrev pub summary_of : ℕ → DrawingValue → List (List ℕ) → List PieceCert → Summary
 summary_of number d pieces certs = record {
   number = number;

@@ -72,14 +72,14 @@ read_line name read.Memory = memory_line
 abbrev pub command_line : List ℕ → ℕ → List ℕ → List ℕ
 command_line name number text = line_at name (codes ": command ") (decimal number) text
 
--- a line about a command that is too long a stitch for a format with that limit, the numbers as
--- digits
+-- a line about a command that is too long a stitch for a format with that
+-- limit, the numbers as digits
 abbrev pub long_text : (name number limit : List ℕ) → List ℕ
 long_text name number limit = codes "stitch: " ++ (name ++ (codes ": command " ++ (number
     ++ (codes ": stitch longer than " ++ (limit ++ line_end)))))
 
--- why a design was not written, the limit of its format being that; want of memory has a line of
--- its own
+-- why a design was not written, the limit of its format being that; want of
+-- memory has a line of its own
 abbrev pub write_line : List ℕ → ℕ → WriteFault → List ℕ
 write_line name limit (write.StitchTooLong number) = long_text name (decimal number) (decimal limit)
 write_line name limit (write.FloatTooLong number) =
@@ -90,8 +90,8 @@ write_line name limit (write.TooLong number) =
     command_line name number (codes "more than 1000000 commands written")
 write_line name limit write.Memory = memory_line
 
--- a line about a place for a thread, counted from 1, that the design does not have, the numbers as
--- digits
+-- a line about a place for a thread, counted from 1, that the design does not
+-- have, the numbers as digits
 abbrev pub place_text : (name place count : List ℕ) → List ℕ
 place_text name place count = codes "stitch: " ++ (name ++ (codes ": no colour place " ++ (place
     ++ (codes ", there are " ++ (count ++ line_end)))))
