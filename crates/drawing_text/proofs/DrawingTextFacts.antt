@@ -47,6 +47,8 @@ two_squares = record {
     block = 1;
     points = place (pos 300) (pos 0) ∷ place (negsuc 29) (pos 0) ∷ place (pos 300) (pos 0) ∷ [];
   } ∷ [];
+  starts = [];
+  ends = [];
 }
 
 pub known_drawing : drawing_of (text (codes "# squares" ∷ [] ∷ codes " redwork  1 " ∷ codes "step 030"
@@ -60,7 +62,7 @@ abbrev crossing : List (List ℕ)
 crossing = codes "step 10" ∷ codes "color 1" ∷ codes "line 0 0 10 0 20 0" ∷ codes "line 10 -10 10 0 10 10" ∷ []
 
 abbrev drawn : List LineValue → DrawingValue
-drawn lines = record { label = []; step = 10; threads = 1 ∷ []; lines = lines }
+drawn lines = record { label = []; step = 10; threads = 1 ∷ []; lines = lines; starts = []; ends = [] }
 
 abbrev uncut : DrawingValue
 uncut = drawn (lines_through 0 ((place (pos 0) (pos 0) ∷ place (pos 10) (pos 0) ∷ place (pos 20) (pos 0) ∷ [])
@@ -87,7 +89,7 @@ Tells lines number why = drawing_of (text lines) ≡ Err (record { number = numb
 pub known_headers : Tells [] 1 kind.BadHeader
     × Tells (codes "# a" ∷ [] ∷ []) 3 kind.BadHeader
     × Tells (codes "redwork 01" ∷ []) 1 kind.BadHeader
-    × Tells (codes "redwork 3" ∷ []) 1 kind.BadHeader
+    × Tells (codes "redwork 4" ∷ []) 1 kind.BadHeader
     × Tells ([] ∷ codes "redwork 1 2" ∷ []) 2 kind.BadHeader
     × Tells (codes "redwork" ∷ []) 1 kind.BadHeader
 known_headers = (refl, refl, refl, refl, refl, refl)

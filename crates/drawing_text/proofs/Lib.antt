@@ -8,3 +8,4 @@ mod SpelledBlocks
 mod SpelledLines
 mod SpelledDrawings
 mod DrawingTextFacts
+mod EndTextFacts

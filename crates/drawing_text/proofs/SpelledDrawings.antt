@@ -1,5 +1,6 @@
 -- The plain spelling of a drawing is read as that drawing.
 use Rattle.std.proofs.Common.{◌≡◌, ◌≢◌, ℕ, zero, suc, ◌+◌, ◌-◌, ◌<◌, ◌≤◌, ◌==◌, Bool, true, false, not, nat_lt, List, [], ◌∷◌, ◌++◌, Result, Ok, length, codes, sum_by, All, ap, sym, subst, ◌∙◌, refl, append_assoc, append-nil, length-append, arith}
+use Rattle.std.proofs.Math.Path.{ap₂}
 use Rattle.std.proofs.lemmas.Bool.Decides.{nat_tests}
 use Rattle.std.proofs.lemmas.List.Concat.{flat_map-cons}
 use Rattle.std.proofs.lemmas.List.Elements.{All-filter, All-head, All-tail, All-weaker, filter_passes}
@@ -11,7 +12,9 @@ use Rattle.design_model.specs.Labels.{IsLabel}
 use Rattle.line_graph.specs.Drawings.{DrawingValue, IsLine, KeepsDrawing, LineValue}
 use Rattle.line_graph.specs.Growing.{and_then, finished, is_last_empty, point_count, step_count, with_block, with_line}
 use Rattle.line_graph.specs.Needles.{line_steps}
-use Rattle.line_graph.specs.Sections.{JoinedStay, is_joined}
+use Rattle.line_graph.specs.Sections.{JoinedStay, joined_drawing}
+use Rattle.line_graph.specs.WalkEnds.{HasNoEnds}
+use Rattle.line_graph.specs.declared.spot.Spot.{Spot}
 use Rattle.line_graph.specs.declared.draw_kind.DrawKind.{DrawKind}
 use Rattle.drawing_text.proofs.Shapes.{last_by}
 use Rattle.drawing_text.proofs.SpelledBlocks.{all_below, found_used, last_found, lines_below, next_lines, none_first}
@@ -22,7 +25,7 @@ use Rattle.drawing_text.specs.declared.draft.Draft.{Draft}
 use Rattle.drawing_text.specs.declared.draw_fault.DrawFault.{DrawFault}
 use Rattle.drawing_text.specs.declared.version.Version.{Version}
 use Rattle.drawing_text.specs.declared.version.Version.TheVariants as version
-use Rattle.drawing_text.specs.DrawingText.{at_line, body_from, drawing_of, drawn_after, meant_by, said_in}
+use Rattle.drawing_text.specs.DrawingText.{IsWhole, at_line, body_from, drawing_of, drawn_after, meant_by, said_in}
 use Rattle.drawing_text.specs.Spelling.{blocks_text, label_text, line_text, lines_in, number_text, plain_spelling, plain_spelling2, points_text}
 use Rattle.drawing_text.specs.TextLines.{blank_drawing, first_draft}
 use Rattle.drawing_text.specs.Words.{words_by_line}
@@ -98,7 +101,7 @@ lines_read version d so_far (line ∷ lines) rest may on number opened named =
     let Reads : DrawingValue → Type 0 = λ e. ReadsOn version d e rest in
     let next : ReadsOn version d one (flat_map line_text lines ++ rest) =
     lines_read version d one lines rest (others_follow so_far line lines may) (subst Reads (sym more) on) in
-    let says = line_says number opened named so_far line.points able (first_room so_far line lines may)
+    let says = line_says version number opened named so_far line.points able (first_room so_far line lines may)
     ∙ ap (λ (e : DrawingValue). Ok (draft_of named opened e)) (same_line so_far line inside) in
     let text : flat_map line_text (line ∷ lines) ++ rest
     ≡ codes "line" ++ (tail_of (coordinates line.points) ++ (flat_map line_text lines ++ rest)) =
@@ -113,7 +116,14 @@ lines_read version d so_far (line ∷ lines) rest may on number opened named =
 
 -- the drawing before its block of that index
 abbrev so_far : DrawingValue → List ℕ → ℕ → DrawingValue
-so_far d before block = record { label = d.label; step = d.step; threads = before; lines = lines_below block d.lines }
+so_far d before block = record {
+  label = d.label;
+  step = d.step;
+  threads = before;
+  lines = lines_below block d.lines;
+  starts = [];
+  ends = [];
+}
 
 -- what passes a filter passes its test
 passes : (block : ℕ) (lines : List LineValue) → All (λ line. line.block ≡ block) (lines_in block lines)
@@ -136,13 +146,23 @@ filled b rest none = cc
 abbrev said : List (List (List ℕ)) → Result DrawingValue DrawFault
 said lines = and_then (body_from 1 lines) (λ body. said_in body.version body)
 
--- a drawing that means itself
-module _ (version : Version) (d : DrawingValue) (keeps : KeepsDrawing d) (means : meant_by version d ≡ Ok d) where
-  -- its last block has a line, and so has the last one at each block before
-  last_filled : is_last_empty d ≡ false
-  last_filled = last_by d (length d.threads - 1) true (omega (arith, keeps.blocks_from))
-      (found_used d.lines (length d.threads - 1) (keeps.used (length d.threads - 1) (omega (arith, keeps.blocks_from))))
+-- the last block of a drawing has a line
+last_filled : (d : DrawingValue) → KeepsDrawing d → is_last_empty d ≡ false
+last_filled d keeps = last_by d (length d.threads - 1) true (omega (arith, keeps.blocks_from))
+    (found_used d.lines (length d.threads - 1) (keeps.used (length d.threads - 1) (omega (arith, keeps.blocks_from))))
 
+finished_whole : (d : DrawingValue) → KeepsDrawing d → finished d ≡ Ok d
+finished_whole d keeps =
+    let some : (length d.threads == 0) ≡ false = grind (arith, nat_tests, keeps.blocks_from) in
+    rw (last_filled d keeps, some) refl
+
+-- a draft of the drawing means it
+abbrev Means : Version → DrawingValue → Type 0
+Means version d = (number opened : ℕ) (named : Bool) → meant_by version number (draft_of named opened d) ≡ Ok d
+
+-- a drawing that means itself
+module _ (version : Version) (d : DrawingValue) (keeps : KeepsDrawing d) (unended : HasNoEnds d) (means : Means version d) where
+  -- at each block before the last one the block before has a line
   filled_before : (before : List ℕ) (block : ℕ) → length before ≡ block → block < length d.threads
       → is_last_empty (so_far d before block) ≡ false
   filled_before before zero count there =
@@ -209,20 +229,15 @@ module _ (version : Version) (d : DrawingValue) (keeps : KeepsDrawing d) (means 
       let Below : ℕ → Type 0 = λ n. All (λ (l : LineValue). l.block < n) d.lines in
       let lines : lines_below block d.lines ≡ d.lines = all_below block d.lines (subst Below (sym all) keeps.there) in
       ap (λ (list : List ℕ). so_far d list block) threads
-      ∙ ap (λ (list : List LineValue). record d { lines = list }) lines
-
-  finished_whole : finished d ≡ Ok d
-  finished_whole =
-      let some : (length d.threads == 0) ≡ false = grind (arith, nat_tests, keeps.blocks_from) in
-      rw (last_filled, some) refl
+      ∙ (ap (λ (list : List LineValue). record d { lines = list; starts = []; ends = [] }) lines
+      ∙ ap₂ (λ (starts ends : List Spot). record d { starts = starts; ends = ends }) (sym unended.starts) (sym unended.ends))
 
   -- spelled blocks are read
   blocks_read : (left before : List ℕ) (block : ℕ) → length before ≡ block → before ++ left ≡ d.threads
       → ReadsOn version d (so_far d before block) (blocks_text block left d.lines)
   blocks_read [] before block count are number opened named =
-      ap (λ (e : DrawingValue). at_line number opened (and_then (finished e) (meant_by version))) (whole before block count are)
-      ∙ (ap (λ (r : Result DrawingValue DrawKind). at_line number opened (and_then r (meant_by version))) finished_whole
-      ∙ ap (at_line number opened) means)
+      ap (λ (e : DrawingValue). meant_by version number (draft_of named opened e)) (whole before block count are)
+      ∙ means number opened named
   blocks_read (thread ∷ left) before block count are number opened named =
       let Threads : List ℕ → Type 0 = λ list. All (λ (t : ℕ). t < 256) list in
       let fits : thread < 256 =
@@ -239,7 +254,7 @@ module _ (version : Version) (d : DrawingValue) (keeps : KeepsDrawing d) (means 
       blocks_read left next (block + 1) (length-append before (thread ∷ []) ∙ omega (arith, count))
       (append_assoc before (thread ∷ []) left ∙ are) in
       let lines : so_far d next (block + 1) ≡ with_lines one (lines_in block d.lines) =
-      ap (λ (list : List LineValue). record { label = d.label; step = d.step; threads = next; lines = list }) (next_lines d block keeps) in
+      ap (λ (list : List LineValue). record (so_far d next block) { lines = list }) (next_lines d block keeps) in
       let Reads : DrawingValue → Type 0 = λ e. ReadsOn version d e behind in
       let inside : ReadsOn version d one (flat_map line_text (lines_in block d.lines) ++ behind) =
       lines_read version d one (lines_in block d.lines) behind (block_follows before block thread count) (subst Reads lines after) in
@@ -249,7 +264,7 @@ module _ (version : Version) (d : DrawingValue) (keeps : KeepsDrawing d) (means 
       ap (λ (all : List ℕ). drawn_after version number (draft_of named opened (so_far d before block)) (words_by_line all)) text
       ∙ (line_judged version number (draft_of named opened (so_far d before block)) (draft_of named number one) (codes "color")
       (decimal thread ∷ []) (flat_map line_text (lines_in block d.lines) ++ behind) is_color
-      (decimal_word thread (omega (arith, fits)), tt) (color_says number opened named (so_far d before block) thread fits filled room)
+      (decimal_word thread (omega (arith, fits)), tt) (color_says version number opened named (so_far d before block) thread fits filled room)
       ∙ inside (number + 1) number named)
 
   -- the step, and then the blocks
@@ -262,13 +277,13 @@ module _ (version : Version) (d : DrawingValue) (keeps : KeepsDrawing d) (means 
       ≡ Ok d
   step_read number named =
       let start : record blank_drawing { label = d.label; step = d.step } ≡ so_far d [] 0 =
-      ap (λ (list : List LineValue). record { label = d.label; step = d.step; threads = []; lines = list }) (sym (none_first d.lines)) in
+      ap (λ (list : List LineValue). record (so_far d [] 0) { lines = list }) (sym (none_first d.lines)) in
       let Reads : DrawingValue → Type 0 = λ e. ReadsOn version d e (blocks_text 0 d.threads d.lines) in
       let blocks = subst Reads (sym start) (blocks_read d.threads [] 0 refl refl) in
       let draft : Draft = record first_draft { named = named; drawing = record blank_drawing { label = d.label } } in
       line_judged version number draft (draft_of named 0 (record blank_drawing { label = d.label; step = d.step })) (codes "step")
       (decimal d.step ∷ []) (blocks_text 0 d.threads d.lines) is_step
-      (decimal_word d.step (omega (arith, keeps.step_to)), tt) (step_says number named d.label d.step keeps.step_from keeps.step_to)
+      (decimal_word d.step (omega (arith, keeps.step_to)), tt) (step_says version number named d.label d.step keeps.step_from keeps.step_to)
       ∙ blocks (number + 1) 0 named
 
   -- the label, where there is one, and then the step
@@ -291,7 +306,7 @@ module _ (version : Version) (d : DrawingValue) (keeps : KeepsDrawing d) (means 
       ap (λ (all : List ℕ). drawn_after version 2 first_draft (words_by_line all)) text
       ∙ (line_judged version 2 first_draft (record first_draft { named = true; drawing = record blank_drawing { label = b ∷ label } })
       (codes "name") ((b ∷ label) ∷ []) step_text is_name (label_word (b ∷ label) allowed one_word (filled b label), tt)
-      (name_says (b ∷ label) allowed one_word)
+      (name_says version (b ∷ label) allowed one_word)
       ∙ subst Reads (sym is) (step_read 3 true))
 
   -- and the header before them
@@ -300,12 +315,20 @@ module _ (version : Version) (d : DrawingValue) (keeps : KeepsDrawing d) (means 
   body_read text is = is ∙ label_read d.label refl
 
 -- in version 1 a drawing means itself, and in version 2 where its lines meet at ends alone
-pub spelling_read : (d : DrawingValue) → KeepsDrawing d → drawing_of (plain_spelling d) ≡ Ok d
-spelling_read d keeps = body_read version.One d keeps refl (plain_spelling d)
-    (ap said (line_read (codes "redwork") (codes "1" ∷ []) (label_text d.label ++ step_text version.One d keeps refl)
+pub spelling_read : (d : DrawingValue) → KeepsDrawing d → HasNoEnds d → drawing_of (plain_spelling d) ≡ Ok d
+spelling_read d keeps unended = body_read version.One d keeps unended means (plain_spelling d)
+    (ap said (line_read (codes "redwork") (codes "1" ∷ []) (label_text d.label ++ step_text version.One d keeps unended means)
     (record { filled = refl; inner = refl }) (record { filled = refl; inner = refl }, tt)))
+  where
+    means : Means version.One d
+    means number opened named = ap (at_line number opened) (finished_whole d keeps)
 
-pub spelling2_read : JoinedStay → (d : DrawingValue) → KeepsDrawing d → is_joined d ≡ true → drawing_of (plain_spelling2 d) ≡ Ok d
-spelling2_read stay d keeps joined = body_read version.Two d keeps (stay d keeps joined) (plain_spelling2 d)
-    (ap said (line_read (codes "redwork") (codes "2" ∷ []) (label_text d.label ++ step_text version.Two d keeps (stay d keeps joined))
+pub spelling2_read : JoinedStay → (d : DrawingValue) → KeepsDrawing d → IsWhole d → drawing_of (plain_spelling2 d) ≡ Ok d
+spelling2_read stay d keeps is = body_read version.Two d keeps is.unended means (plain_spelling2 d)
+    (ap said (line_read (codes "redwork") (codes "2" ∷ []) (label_text d.label ++ step_text version.Two d keeps is.unended means)
     (record { filled = refl; inner = refl }) (record { filled = refl; inner = refl }, tt)))
+  where
+    means : Means version.Two d
+    means number opened named =
+        ap (λ (r : Result DrawingValue DrawKind). at_line number opened (and_then r joined_drawing)) (finished_whole d keeps)
+        ∙ ap (at_line number opened) (stay d keeps is.joined)

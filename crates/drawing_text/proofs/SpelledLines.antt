@@ -28,7 +28,7 @@ use Rattle.drawing_text.specs.Words.{words_by_line}
 -- the next line is judged, and then those behind it
 pub line_judged : (version : Version) (number : ℕ) (draft next : Draft) (word : List ℕ) (words : List (List ℕ)) (rest : List ℕ)
     → IsWord word
-    → AreWords words → judged number draft (word ∷ words) ≡ Ok next
+    → AreWords words → judged version number draft (word ∷ words) ≡ Ok next
     → drawn_after version number draft (words_by_line (word ++ (tail_of words ++ rest)))
     ≡ drawn_after version (number + 1) next (words_by_line rest)
 line_judged version number draft next word words rest is are says =
@@ -38,7 +38,7 @@ line_judged version number draft next word words rest is are says =
 
 -- a draft whose step was given
 abbrev pub draft_of : Bool → ℕ → DrawingValue → Draft
-draft_of named opened d = record { drawing = d; named = named; stepped = true; opened = opened }
+draft_of named opened d = record { drawing = d; named = named; stepped = true; opened = opened; ends = [] }
 
 -- the words of the text
 pub is_name : IsWord (codes "name")
@@ -110,10 +110,10 @@ pub record HasRoom (d : DrawingValue) (points : List Point) : Type 0 where
   pub steps_to : step_count d.step d.lines + line_steps d.step points ≤ 200000
 
 -- a spelled line is added to the drawing
-pub line_says : (number opened : ℕ) (named : Bool) (d : DrawingValue) (points : List Point) → IsLine points
+pub line_says : (version : Version) (number opened : ℕ) (named : Bool) (d : DrawingValue) (points : List Point) → IsLine points
     → HasRoom d points
-    → judged number (draft_of named opened d) (codes "line" ∷ coordinates points) ≡ Ok (draft_of named opened (with_line d points))
-line_says number opened named d points able room =
+    → judged version number (draft_of named opened d) (codes "line" ∷ coordinates points) ≡ Ok (draft_of named opened (with_line d points))
+line_says version number opened named d points able room =
     let begun : (length d.threads == 0) ≡ false = grind (arith, nat_tests, room.block) in
     let long : nat_lt (length points) 2 ≡ false = grind (arith, nat_tests, able.long) in
     let lines : (length d.lines == 1024) ≡ false = grind (arith, nat_tests, room.lines) in
@@ -132,11 +132,11 @@ line_says number opened named d points able room =
     ) refl
 
 -- a spelled block is added to it
-pub color_says : (number opened : ℕ) (named : Bool) (d : DrawingValue) (thread : ℕ) → thread < 256
+pub color_says : (version : Version) (number opened : ℕ) (named : Bool) (d : DrawingValue) (thread : ℕ) → thread < 256
     → is_last_empty d ≡ false
     → length d.threads < 255
-    → judged number (draft_of named opened d) (codes "color" ∷ decimal thread ∷ []) ≡ Ok (draft_of named number (with_block d thread))
-color_says number opened named d thread fits filled room =
+    → judged version number (draft_of named opened d) (codes "color" ∷ decimal thread ∷ []) ≡ Ok (draft_of named number (with_block d thread))
+color_says version number opened named d thread fits filled room =
     let low : nat_le 0 thread ≡ true = grind (arith, nat_tests) in
     let high : nat_le thread 255 ≡ true = grind (arith, nat_tests, fits) in
     let few : (length d.threads == 255) ≡ false = grind (arith, nat_tests, room) in
@@ -168,19 +168,19 @@ label_word (b ∷ label) is one_word some = record {
 }
 
 -- and it is set
-pub name_says : (label : List ℕ) → IsLabel label → All (λ byte. byte ≢ 32) label
-    → judged 2 first_draft (codes "name" ∷ label ∷ [])
+pub name_says : (version : Version) (label : List ℕ) → IsLabel label → All (λ byte. byte ≢ 32) label
+    → judged version 2 first_draft (codes "name" ∷ label ∷ [])
     ≡ Ok (record first_draft { named = true; drawing = record blank_drawing { label = label } })
-name_says label is one_word =
+name_says version label is one_word =
     let short : nat_le (length label) 16 ≡ true = grind (arith, nat_tests, is.short) in
     rw (short, label_graphic label is.printable one_word) refl
 
 -- a step is set
-pub step_says : (number : ℕ) (named : Bool) (label : List ℕ) (step : ℕ) → 1 ≤ step → step ≤ 2047
-    → judged number (record first_draft { named = named; drawing = record blank_drawing { label = label } })
+pub step_says : (version : Version) (number : ℕ) (named : Bool) (label : List ℕ) (step : ℕ) → 1 ≤ step → step ≤ 2047
+    → judged version number (record first_draft { named = named; drawing = record blank_drawing { label = label } })
     (codes "step" ∷ decimal step ∷ [])
     ≡ Ok (draft_of named 0 (record blank_drawing { label = label; step = step }))
-step_says number named label step from to =
+step_says version number named label step from to =
     let low : nat_le 1 step ≡ true = grind (arith, nat_tests, from) in
     let high : nat_le step 2047 ≡ true = grind (arith, nat_tests, to) in
     rw (decimal_read step (omega (arith, to)), low, high) refl

@@ -2,6 +2,7 @@
 pub use Rattle.line_graph.specs.Drawings
 pub use Rattle.line_graph.specs.Growing
 pub use Rattle.line_graph.specs.Sections
+pub use Rattle.line_graph.specs.WalkEnds
 pub mod Words
 pub mod Spelling
 pub mod TextLines

@@ -48,6 +48,7 @@ label_text label = if length label == 0 then [] else codes "name " ++ (label ++ 
 abbrev pub header_text : Version → List ℕ
 header_text version.One = codes "redwork 1"
 header_text version.Two = codes "redwork 2"
+header_text version.Three = codes "redwork 3"
 
 -- the whole text of a drawing, in a version
 abbrev pub spelling_in : Version → DrawingValue → List ℕ

@@ -1,6 +1,6 @@
 -- What one line of a drawing text says after the lines before it. Numbers are in tenths of a
 -- millimetre, lines of the text count from 1.
-use Rattle.std.specs.Prelude.{ℕ, ℤ, pos, negsuc, ◌==◌, Bool, true, false, not, ◌&&◌, ◌||◌, nat_le, unsigned_abs, List, [], ◌∷◌, Option, Some, None, Result, Ok, Err, length, bytes_eq, codes, if◌then◌else◌}
+use Rattle.std.specs.Prelude.{ℕ, ℤ, pos, negsuc, ◌-◌, ◌==◌, Bool, true, false, not, ◌&&◌, ◌||◌, nat_le, unsigned_abs, List, [], ◌∷◌, ◌++◌, Option, Some, None, Result, Ok, Err, length, bytes_eq, codes, if◌then◌else◌}
 use Rattle.design_model.specs.declared.point.Point.{Point}
 use Rattle.design_model.specs.declared.point.TheConstants.{NEEDLE_LIMIT}
 use Rattle.design_model.specs.declared.whole_number.Whole.{Whole}
@@ -12,6 +12,8 @@ use Rattle.line_graph.specs.declared.draw_kind.DrawKind.TheVariants as kind
 use Rattle.line_graph.specs.Drawings.{DrawingValue}
 use Rattle.line_graph.specs.Growing.{and_then, block_added, drawing_begun, is_label_word, line_added}
 use Rattle.drawing_text.specs.declared.draft.Draft.{Draft}
+use Rattle.drawing_text.specs.declared.version.Version.{Version}
+use Rattle.drawing_text.specs.declared.version.Version.TheVariants as version
 use Rattle.drawing_text.specs.Words.{is_comment, only_word}
 
 -- a number that is from low to high
@@ -41,13 +43,21 @@ points_in (x ∷ y ∷ rest) =
     and_then (coordinate_in (whole_of y)) (λ down.
     and_then (points_in rest) (λ points. Ok (record { x = across; y = down } ∷ points))))
 
+-- the point of two words that are coordinates, x before y
+abbrev pub point_in : List (List ℕ) → Result Point DrawKind
+point_in (x ∷ y ∷ []) =
+    and_then (coordinate_in (whole_of x)) (λ across.
+    and_then (coordinate_in (whole_of y)) (λ down. Ok (record { x = across; y = down })))
+point_in words = Err kind.BadWord
+
 -- the drawing before anything is said of it; its longest step is 25 where none is given
 abbrev pub blank_drawing : DrawingValue
 blank_drawing = drawing_begun [] 25
 
 -- nothing was said but the header
 abbrev pub first_draft : Draft
-first_draft = record { drawing = blank_drawing; named = false; stepped = false; opened = 0 }
+first_draft =
+    record { drawing = blank_drawing; named = false; stepped = false; opened = 0; ends = [] }
 
 -- no block was begun
 abbrev pub is_before_blocks : Draft → Bool
@@ -84,13 +94,32 @@ lined draft words =
     else and_then (points_in words) (λ points.
     and_then (line_added draft.drawing points) (λ drawing. Ok (record draft { drawing = drawing })))
 
+-- what the line of that number says that has the word "start", or "end", and these: it speaks of the
+-- last block
+abbrev pub ended : ℕ → Bool → Draft → List (List ℕ) → Result Draft DrawKind
+ended number is_start draft words =
+    if is_before_blocks draft then Err kind.NoBlock
+    else and_then (point_in words) (λ at. Ok (record draft { ends = draft.ends ++ record {
+      number = number;
+      is_start = is_start;
+      spot = record { block = length draft.drawing.threads - 1; at = at };
+    } ∷ [] }))
+
+-- a text of the version may name starts and ends
+abbrev pub has_ends : Version → Bool
+has_ends version.Three = true
+has_ends earlier = false
+
 -- what the line of that number says that has these words, after the lines that say the draft
-abbrev pub judged : ℕ → Draft → List (List ℕ) → Result Draft DrawKind
-judged number draft [] = Ok draft
-judged number draft (word ∷ rest) =
+abbrev pub judged : Version → ℕ → Draft → List (List ℕ) → Result Draft DrawKind
+judged version number draft [] = Ok draft
+judged version number draft (word ∷ rest) =
     if is_comment word then Ok draft
     else if bytes_eq word (codes "name") then named draft (only_word rest)
     else if bytes_eq word (codes "step") then stepped draft (only_word rest)
     else if bytes_eq word (codes "color") then coloured number draft (only_word rest)
     else if bytes_eq word (codes "line") then lined draft rest
+    else if not (has_ends version) then Err kind.BadWord
+    else if bytes_eq word (codes "start") then ended number true draft rest
+    else if bytes_eq word (codes "end") then ended number false draft rest
     else Err kind.BadWord

@@ -1,29 +1,34 @@
 ghost use Rattle.std.specs.Prelude.{◌≡◌, IfOk};
 ghost use Rattle.line_graph.specs.Growing.{Answers, Changes, and_then, finished};
-ghost use Rattle.drawing_text.specs.DrawingText.{IsMeant, Reads, at_line, meant_by};
-ghost use Rattle.drawing_text.specs.TextLines.{coloured, first_draft, judged, lined, named, stepped};
+ghost use Rattle.line_graph.specs.Sections.{joined_drawing};
+ghost use Rattle.drawing_text.specs.declared.version.Version.TheVariants as version;
+ghost use Rattle.drawing_text.specs.DrawingText.{IsMeant, IsWhole, Reads, at_line, joined_at, meant_by};
+ghost use Rattle.drawing_text.specs.TextLines.{coloured, ended, first_draft, has_ends as has_start_lines, judged, lined, named, stepped};
 ghost use Rattle.drawing_text.specs.Words.{only_word as only_of_words, words_in};
 
 use crate::draw_fault::{DrawFault, told_at};
+use crate::ending::with_ends;
 use crate::number_words::count_in;
-use crate::point_words::points_of_words;
+use crate::point_words::{point_of_words, points_of_words};
 use crate::text_words::{is_comment, next_word, only_word, spells};
 use crate::version::Version;
-use line_graph::{DrawKind, Drawing, DrawingMaker, is_label_word, join};
+use crate::walk_end::{WalkEnd, WalkEnds};
+use line_graph::{DrawKind, Drawing, DrawingMaker, Spot, is_label_word, join};
 use std::alloc::Global;
 use step_splitter::MAX_STEP;
 
 /// The longest step of a drawing whose text names none, in tenths of a millimetre.
 const DEFAULT_STEP: u32 = 25;
 
-/// What the lines of a drawing text said so far: the drawing, whether a name and a step were given,
-/// and the number of the line that opened the last block.
+/// What the lines of a drawing text said so far: the drawing, whether a name and a step were given, the
+/// number of the line that opened the last block, and the starts and ends.
 #[derive(Debug, Drop)]
 pub struct Draft {
     pub drawing: DrawingMaker,
     pub named: bool,
     pub stepped: bool,
     pub opened: u32,
+    pub ends: WalkEnds,
 }
 
 impl Draft {
@@ -36,12 +41,20 @@ impl Draft {
             named: false,
             stepped: false,
             opened: 0,
+            ends: WalkEnds::new(alloc),
         }
     }
 
     /// Takes the text line of that number. A refusal leaves the draft as it was.
-    pub fn take_line(&mut self, alloc: Global, number: u32, line: &[u8]) -> Result<(), DrawKind>
-        ensures { Changes (judged number self.old (words_in line.now)) self.old result self.new }
+    pub fn take_line(
+        &mut self,
+        alloc: Global,
+        version: Version,
+        number: u32,
+        line: &[u8],
+    ) -> Result<(), DrawKind>
+        ensures { Changes (judged version number self.old (words_in line.now)) self.old result
+            self.new }
     {
         let Some((word, rest)) = next_word(line) else {
             return Ok(());
@@ -60,6 +73,15 @@ impl Draft {
         }
         if spells(word, "line") {
             return self.take_points(alloc, rest);
+        }
+        if !has_ends(version) {
+            return Err(DrawKind::BadWord);
+        }
+        if spells(word, "start") {
+            return self.take_end(number, true, rest);
+        }
+        if spells(word, "end") {
+            return self.take_end(number, false, rest);
         }
         Err(DrawKind::BadWord)
     }
@@ -119,28 +141,93 @@ impl Draft {
         Ok(())
     }
 
+    fn take_end(&mut self, number: u32, is_start: bool, rest: &[u8]) -> Result<(), DrawKind>
+        ensures { Changes (ended number is_start self.old (words_in rest.now)) self.old result
+            self.new }
+    {
+        let blocks = self.drawing.block_count();
+        if blocks == 0 {
+            return Err(DrawKind::NoBlock);
+        }
+        let at = point_of_words(rest)?;
+        let spot = Spot {
+            block: blocks as u32 - 1,
+            at,
+        };
+        self.ends.push(WalkEnd {
+            number,
+            is_start,
+            spot,
+        })?;
+        Ok(())
+    }
+
     /// The drawing in that version, where the text ends before the line of that number.
     pub fn finish(self, alloc: Global, version: Version, number: u32) -> Result<Drawing, DrawFault>
-        ensures answer { Reads (at_line number self.opened
-            (and_then (finished self.drawing) (meant_by version))) result }
+        ensures answer { Reads (meant_by version number self) result }
         ensures meant { IfOk result (IsMeant version) }
     {
+        match version {
+            Version::One => self.drawn(number),
+            Version::Two => self.joined(alloc, number),
+            Version::Three => self.ended(alloc, number),
+        }
+    }
+
+    /// The drawing of the lines as they are.
+    fn drawn(self, number: u32) -> Result<Drawing, DrawFault>
+        ensures { Reads (at_line number self.opened (finished self.drawing)) result }
+    {
         let opened = self.opened;
-        match meant(alloc, self.drawing, version) {
+        match self.drawing.finish() {
             Ok(drawing) => Ok(drawing),
+            Err(kind) => Err(told_at(number, opened, kind)),
+        }
+    }
+
+    /// The drawing of the sections of the lines.
+    fn joined(self, alloc: Global, number: u32) -> Result<Drawing, DrawFault>
+        ensures answer { Reads (joined_at number self) result }
+        ensures whole { IfOk result IsWhole }
+    {
+        let opened = self.opened;
+        match joined_lines(alloc, self.drawing) {
+            Ok(drawing) => Ok(drawing),
+            Err(kind) => Err(told_at(number, opened, kind)),
+        }
+    }
+
+    /// The same with the starts and ends.
+    fn ended(self, alloc: Global, number: u32) -> Result<Drawing, DrawFault>
+        ensures { Reads (meant_by version.Three number self) result }
+    {
+        let Draft {
+            drawing,
+            opened,
+            ends,
+            ..
+        } = self;
+        match joined_lines(alloc, drawing) {
+            Ok(drawing) => with_ends(alloc, drawing, ends.as_slice()),
             Err(kind) => Err(told_at(number, opened, kind)),
         }
     }
 }
 
-/// The drawing that was made, as the version means it.
-fn meant(alloc: Global, drawing: DrawingMaker, version: Version) -> Result<Drawing, DrawKind>
-    ensures answer { Answers (and_then (finished drawing) (meant_by version)) result }
-    ensures meant { IfOk result (IsMeant version) }
+/// The drawing that was made, with its lines replaced by their sections.
+fn joined_lines(alloc: Global, drawing: DrawingMaker) -> Result<Drawing, DrawKind>
+    ensures answer { Answers (and_then (finished drawing) joined_drawing) result }
+    ensures whole { IfOk result IsWhole }
 {
     let drawn = drawing.finish()?;
+    join(alloc, &drawn)
+}
+
+fn has_ends(version: Version) -> bool
+    ensures { result ≡ has_start_lines version }
+{
     match version {
-        Version::One => Ok(drawn),
-        Version::Two => join(alloc, &drawn),
+        Version::One | Version::Two => false,
+        Version::Three => true,
     }
 }

@@ -4,6 +4,7 @@
 
 mod draft;
 mod draw_fault;
+mod ending;
 mod laws;
 mod limits;
 mod number_words;
@@ -14,6 +15,7 @@ mod spelling;
 mod tests;
 mod text_words;
 mod version;
+mod walk_end;
 
 pub use draw_fault::DrawFault;
 pub use laws::{the_plain_spelling_says, the_plain_spelling2_says};

@@ -1,14 +1,29 @@
-ghost use Rattle.std.specs.Prelude.{All, IfOk};
+ghost use Rattle.std.specs.Prelude.{◌≡◌, All, IfOk};
 ghost use Rattle.step_splitter.specs.Chains.{IsNeedlePoint};
 ghost use Rattle.line_graph.specs.Growing.{Answers};
-ghost use Rattle.drawing_text.specs.TextLines.{points_in};
+ghost use Rattle.drawing_text.specs.TextLines.{point_in, points_in};
 ghost use Rattle.drawing_text.specs.Words.{words_in};
 
 use crate::number_words::coordinate;
-use crate::text_words::next_word;
+use crate::text_words::{next_word, only_word};
 use design_model::{Point, Points};
 use line_graph::DrawKind;
 use std::alloc::Global;
+
+/// The point whose coordinates are the only two words of a line.
+pub fn point_of_words(words: &[u8]) -> Result<Point, DrawKind>
+    ensures { result ≡ point_in (words_in words.now) }
+{
+    let Some((x, after)) = next_word(words) else {
+        return Err(DrawKind::BadWord);
+    };
+    let Some(y) = only_word(after) else {
+        return Err(DrawKind::BadWord);
+    };
+    let across = coordinate(x)?;
+    let down = coordinate(y)?;
+    Ok(Point { x: across, y: down })
+}
 
 /// The points whose coordinates the words of a line spell.
 pub fn points_of_words(alloc: Global, words: &[u8]) -> Result<Points, DrawKind>

@@ -1,6 +1,5 @@
-ghost use Rattle.std.specs.Prelude.{◌≡◌, ◌+◌, ◌≤◌, Ok, Err, length, true, IfOk, IfErr};
-ghost use Rattle.line_graph.specs.Sections.{is_joined};
-ghost use Rattle.drawing_text.specs.DrawingText.{IsMeant, Reads, body_of, drawing_as2, drawing_of, drawn_after, header_in, version_in};
+ghost use Rattle.std.specs.Prelude.{◌≡◌, ◌+◌, ◌≤◌, Ok, Err, length, IfOk, IfErr};
+ghost use Rattle.drawing_text.specs.DrawingText.{IsMeant, IsWhole, Reads, body_of, drawing_as2, drawing_of, drawn_after, header_in, version_in};
 ghost use Rattle.drawing_text.specs.TextLines.{first_draft};
 ghost use Rattle.drawing_text.specs.Words.{is_passed_over as has_no_words, words_by_line, words_in};
 
@@ -19,29 +18,31 @@ pub fn read_drawing(alloc: Global, bytes: &[u8]) -> Result<Drawing, DrawFault>
     ensures { Reads (drawing_of bytes.now) result }
 {
     match find_body(bytes) {
-        Ok((version, first, text)) => read_body(alloc, version, first, text),
+        Ok((version, header, text)) => read_body(alloc, version, header + 1, text),
         Err(fault) => Err(fault),
     }
 }
 
-/// The drawing that a text says as version 2, whichever version it names, or its first fault.
+/// The drawing that a text says as version 2, whether it names version 1 or 2, or its first fault. A text of
+/// version 3 is told at its header, `BadHeader`.
 pub fn read_as2(alloc: Global, bytes: &[u8]) -> Result<Drawing, DrawFault>
     requires { length bytes.now ≤ MAX_TEXT }
     ensures answer { Reads (drawing_as2 bytes.now) result }
-    ensures joined { IfOk result (λ d. is_joined d ≡ true) }
+    ensures whole { IfOk result IsWhole }
 {
     match find_body(bytes) {
-        Ok((_, first, text)) => read_body(alloc, Version::Two, first, text),
+        Ok((Version::Three, header, _)) => Err(told_at(header, 0, DrawKind::BadHeader)),
+        Ok((_, header, text)) => read_body(alloc, Version::Two, header + 1, text),
         Err(fault) => Err(fault),
     }
 }
 
-/// The version that the header names, the number of the first line behind it, and the text from there on.
+/// The version that the header names, the number of its line, and the text behind it.
 fn find_body(bytes: &[u8]) -> Result<(Version, u32, &[u8]), DrawFault>
     requires { length bytes.now ≤ MAX_TEXT }
     ensures ok { IfOk result (λ r.
-        body_of bytes.now ≡ Ok (record { version = r.0; first = r.1; lines = words_by_line r.2.now })) }
-    ensures early { IfOk result (λ r. r.1 + length r.2.now ≤ MAX_TEXT + 1) }
+        body_of bytes.now ≡ Ok (record { version = r.0; header = r.1; lines = words_by_line r.2.now })) }
+    ensures early { IfOk result (λ r. r.1 + length r.2.now ≤ MAX_TEXT) }
     ensures err { IfErr result (λ fault. body_of bytes.now ≡ Err fault) }
 {
     let mut passed: u32 = 0;
@@ -50,7 +51,7 @@ fn find_body(bytes: &[u8]) -> Result<(Version, u32, &[u8]), DrawFault>
         let line = without_return(line);
         if !is_passed_over(line) {
             return match version_named(line) {
-                Some(version) => Ok((version, passed + 2, after)),
+                Some(version) => Ok((version, passed + 1, after)),
                 None => Err(told_at(passed + 1, 0, DrawKind::BadHeader)),
             };
         }
@@ -90,6 +91,9 @@ fn version_spelled(word: &[u8]) -> Option<Version>
     if spells(word, "2") {
         return Some(Version::Two);
     }
+    if spells(word, "3") {
+        return Some(Version::Three);
+    }
     None
 }
 
@@ -102,7 +106,7 @@ fn read_body(alloc: Global, version: Version, first: u32, text: &[u8]) -> Result
     let mut number = first;
     let mut rest = text;
     while let Some((line, after)) = next_line(rest) {
-        match draft.take_line(alloc, number, without_return(line)) {
+        match draft.take_line(alloc, version, number, without_return(line)) {
             Ok(()) => {}
             Err(kind) => return Err(told_at(number, draft.opened, kind)),
         }

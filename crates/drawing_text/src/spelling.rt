@@ -1,7 +1,7 @@
-ghost use Rattle.std.specs.Prelude.{◌≡◌, ◌≤◌, ◌++◌, ◌∷◌, [], length, true, Ok, IfOk, OnOk};
+ghost use Rattle.std.specs.Prelude.{◌≡◌, ◌≤◌, ◌++◌, ◌∷◌, [], length, Ok, IfOk, OnOk};
 ghost use Rattle.std.specs.List.{flat_map};
-ghost use Rattle.line_graph.specs.Sections.{is_joined};
-ghost use Rattle.drawing_text.specs.DrawingText.{drawing_of};
+ghost use Rattle.line_graph.specs.WalkEnds.{HasNoEnds};
+ghost use Rattle.drawing_text.specs.DrawingText.{IsWhole, drawing_of};
 ghost use Rattle.drawing_text.specs.Spelling.{header_text, plain_spelling, plain_spelling2, spelling_in, label_text, number_text, blocks_text, line_text, lines_in, points_text, point_text};
 
 use crate::laws::{the_plain_spelling_says, the_plain_spelling2_says};
@@ -10,8 +10,9 @@ use design_model::{Bytes, Memory, Point};
 use line_graph::{Drawing, Line, MAX_BLOCKS};
 use std::alloc::Global;
 
-/// The plain spelling of a drawing in version 1, which is read as that drawing again.
+/// The plain spelling in version 1 of a drawing without starts and ends, which is read as that drawing again.
 pub fn print_drawing(alloc: Global, d: &Drawing) -> Result<Bytes, Memory>
+    requires { HasNoEnds d.now }
     ensures value { IfOk result (λ text. text ≡ plain_spelling d.now) }
     ensures again { IfOk result (λ text. drawing_of text ≡ Ok d.now) }
 {
@@ -22,10 +23,10 @@ pub fn print_drawing(alloc: Global, d: &Drawing) -> Result<Bytes, Memory>
     Ok(text)
 }
 
-/// The plain spelling in version 2 of a drawing whose lines meet at ends alone, which is read as that drawing
-/// again.
+/// The plain spelling in version 2 of a drawing without starts and ends whose lines meet at ends alone, which
+/// is read as that drawing again.
 pub fn print_drawing2(alloc: Global, d: &Drawing) -> Result<Bytes, Memory>
-    requires { is_joined d.now ≡ true }
+    requires { IsWhole d.now }
     ensures value { IfOk result (λ text. text ≡ plain_spelling2 d.now) }
     ensures again { IfOk result (λ text. drawing_of text ≡ Ok d.now) }
 {
@@ -53,6 +54,7 @@ fn put_header(text: &mut Bytes, version: Version) -> Result<(), Memory>
     let header: &[u8] = match version {
         Version::One => b"redwork 1\n",
         Version::Two => b"redwork 2\n",
+        Version::Three => b"redwork 3\n",
     };
     text.append(header)?;
     Ok(())

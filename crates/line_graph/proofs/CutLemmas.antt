@@ -6,9 +6,9 @@ use Rattle.std.proofs.lemmas.List.Sums.{sum_by-append, sum_by-cons}
 use Rattle.std.specs.List.{count_by, flat_map, list_any}
 use Rattle.design_model.specs.declared.point.Point.{Point}
 use Rattle.design_model.specs.Points.{is_same_point}
-use Rattle.line_graph.specs.declared.first_lines.Spot.{Spot}
+use Rattle.line_graph.specs.declared.spot.Spot.{Spot}
 use Rattle.line_graph.specs.Drawings.{LineValue}
-use Rattle.line_graph.specs.FirstLines.{is_same_spot}
+use Rattle.line_graph.specs.Spots.{is_same_spot}
 use Rattle.line_graph.specs.ListedPoints.{AreMarked, Marks, MarksSpot, TellCuts, TellSpots, cuts_by, is_again, mark_of, sections_by, sections_on, spot_at, spots_of}
 use Rattle.line_graph.specs.Sections.{but_last, has_points, is_shared, line_sections, lines_through, sections_from, sections_of}
 use Rattle.line_graph.proofs.JoinLemmas.{counted, listed_counts}

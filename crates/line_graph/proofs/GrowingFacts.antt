@@ -45,6 +45,8 @@ pub known_line : line_added begun (place (pos 4) (pos 2) ∷ place (pos 4) (negs
       step = 7;
       threads = 3 ∷ [];
       lines = record { block = 0; points = place (pos 4) (pos 2) ∷ place (pos 4) (negsuc 0) ∷ [] } ∷ [];
+      starts = [];
+      ends = [];
     })
 known_line = refl
 

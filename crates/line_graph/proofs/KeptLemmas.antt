@@ -1,19 +1,21 @@
 -- What the graph of lines keeps that are joined and that no other line touches.
-use Rattle.std.proofs.Common.{◌≡◌, ◌<◌, ◌≤◌, ◌⊎◌, inl, inr, ℕ, zero, suc, pos, ◌==◌, Bool, true, nat_le, nat_lt, List, [], ◌∷◌, length, map, get_or, slice_get, Some, All, AllPairs, Contains, sum_by, arith, refl, sym, ◌∙◌, ap, subst}
+use Rattle.std.proofs.Common.{◌≡◌, ◌<◌, ◌≤◌, ◌⊎◌, inl, inr, ℕ, zero, suc, pos, ◌==◌, Bool, true, false, cond, nat_le, nat_lt, List, [], ◌∷◌, length, map, get_or, slice_get, Option, Some, None, position, All, AllPairs, Contains, sum_by, arith, refl, sym, ◌∙◌, ap, subst}
 use Rattle.std.proofs.lemmas.Bool.Decides.{nat_tests}
 use Rattle.std.proofs.lemmas.List.{length-map}
 use Rattle.std.proofs.lemmas.List.Elements.{All-contains, All-head, All-map, All-tail}
 use Rattle.std.proofs.lemmas.List.Kept.{AllPairs-from_increasing}
 use Rattle.std.proofs.lemmas.List.Sums.{sum_by-cons}
 use Rattle.std.specs.List.{position_or_len}
+use Rattle.std.specs.Option.{option_or}
 use Rattle.design_model.specs.declared.point.Point.{Point}
 use Rattle.design_model.specs.Points.{is_same_point}
 use Rattle.step_splitter.specs.Chains.{SplitPointsLead}
 use Rattle.line_graph.specs.declared.edge.Edge.{Edge}
-use Rattle.line_graph.specs.Drawings.{DrawingValue, IsLine, KeepsDrawing, points_of}
-use Rattle.line_graph.specs.KeptPieces.{AreJoined, KeepsPiece, NoneLeaves, all_below, all_cost, ends_below}
+use Rattle.line_graph.specs.declared.spot.Spot.{Spot}
+use Rattle.line_graph.specs.Drawings.{DrawingValue, IsLine, KeepsDrawing, block_of, points_of}
+use Rattle.line_graph.specs.KeptPieces.{AreJoined, KeepsPiece, NoneLeaves, all_below, all_cost, ends_below, is_below}
 use Rattle.line_graph.specs.Needles.{line_steps}
-use Rattle.line_graph.specs.PieceGraphs.{bit, degree, edge_between, junctions_of, number_of, piece_of}
+use Rattle.line_graph.specs.PieceGraphs.{bit, degree, edge_between, junctions_of, number_among, number_at, number_of, piece_of}
 use Rattle.line_graph.specs.PieceParts.{IsPart}
 use Rattle.line_graph.specs.Pieces.{Joined, Leads, TouchAt, first_line}
 use Rattle.line_graph.specs.PieceWalks.{above, rises}
@@ -206,6 +208,25 @@ all_costs (e ∷ edges) all =
     least : (n : ℕ) → 1 ≤ n → nat_le 1 n ≡ true
     least n some = grind (arith, nat_tests)
 
+-- the number of a junction is below their count
+among_below : (block : ℕ) (js : List Point) (spots : List Spot) → is_below (length js) (number_among block js spots) ≡ true
+among_below block js [] = refl
+among_below block js (spot ∷ rest) =
+    either_below (number_at block js spot) (number_among block js rest) (at_below (spot.block == block)) (among_below block js rest)
+  where
+    either_below : (a b : Option ℕ) → is_below (length js) a ≡ true → is_below (length js) b ≡ true
+        → is_below (length js) (option_or a b) ≡ true
+    either_below None b one other = other
+    either_below (Some n) b one other = one
+
+    found_below : (t : Bool) (n : ℕ) → nat_lt n (length js) ≡ t → is_below (length js) (cond t (Some n) None) ≡ true
+    found_below true n is = is
+    found_below false n is = refl
+
+    at_below : (t : Bool) → is_below (length js) (cond t (position (is_same_point spot.at) js) None) ≡ true
+    at_below true = found_below (nat_lt (position_or_len (is_same_point spot.at) js) (length js)) _ refl
+    at_below false = refl
+
 -- the graph of lines that are joined, and that no other touches, is a piece
 pub part_kept : SplitPointsLead → (d : DrawingValue) → KeepsDrawing d → (lines : List ℕ) → IsPart d lines → KeepsPiece (piece_of d lines)
 part_kept lead d keeps lines part =
@@ -232,6 +253,6 @@ part_kept lead d keeps lines part =
       costs = all_costs edges (All-map (λ (e : Edge). 1 ≤ e.cost) (edge_between d js) lines
           (λ k. λ x. λ below. cost_some lead d keeps (get_or lines k x) (part.there k x below)));
       cost_few = omega (arith, cost_of_piece d js lines, cost, lines_cost d keeps, keeps.cost);
-      start_below = refl;
-      end_below = refl;
+      start_below = among_below (block_of d (first_line lines)) js d.starts;
+      end_below = among_below (block_of d (first_line lines)) js d.ends;
     }

@@ -1,5 +1,5 @@
 -- The drawing of all sections keeps the limits of drawings.
-use Rattle.std.proofs.Common.{◌≡◌, ℕ, zero, suc, ◌<◌, ◌≤◌, true, false, nat_lt, List, [], ◌∷◌, ◌++◌, length, map, All, Contains, ap, sym, subst, ◌∙◌, refl, arith}
+use Rattle.std.proofs.Common.{◌≡◌, ℕ, zero, suc, ◌<◌, ◌≤◌, ◌⊎◌, inl, inr, true, false, nat_lt, List, [], ◌∷◌, ◌++◌, length, map, All, Contains, ap, sym, subst, ◌∙◌, refl, arith}
 use Rattle.std.proofs.lemmas.Bool.Decides.{nat_tests}
 use Rattle.std.proofs.lemmas.List.{get_or-map, length-map}
 use Rattle.std.proofs.lemmas.List.Concat.{flat_map-cons}
@@ -10,7 +10,9 @@ use Rattle.design_model.specs.declared.point.Point.{Point}
 use Rattle.line_graph.specs.Drawings.{DrawingValue, IsLine, KeepsDrawing, LineValue}
 use Rattle.line_graph.specs.Growing.{point_count}
 use Rattle.line_graph.specs.Sections.{all_sections, is_joined, is_shared, line_sections, lines_through, sections_of}
-use Rattle.line_graph.proofs.JoinLemmas.{all_flat, cost_kept, line_of, sections_joined, used_flat}
+use Rattle.line_graph.specs.WalkEnds.{HasNoEnds, KeepsAll, KeepsEnds}
+use Rattle.line_graph.proofs.JoinLemmas.{all_flat, cost_kept, joined_same, line_of, sections_joined, used_flat}
+use Rattle.line_graph.proofs.MakerLemmas.{unended}
 use Rattle.line_graph.proofs.SectionLemmas.{AreSome, lines_sew, some_sections}
 
 -- the blocks of the lines do not fall
@@ -112,7 +114,7 @@ keeps_joined d keeps few short = record {
 }
 
 -- the same of sections that were made
-pub keeps_sections : (d : DrawingValue) (lines sections slice : List LineValue) → KeepsDrawing d → lines ≡ d.lines
+keeps_sections : (d : DrawingValue) (lines sections slice : List LineValue) → KeepsDrawing d → lines ≡ d.lines
     → sections ≡ all_sections lines → slice ≡ sections → length sections ≤ 1024 → nat_lt 65536 (point_count slice) ≡ false
     → KeepsDrawing (record d { lines = sections })
 keeps_sections d lines sections slice keeps same are slice_is few short =
@@ -120,6 +122,26 @@ keeps_sections d lines sections slice keeps same are slice_is few short =
     subst (λ (s : List LineValue). KeepsDrawing (record d { lines = s })) (sym is)
     (keeps_joined d keeps (ap (λ (s : List LineValue). nat_lt 1024 (length s)) (sym is) ∙ grind (arith, nat_tests, few))
     (ap (λ (s : List LineValue). nat_lt 65536 (point_count s)) (sym is ∙ sym slice_is) ∙ short))
+
+-- and its starts and ends stay
+ends_kept : (d : DrawingValue) (sections : List LineValue) → KeepsDrawing d → KeepsEnds d → sections ≡ all_sections d.lines
+    → KeepsEnds (record d { lines = sections })
+ends_kept d sections keeps ends are = by_joined ends.joined
+  where
+    by_joined : HasNoEnds d ⊎ (is_joined d ≡ true) → KeepsEnds (record d { lines = sections })
+    by_joined (inl none) = unended (record d { lines = sections }) (record { starts = none.starts; ends = none.ends })
+    by_joined (inr joined) =
+        subst (λ (s : List LineValue). KeepsEnds (record d { lines = s })) (sym (are ∙ joined_same d.lines keeps.lines joined))
+        (record { starts = ends.starts; ends = ends.ends; joined = inr joined })
+
+-- so all is kept
+pub all_kept : (d : DrawingValue) (lines sections slice : List LineValue) → KeepsDrawing d → KeepsEnds d → lines ≡ d.lines
+    → sections ≡ all_sections lines → slice ≡ sections → length sections ≤ 1024 → nat_lt 65536 (point_count slice) ≡ false
+    → KeepsAll (record d { lines = sections })
+all_kept d lines sections slice keeps ends same are slice_is few short = record {
+  limits = keeps_sections d lines sections slice keeps same are slice_is few short;
+  ends = ends_kept d sections keeps ends (are ∙ ap all_sections same);
+}
 
 pub whole_joined : (d whole : DrawingValue) (lines sections : List LineValue) → lines ≡ d.lines → sections ≡ all_sections lines
     → whole ≡ record d { lines = sections } → is_joined whole ≡ true

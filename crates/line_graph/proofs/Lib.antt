@@ -28,3 +28,6 @@ mod SectionLemmas
 mod JoinLemmas
 mod CutLemmas
 mod KeptSections
+mod EndLemmas
+mod ChoosingLemmas
+mod EndFacts

@@ -9,10 +9,11 @@ use Rattle.std.specs.List.{list_any}
 use Rattle.design_model.specs.declared.point.Point.{Point}
 use Rattle.design_model.specs.Points.{is_same_point}
 use Rattle.step_splitter.specs.Chains.{last_from}
-use Rattle.line_graph.specs.declared.first_lines.Spot.{Spot}
+use Rattle.line_graph.specs.declared.spot.Spot.{Spot}
 use Rattle.line_graph.specs.declared.line_labels.Link.{Link}
 use Rattle.line_graph.specs.Drawings.{DrawingValue, LineValue, block_in, block_of, first_of, last_of, points_in, points_of}
-use Rattle.line_graph.specs.FirstLines.{AddsLink, AreLinks, IsEnd, IsLinkedAt, IsLinking, SharesEnd, TakesSpot, is_same_spot}
+use Rattle.line_graph.specs.FirstLines.{AddsLink, AreLinks, IsEnd, IsLinkedAt, IsLinking, SharesEnd, TakesSpot}
+use Rattle.line_graph.specs.Spots.{is_same_spot}
 use Rattle.line_graph.specs.LineLabels.{Agree}
 use Rattle.line_graph.specs.Pieces.{Joined, TouchAt, ends_of, shares_point}
 use Rattle.line_graph.proofs.MakerLemmas.{same_found}
@@ -157,13 +158,13 @@ in_ends (p ∷ rest) x test (inr is) holds =
     (or_left (test (last_from p rest)) false (subst (λ (y : Point). test y ≡ true) (sym (some_same (last_from p rest) x is)) holds))
 
 -- and what is found there is an end
-record FoundEnd (ps : List Point) (test : Point → Bool) : Type 0 where
-  point : Point
-  at_end : (first_of ps ≡ Some point) ⊎ (last_of ps ≡ Some point)
-  holds : test point ≡ true
+pub record FoundEnd (ps : List Point) (test : Point → Bool) : Type 0 where
+  pub point : Point
+  pub at_end : (first_of ps ≡ Some point) ⊎ (last_of ps ≡ Some point)
+  pub holds : test point ≡ true
 
 -- an end that passes a test that one passes
-from_ends : (ps : List Point) (test : Point → Bool) → list_any test (ends_of ps) ≡ true → FoundEnd ps test
+pub from_ends : (ps : List Point) (test : Point → Bool) → list_any test (ends_of ps) ≡ true → FoundEnd ps test
 from_ends [] test found = absurd (cc)
 from_ends (p ∷ rest) test found = elim (or_cases (test p) (list_any test (last_from p rest ∷ [])) found) [
   | inl here ↦ record { point = p; at_end = inl refl; holds = here }
@@ -174,7 +175,7 @@ from_ends (p ∷ rest) test found = elim (or_cases (test p) (list_any test (last
 ]
 
 -- a line that is there has an index below their number
-below_get : (lines : List LineValue) (i : ℕ) (line : LineValue) → slice_get lines i ≡ Some line → i < length lines
+pub below_get : (lines : List LineValue) (i : ℕ) (line : LineValue) → slice_get lines i ≡ Some line → i < length lines
 below_get [] i line is = absurd (cc)
 below_get (x ∷ lines) zero line is = omega arith
 below_get (x ∷ lines) (suc i) line is = omega (arith, below_get lines i line is)

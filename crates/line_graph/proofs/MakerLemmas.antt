@@ -1,9 +1,9 @@
 -- Drawings that grow keep their limits.
-use Rattle.std.proofs.Common.{◌≡◌, ◌≢◌, ℕ, ◌+◌, ◌-◌, ◌<◌, ◌≤◌, ◌==◌, Bool, true, false, not, ◌||◌, nat_le, nat_lt, List, [], ◌∷◌, ◌++◌, Result, Ok, Err, length, map, get_or, All, Contains, ap, sym, subst, ◌∙◌, refl, arith, length-append, eq-eqb, if◌then◌else◌}
+use Rattle.std.proofs.Common.{◌≡◌, ◌≢◌, ℕ, ◌+◌, ◌-◌, ◌<◌, ◌≤◌, inl, ◌==◌, Bool, true, false, not, ◌||◌, nat_le, nat_lt, List, [], ◌∷◌, ◌++◌, Result, Ok, Err, length, map, get_or, All, Contains, ap, sym, subst, ◌∙◌, refl, arith, length-append, eq-eqb, if◌then◌else◌}
 use Rattle.std.proofs.lemmas.Bool.{and_parts, both_ways, or_parts, or_right}
 use Rattle.std.proofs.lemmas.Bool.Decides.{nat_tests, Decides-int_eq}
 use Rattle.std.proofs.lemmas.List.{map-append}
-use Rattle.std.proofs.lemmas.List.Elements.{All-get_or, All-head, All-map, All-push, All-weaker, Contains-append_left, Contains-append_right}
+use Rattle.std.proofs.lemmas.List.Elements.{All-get_or, All-head, All-map, All-nil, All-push, All-weaker, Contains-append_left, Contains-append_right}
 use Rattle.std.proofs.lemmas.List.Folds.{list_any-append, list_any_none}
 use Rattle.std.proofs.lemmas.List.Sorted.{IsNonDecreasingBy-push}
 use Rattle.std.proofs.lemmas.List.Sums.{AllPass-from_list_all, sum_by-append}
@@ -22,6 +22,7 @@ use Rattle.line_graph.specs.Drawings.{DrawingValue, HasNoRepeat, IsLine, KeepsDr
 use Rattle.line_graph.specs.Growing.{are_in_range, has_repeat, is_label_word, is_last_empty, is_used, point_count, repeats_after, step_count, steps_with, with_block, with_line}
 use Rattle.line_graph.specs.Making.{AreBlocks, IsMade}
 use Rattle.line_graph.specs.Needles.{line_steps}
+use Rattle.line_graph.specs.WalkEnds.{AreApart, HasNoEnds, KeepsAll, KeepsEnds, is_junction}
 
 -- the same points are found to be the same
 pub same_found : (p q : Point) → p ≡ q → is_same_point p q ≡ true
@@ -92,6 +93,7 @@ label_set d word empty points steps made test =
       };
       blocks = made.blocks;
       lines = made.lines;
+      unended = record { starts = made.unended.starts; ends = made.unended.ends };
       last_is = made.last_is;
       points_are = made.points_are;
       steps_are = made.steps_are;
@@ -125,6 +127,7 @@ step_set d step empty points steps made low high none =
         points_to = made.lines.points_to;
         cost = omega (arith, after);
       };
+      unended = record { starts = made.unended.starts; ends = made.unended.ends };
       last_is = made.last_is;
       points_are = made.points_are;
       steps_are = made.steps_are ∙ (before ∙ sym after);
@@ -200,6 +203,7 @@ block_put d thread points steps made fits few =
         ordered = made.blocks.ordered;
       };
       lines = made.lines;
+      unended = record { starts = made.unended.starts; ends = made.unended.ends };
       last_is = sym (last_by (with_block d thread) (length d.threads) false longer
           (unused (length d.threads) d.lines made.blocks.there));
       points_are = made.points_are;
@@ -288,13 +292,14 @@ line_put d points empty count steps more made some comes =
         points_to = omega (arith, points_are, comes.few);
         cost = omega (arith, steps_are, comes.steps_are, comes.cost);
       };
+      unended = record { starts = made.unended.starts; ends = made.unended.ends };
       last_is = sym (last_by (with_line d points) line.block true last (found_last d.lines line));
       points_are = omega (arith, points_are, made.points_are);
       steps_are = omega (arith, steps_are, comes.steps_are);
     }
 
 -- at its end
-pub drawn : (d : DrawingValue) (points steps : ℕ) → IsMade d false points steps → length d.threads ≢ 0 → KeepsDrawing d
+drawn : (d : DrawingValue) (points steps : ℕ) → IsMade d false points steps → length d.threads ≢ 0 → KeepsDrawing d
 drawn d points steps made some = record {
   label = made.head.label_ok;
   one_word = made.head.one_word;
@@ -311,3 +316,21 @@ drawn d points steps made some = record {
   point_count = made.lines.points_to;
   cost = made.lines.cost;
 }
+
+-- where there is no start and no end, all is kept of them
+pub unended : (d : DrawingValue) → HasNoEnds d → KeepsEnds d
+unended d none = record {
+  starts = subst (AreApart d.lines) (sym none.starts) nothing;
+  ends = subst (AreApart d.lines) (sym none.ends) nothing;
+  joined = inl none;
+}
+  where
+    nothing : AreApart d.lines []
+    nothing = record {
+      there = All-nil (λ spot. is_junction d.lines spot ≡ true);
+      apart = λ i. λ j. λ s. λ less. λ below. absurd (omega (arith, below));
+    }
+
+-- at its end it is a drawing
+pub drawn_all : (d : DrawingValue) (points steps : ℕ) → IsMade d false points steps → length d.threads ≢ 0 → KeepsAll d
+drawn_all d points steps made some = record { limits = drawn d points steps made some; ends = unended d made.unended }

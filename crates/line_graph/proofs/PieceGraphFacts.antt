@@ -27,7 +27,8 @@ back line = record { line = line; back = true }
 
 -- a drawing of these lines
 abbrev of_lines : List LineValue → DrawingValue
-of_lines lines = record { label = []; step = 10; threads = 4 ∷ 7 ∷ []; lines = lines }
+of_lines lines =
+    record { label = []; step = 10; threads = 4 ∷ 7 ∷ []; lines = lines; starts = []; ends = [] }
 
 -- two triangles that share a corner, one line for each side
 abbrev triangles : DrawingValue

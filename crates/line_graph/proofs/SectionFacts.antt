@@ -6,7 +6,8 @@ use Rattle.line_graph.proofs.WalkFacts.{at}
 
 -- a drawing of these lines, in blocks of threads 5 and 6
 abbrev drawn : List LineValue → DrawingValue
-drawn lines = record { label = []; step = 10; threads = 5 ∷ 6 ∷ []; lines = lines }
+drawn lines =
+    record { label = []; step = 10; threads = 5 ∷ 6 ∷ []; lines = lines; starts = []; ends = [] }
 
 abbrev Joins : List LineValue → List LineValue → Type 0
 Joins lines sections = joined_drawing (drawn lines) ≡ Ok (drawn sections)

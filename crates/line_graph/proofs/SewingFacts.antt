@@ -13,6 +13,8 @@ strokes = record {
   threads = 5 ∷ 0 ∷ [];
   lines = record { block = 0; points = place (pos 0) (pos 0) ∷ place (negsuc 2) (pos 4) ∷ [] }
       ∷ record { block = 1; points = place (pos 10) (pos 2) ∷ place (pos 3) (pos 4) ∷ [] } ∷ [];
+  starts = [];
+  ends = [];
 }
 
 -- a stop stands between the strokes, since their blocks differ by one

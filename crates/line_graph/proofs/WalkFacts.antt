@@ -17,6 +17,8 @@ drawn step points = record {
   step = step;
   threads = 5 ∷ [];
   lines = record { block = 0; points = points } ∷ [];
+  starts = [];
+  ends = [];
 }
 
 -- a square of sides 30 at the longest step 30, and a stroke of 40 at the longest step 10

@@ -6,6 +6,7 @@ use Rattle.design_model.specs.declared.point.Point.{Point}
 use Rattle.design_model.specs.Labels.{IsLabel}
 use Rattle.step_splitter.specs.declared.segment.TheConstants.{MAX_STEP}
 use Rattle.step_splitter.specs.Chains.{IsNeedlePoint, KeepsMoving, last_from}
+use Rattle.line_graph.specs.declared.spot.Spot.{Spot}
 use Rattle.line_graph.specs.declared.limits.TheConstants.{MAX_BLOCKS, MAX_COST, MAX_LINES, MAX_POINTS}
 use Rattle.line_graph.specs.Needles.{line_steps}
 
@@ -14,12 +15,15 @@ pub record LineValue : Type 0 where
   pub block : ℕ
   pub points : List Point
 
--- a label, the longest step, the thread number of each block, and the lines
+-- a label, the longest step, the thread number of each block, the lines, and where walks over pieces
+-- are to begin and to end
 pub record DrawingValue : Type 0 where
   pub label : List ℕ
   pub step : ℕ
   pub threads : List ℕ
   pub lines : List LineValue
+  pub starts : List Spot
+  pub ends : List Spot
 
 -- the points of a line, if there is one
 abbrev pub points_in : Option LineValue → List Point

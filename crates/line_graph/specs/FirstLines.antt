@@ -1,16 +1,11 @@
 -- Which lines of a drawing are linked, so that those that touch can be found.
 -- Indexes of lines count from 0.
-use Rattle.std.specs.Prelude.{◌≡◌, ℕ, ◌<◌, ◌==◌, ◌&&◌, ◌⊎◌, Bool, List, [], ◌∷◌, ◌++◌, Option, Some, length, get_or, All, Contains}
-use Rattle.design_model.specs.Points.{is_same_point}
-use Rattle.line_graph.specs.declared.first_lines.Spot.{Spot}
+use Rattle.std.specs.Prelude.{◌≡◌, ℕ, ◌<◌, ◌⊎◌, List, [], ◌∷◌, ◌++◌, Option, Some, length, get_or, All, Contains}
+use Rattle.line_graph.specs.declared.spot.Spot.{Spot}
 use Rattle.line_graph.specs.declared.line_labels.Link.{Link}
 use Rattle.line_graph.specs.Drawings.{DrawingValue, block_of, first_of, last_of, points_of}
 use Rattle.line_graph.specs.LineLabels.{Agree, AreLinked, AreWithin}
 use Rattle.line_graph.specs.Pieces.{TouchAt}
-
--- the same place in the same block
-abbrev pub is_same_spot : Spot → Spot → Bool
-is_same_spot a b = a.block == b.block && is_same_point a.at b.at
 
 -- a line begins or ends at the spot
 pub record IsEnd (d : DrawingValue) (line : ℕ) (spot : Spot) : Type 0 where

@@ -36,7 +36,8 @@ is_last_empty d = not (length d.threads == 0) && not (is_used d (length d.thread
 
 -- the drawing with that label and that longest step, before its first block
 abbrev pub drawing_begun : List ℕ → ℕ → DrawingValue
-drawing_begun label step = record { label = label; step = step; threads = []; lines = [] }
+drawing_begun label step =
+    record { label = label; step = step; threads = []; lines = []; starts = []; ends = [] }
 
 -- a word that may be a label
 abbrev pub is_label_word : List ℕ → Bool

@@ -16,6 +16,9 @@ pub mod OnePieces
 pub mod Laws
 pub mod Growing
 pub mod Sections
+-- where walks are to begin and to end
+pub mod Spots
+pub mod WalkEnds
 -- of the maker's inside
 pub mod Making
 -- of the inside of pieces
@@ -23,3 +26,5 @@ pub mod LineLabels
 pub mod FirstLines
 pub mod ListedPoints
 pub mod PieceParts
+-- of the inside of starts and ends
+pub mod Choosing

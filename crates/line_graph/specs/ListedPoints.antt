@@ -2,9 +2,9 @@
 use Rattle.std.specs.Prelude.{◌≡◌, ℕ, zero, suc, ◌&&◌, Bool, true, false, List, [], ◌∷◌, ◌++◌, Option, Some, None, map, if◌then◌else◌}
 use Rattle.std.specs.List.{count_by}
 use Rattle.design_model.specs.declared.point.Point.{Point}
-use Rattle.line_graph.specs.declared.first_lines.Spot.{Spot}
+use Rattle.line_graph.specs.declared.spot.Spot.{Spot}
 use Rattle.line_graph.specs.Drawings.{LineValue}
-use Rattle.line_graph.specs.FirstLines.{is_same_spot}
+use Rattle.line_graph.specs.Spots.{is_same_spot}
 use Rattle.line_graph.specs.Sections.{is_shared, has_points, lines_through, sections_of}
 
 -- whether a spot was listed, and whether it was listed again

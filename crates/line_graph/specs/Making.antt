@@ -6,6 +6,7 @@ use Rattle.step_splitter.specs.declared.segment.TheConstants.{MAX_STEP}
 use Rattle.line_graph.specs.declared.limits.TheConstants.{MAX_BLOCKS, MAX_COST, MAX_LINES, MAX_POINTS}
 use Rattle.line_graph.specs.Drawings.{DrawingValue, IsLine, LineValue}
 use Rattle.line_graph.specs.Growing.{is_last_empty, point_count, step_count}
+use Rattle.line_graph.specs.WalkEnds.{HasNoEnds}
 
 -- the limits of a label that is one word or empty, and of a longest step
 pub record IsHead (label : List ℕ) (step : ℕ) : Type 0 where
@@ -36,6 +37,7 @@ pub record IsMade (d : DrawingValue) (empty : Bool) (points steps : ℕ) : Type 
   pub head : IsHead d.label d.step
   pub blocks : AreBlocks d.threads d.lines
   pub lines : AreLines d.step d.lines
+  pub unended : HasNoEnds d
   pub last_is : empty ≡ is_last_empty d
   pub points_are : points ≡ point_count d.lines
   pub steps_are : steps ≡ step_count d.step d.lines

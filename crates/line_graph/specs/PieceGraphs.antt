@@ -1,11 +1,12 @@
 -- The graph of a piece: its junctions by number, and its lines between them. Junctions count from
 -- 0, lines as in the drawing. Costs count steps.
-use Rattle.std.specs.Prelude.{ℕ, zero, suc, ◌+◌, ◌%◌, ◌==◌, Bool, true, false, List, [], ◌∷◌, ◌++◌, Option, Some, None, length, map, filter, if◌then◌else◌}
+use Rattle.std.specs.Prelude.{ℕ, zero, suc, ◌+◌, ◌%◌, ◌==◌, Bool, true, false, List, [], ◌∷◌, ◌++◌, Option, Some, None, length, map, filter, position, if◌then◌else◌}
 use Rattle.std.specs.List.{flat_map, list_any, position_or_len, range_with_len}
 use Rattle.std.specs.Option.{option_or}
 use Rattle.design_model.specs.declared.point.Point.{Point}
 use Rattle.design_model.specs.Points.{is_same_point}
 use Rattle.line_graph.specs.declared.edge.Edge.{Edge}
+use Rattle.line_graph.specs.declared.spot.Spot.{Spot}
 use Rattle.line_graph.specs.Drawings.{DrawingValue, block_of, first_of, last_of, points_of}
 use Rattle.line_graph.specs.Pieces.{ends_of, first_line}
 use Rattle.line_graph.specs.Walks.{cost_of_line}
@@ -62,7 +63,18 @@ abbrev pub degrees_from : List Edge → (at count : ℕ) → List ℕ
 degrees_from edges at zero = []
 degrees_from edges at (suc n) = degree edges at ∷ degrees_from edges (at + 1) n
 
--- lines between junctions, of which no start and no end is said
+-- the number of the junction of the block at that spot, if there is one
+abbrev pub number_at : ℕ → List Point → Spot → Option ℕ
+number_at block junctions spot =
+    if spot.block == block then position (is_same_point spot.at) junctions else None
+
+-- the number of the first of the spots that is a junction of the block, if one of them is
+abbrev pub number_among : ℕ → List Point → List Spot → Option ℕ
+number_among block junctions [] = None
+number_among block junctions (spot ∷ rest) =
+    option_or (number_at block junctions spot) (number_among block junctions rest)
+
+-- lines between junctions, with the start and the end that the drawing says of one of them
 abbrev pub piece_between : DrawingValue → List ℕ → List Point → List Edge → PieceValue
 piece_between d lines junctions edges = record {
   block = block_of d (first_line lines);
@@ -70,8 +82,8 @@ piece_between d lines junctions edges = record {
   junctions = junctions;
   edges = edges;
   degrees = degrees_from edges 0 (length junctions);
-  start = None;
-  end = None;
+  start = number_among (block_of d (first_line lines)) junctions d.starts;
+  end = number_among (block_of d (first_line lines)) junctions d.ends;
 }
 
 -- the piece of the lines with these indexes

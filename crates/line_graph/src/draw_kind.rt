@@ -6,7 +6,7 @@ use std::alloc::AllocFailed;
 /// What is wrong with a drawing or a drawing text.
 #[derive(Clone, Copy, Debug, PartialEq, Eq)]
 pub enum DrawKind {
-    /// The text does not begin with the words `redwork 1` or `redwork 2`.
+    /// The text does not begin with the words `redwork 1`, `redwork 2` or `redwork 3`.
     BadHeader,
     /// A text line says nothing that a line of a drawing text may say there.
     BadWord,
@@ -30,6 +30,10 @@ pub enum DrawKind {
     TooManyBlocks,
     /// All lines together have more than 200,000 steps.
     TooMuchCost,
+    /// A start or an end is no junction of its block.
+    NoJunction,
+    /// A piece has a second start, or a second end.
+    EndRepeated,
     /// Memory was wanted and not found.
     Memory,
 }

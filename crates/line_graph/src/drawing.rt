@@ -1,26 +1,31 @@
-ghost use Rattle.std.specs.Prelude.{◌≡◌, ◌<◌, ◌≤◌, length, slice_index};
+ghost use Rattle.std.specs.Prelude.{◌≡◌, ◌<◌, ◌≤◌, IfOk, length, slice_index};
 ghost use Rattle.line_graph.specs.declared.limits.TheConstants.{MAX_LINES};
 
 use crate::limits::MAX_BLOCKS;
 use crate::line::Line;
+use crate::spot::Spot;
 use arrayvec::ArrayVec;
-use design_model::{MAX_LABEL, Point};
+use design_model::{MAX_LABEL, Memory, Point};
+use std::alloc::Global;
 use std::marker::Model;
 
 /// A line drawing: a label, the longest step, blocks of one thread each, and lines in the blocks.
 ///
 /// Blocks and lines count from 0. Each block has a line, and the lines stand in the order of their
-/// blocks.
+/// blocks. A piece may have a junction where its walk is to begin, a start, and one where it is to end.
 #[derive(Debug, Drop)]
 pub struct Drawing {
     label: ArrayVec<u8, MAX_LABEL>,
     step: u32,
     threads: ArrayVec<u8, MAX_BLOCKS>,
     lines: Vec<Line>,
+    starts: Vec<Spot>,
+    ends: Vec<Spot>,
 }
 
 impl Model for Drawing {
-    ghost use Rattle.line_graph.specs.Drawings.{DrawingValue, KeepsDrawing};
+    ghost use Rattle.line_graph.specs.Drawings.{DrawingValue};
+    ghost use Rattle.line_graph.specs.WalkEnds.{KeepsAll};
 
     ghost Value = { DrawingValue };
 
@@ -29,19 +34,24 @@ impl Model for Drawing {
       step = d.step;
       threads = d.threads.items;
       lines = d.lines.items;
+      starts = d.starts.items;
+      ends = d.ends.items;
     } };
 
-    ghost invariant = { λ d. KeepsDrawing (record {
+    ghost invariant = { λ d. KeepsAll (record {
       label = d.label.items;
       step = d.step;
       threads = d.threads.items;
       lines = d.lines.items;
+      starts = d.starts.items;
+      ends = d.ends.items;
     }) };
 }
 
 impl Drawing {
     ghost use Rattle.design_model.specs.Labels.{IsLabel};
     ghost use Rattle.line_graph.specs.Drawings.{KeepsDrawing, points_of, block_of};
+    ghost use Rattle.line_graph.specs.WalkEnds.{KeepsAll, KeepsEnds};
 
     /// The drawing of these parts.
     pub(crate) fn of_parts(
@@ -49,18 +59,24 @@ impl Drawing {
         step: u32,
         threads: ArrayVec<u8, MAX_BLOCKS>,
         lines: Vec<Line>,
+        starts: Vec<Spot>,
+        ends: Vec<Spot>,
     ) -> Drawing
-        requires { KeepsDrawing (record {
+        requires { KeepsAll (record {
           label = label.items;
           step = step;
           threads = threads.items;
           lines = lines.items;
+          starts = starts.items;
+          ends = ends.items;
         }) }
         ensures { result ≡ record {
           label = label.items;
           step = step;
           threads = threads.items;
           lines = lines.items;
+          starts = starts.items;
+          ends = ends.items;
         } }
     {
         Drawing {
@@ -68,13 +84,15 @@ impl Drawing {
             step,
             threads,
             lines,
+            starts,
+            ends,
         }
     }
 
     /// The drawing with these lines in the place of its own.
-    pub(crate) fn with_lines(&self, lines: Vec<Line>) -> Drawing
-        requires { KeepsDrawing (record self.now { lines = lines.items }) }
-        ensures { result ≡ record self.now { lines = lines.items } }
+    pub(crate) fn with_lines(&self, alloc: Global, lines: Vec<Line>) -> Result<Drawing, Memory>
+        requires { KeepsAll (record self.now { lines = lines.items }) }
+        ensures { IfOk result (λ d. d ≡ record self.now { lines = lines.items }) }
     {
         let mut label: ArrayVec<u8, MAX_LABEL> = ArrayVec::new();
         label.try_extend_from_slice(self.label.as_slice()).unwrap();
@@ -82,13 +100,31 @@ impl Drawing {
         threads
             .try_extend_from_slice(self.threads.as_slice())
             .unwrap();
-        Drawing::of_parts(label, self.step, threads, lines)
+        let starts = copied(alloc, self.starts.as_slice())?;
+        let ends = copied(alloc, self.ends.as_slice())?;
+        Ok(Drawing::of_parts(label, self.step, threads, lines, starts, ends))
+    }
+
+    /// The drawing with these starts and ends in the place of its own.
+    pub(crate) fn with_ends(self, starts: Vec<Spot>, ends: Vec<Spot>) -> Drawing
+        requires { KeepsAll (record self { starts = starts.items; ends = ends.items }) }
+        ensures { result ≡ record self { starts = starts.items; ends = ends.items } }
+    {
+        let Drawing {
+            label,
+            step,
+            threads,
+            lines,
+            ..
+        } = self;
+        Drawing::of_parts(label, step, threads, lines, starts, ends)
     }
 
     /// The longest step on each axis, in tenths of a millimetre.
     pub fn step(&self) -> u32
         ensures value { result ≡ self.now.step }
         ensures limits { KeepsDrawing self.now }
+        ensures ends { KeepsEnds self.now }
     {
         self.step
     }
@@ -114,6 +150,20 @@ impl Drawing {
         ensures { result.now ≡ self.now.lines }
     {
         self.lines.as_slice()
+    }
+
+    /// The junctions where walks are to begin, at most one of each piece.
+    pub fn starts(&self) -> &[Spot]
+        ensures { result.now ≡ self.now.starts }
+    {
+        self.starts.as_slice()
+    }
+
+    /// The junctions where walks are to end, at most one of each piece.
+    pub fn ends(&self) -> &[Spot]
+        ensures { result.now ≡ self.now.ends }
+    {
+        self.ends.as_slice()
     }
 
     /// The number of lines.
@@ -157,4 +207,12 @@ impl Drawing {
     {
         self.lines[line as usize].block()
     }
+}
+
+fn copied(alloc: Global, spots: &[Spot]) -> Result<Vec<Spot>, Memory>
+    ensures { IfOk result (λ copy. copy.items ≡ spots.now) }
+{
+    let mut copy = Vec::new(alloc);
+    copy.extend_from_slice(spots)?;
+    Ok(copy)
 }

@@ -1,17 +1,20 @@
-ghost use Rattle.std.specs.Prelude.{◌≡◌, ◌≢◌, ◌≤◌, length, All, IsErrOf, IsOk, true};
+ghost use Rattle.std.specs.Prelude.{◌≡◌, ◌≢◌, ◌≤◌, length, All, IfOk, IsErrOf, IsOk, true};
 ghost use Rattle.std.specs.Char.{is_ascii_graphic};
 ghost use Rattle.std.specs.List.{list_all};
 ghost use Rattle.design_model.specs.Labels.{IsLabel};
 ghost use Rattle.step_splitter.specs.declared.segment.TheConstants.{MAX_STEP as max_step};
 ghost use Rattle.step_splitter.specs.Chains.{IsNeedlePoint};
 ghost use Rattle.line_graph.specs.declared.draw_kind.DrawKind.TheVariants as kind;
+ghost use Rattle.line_graph.specs.declared.limits.TheConstants.{MAX_BLOCKS as max_blocks};
 ghost use Rattle.line_graph.specs.Growing.{Changes, block_added, drawing_begun, finished, is_label_word as is_a_label_word, line_added, steps_with as steps_of_lines_with};
+ghost use Rattle.line_graph.specs.WalkEnds.{HasNoEnds};
 
 use crate::draw_kind::DrawKind;
 use crate::drawing::Drawing;
 use crate::limits::{MAX_BLOCKS, MAX_COST, MAX_LINES, MAX_POINTS};
 use crate::line::Line;
 use crate::line_shape::{are_in_range, has_repeat, line_steps};
+use crate::spot::Spot;
 use arrayvec::ArrayVec;
 use design_model::{MAX_LABEL, Point, Points};
 use std::alloc::Global;
@@ -26,6 +29,8 @@ pub struct DrawingMaker {
     step: u32,
     threads: ArrayVec<u8, MAX_BLOCKS>,
     lines: Vec<Line>,
+    starts: Vec<Spot>,
+    ends: Vec<Spot>,
     is_last_empty: bool,
     points: u32,
     steps: u32,
@@ -42,6 +47,8 @@ impl Model for DrawingMaker {
       step = d.step;
       threads = d.threads.items;
       lines = d.lines.items;
+      starts = d.starts.items;
+      ends = d.ends.items;
     } };
 
     ghost invariant = { λ d. IsMade (record {
@@ -49,6 +56,8 @@ impl Model for DrawingMaker {
       step = d.step;
       threads = d.threads.items;
       lines = d.lines.items;
+      starts = d.starts.items;
+      ends = d.ends.items;
     }) d.is_last_empty d.points d.steps };
 }
 
@@ -69,6 +78,8 @@ impl DrawingMaker {
             step,
             threads: ArrayVec::new(),
             lines: Vec::new(alloc),
+            starts: Vec::new(alloc),
+            ends: Vec::new(alloc),
             is_last_empty: false,
             points: 0,
             steps: 0,
@@ -96,7 +107,8 @@ impl DrawingMaker {
 
     /// The number of blocks.
     pub fn block_count(&self) -> usize
-        ensures { result ≡ length self.now.threads }
+        ensures value { result ≡ length self.now.threads }
+        ensures most { result ≤ max_blocks }
     {
         self.threads.len()
     }
@@ -167,9 +179,10 @@ impl DrawingMaker {
     }
 
     /// The drawing, where each of its blocks has a line: `NoBlock` where there is no block, then
-    /// `EmptyBlock`.
+    /// `EmptyBlock`. It has no start and no end.
     pub fn finish(self) -> Result<Drawing, DrawKind>
-        ensures { result ≡ finished self }
+        ensures value { result ≡ finished self }
+        ensures unended { IfOk result HasNoEnds }
     {
         if self.threads.is_empty() {
             return Err(DrawKind::NoBlock);
@@ -182,9 +195,11 @@ impl DrawingMaker {
             step,
             threads,
             lines,
+            starts,
+            ends,
             ..
         } = self;
-        Ok(Drawing::of_parts(label, step, threads, lines))
+        Ok(Drawing::of_parts(label, step, threads, lines, starts, ends))
     }
 }
 

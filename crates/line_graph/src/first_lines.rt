@@ -1,20 +1,15 @@
 ghost use Rattle.std.specs.Prelude.{◌≡◌, ◌<◌, ◌+◌, IfOk, OnOk, length};
 ghost use Rattle.std.specs.HashMap.{get};
-ghost use Rattle.line_graph.specs.FirstLines.{AddsLink, AreLinks, IsLinking, TakesSpot, is_same_spot};
+ghost use Rattle.line_graph.specs.FirstLines.{AddsLink, AreLinks, IsLinking, TakesSpot};
+ghost use Rattle.line_graph.specs.Spots.{is_same_spot};
 
 use crate::drawing::Drawing;
 use crate::drawn_lines::line_ends;
 use crate::line_labels::Link;
-use design_model::{Memory, Point};
+use crate::spot::Spot;
+use design_model::Memory;
 use std::alloc::Global;
 use std::collections::HashMap;
-
-/// A place in a block.
-#[derive(Clone, Copy, Debug, PartialEq, Eq, Hash)]
-pub struct Spot {
-    pub block: u32,
-    pub at: Point,
-}
 
 /// For each line a link at its first end and one at its last.
 pub fn links(alloc: Global, d: &Drawing) -> Result<Vec<Link>, Memory>

@@ -2,12 +2,14 @@
 //! them.
 #![tactic(auto)]
 
+mod chosen_spots;
 mod degrees;
 mod draw_kind;
 mod drawing;
 mod drawing_maker;
 mod drawn_lines;
 mod edge;
+mod ends_maker;
 mod first_lines;
 mod joined_lines;
 mod junctions;
@@ -23,6 +25,7 @@ mod piece;
 mod piece_lines;
 mod piece_terms;
 mod sections;
+mod spot;
 #[cfg(test)]
 mod tests;
 mod walk_laws;
@@ -33,6 +36,7 @@ pub use drawing::Drawing;
 pub use drawing_maker::{DrawingMaker, is_label_word};
 pub use drawn_lines::drawing_cost;
 pub use edge::{Edge, Edges};
+pub use ends_maker::EndsMaker;
 pub use joined_lines::pieces;
 pub use laws::{joined_drawings_stay, needles_lead_along, sections_keep_segments};
 pub use limits::{MAX_BLOCKS, MAX_COST, MAX_LINES, MAX_POINTS};
@@ -41,6 +45,9 @@ pub use needle_points::needles;
 pub use pass::{Pass, Walk};
 pub use piece::{Piece, Pieces};
 pub use sections::join;
+pub use spot::Spot;
 pub use step_splitter::MAX_STEP;
-pub use walk_laws::{fitting_walks_are_sewable, pieces_are_one, pieces_keep_limits, runs_are_sewn};
+pub use walk_laws::{
+    fitting_walks_are_sewable, pieces_are_one, pieces_keep_limits, runs_are_sewn, spots_are_joined,
+};
 pub use whole_lines::joined;

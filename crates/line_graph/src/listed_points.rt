@@ -1,10 +1,10 @@
 ghost use Rattle.std.specs.Prelude.{◌≡◌, IfOk, OnOk, is_some};
 ghost use Rattle.std.specs.HashMap.{get};
-ghost use Rattle.line_graph.specs.FirstLines.{is_same_spot};
+ghost use Rattle.line_graph.specs.Spots.{is_same_spot};
 ghost use Rattle.line_graph.specs.ListedPoints.{MarksLine, MarksSpot, TellCuts, cuts_by, spot_at};
 
-use crate::first_lines::Spot;
 use crate::line::Line;
+use crate::spot::Spot;
 use design_model::{Memory, Point};
 use std::alloc::Global;
 use std::collections::HashMap;

@@ -1,7 +1,7 @@
 ghost use Rattle.std.specs.Prelude.{◌≡◌, ◌<◌, ◌≤◌, IfOk, length};
 ghost use Rattle.line_graph.specs.CutPieces.{graph_of};
 ghost use Rattle.line_graph.specs.KeptPieces.{KeepsPiece};
-ghost use Rattle.line_graph.specs.PieceGraphs.{piece_of as the_piece_of};
+ghost use Rattle.line_graph.specs.PieceGraphs.{number_among as the_number_among, number_at as the_number_at, piece_of as the_piece_of};
 ghost use Rattle.line_graph.specs.PieceParts.{IsPart, labelled};
 ghost use Rattle.line_graph.specs.Pieces.{first_line};
 
@@ -9,7 +9,8 @@ use crate::degrees::degrees;
 use crate::drawing::Drawing;
 use crate::junctions::edges;
 use crate::piece::Piece;
-use design_model::{Memory, Numbers, Points};
+use crate::spot::Spot;
+use design_model::{Memory, Numbers, Point, Points};
 use indexmap::IndexSet;
 use std::alloc::Global;
 use step_splitter::split_points_lead;
@@ -25,15 +26,45 @@ pub fn piece_of(alloc: Global, d: &Drawing, lines: Numbers) -> Result<Piece, Mem
     let mut junctions = Points::new(alloc);
     junctions.append(seen.as_slice())?;
     let degrees = degrees(alloc, edges.as_slice(), junctions.len())?;
+    let block = d.line_block(first(lines.as_slice()));
+    let start = number_among(block, &seen, d.starts());
+    let end = number_among(block, &seen, d.ends());
     Ok(Piece {
-        block: d.line_block(first(lines.as_slice())),
+        block,
         lines,
         junctions,
         edges,
         degrees: Numbers::from_vec(degrees),
-        start: None,
-        end: None,
+        start,
+        end,
     })
+}
+
+/// The number of the first of the spots that is a junction of the block, if one of them is.
+fn number_among(block: u32, junctions: &IndexSet<Point>, spots: &[Spot]) -> Option<u32>
+    requires { length junctions.now.keys ≤ 4294967295 }
+    ensures { result ≡ the_number_among block junctions.now.keys spots.now }
+{
+    let mut rest = spots;
+    while let [spot, after @ ..] = rest {
+        if let Some(number) = number_at(block, junctions, *spot) {
+            return Some(number);
+        }
+        rest = after;
+    }
+    None
+}
+
+/// The number of the junction of the block at that spot, if there is one.
+fn number_at(block: u32, junctions: &IndexSet<Point>, spot: Spot) -> Option<u32>
+    requires { length junctions.now.keys ≤ 4294967295 }
+    ensures { result ≡ the_number_at block junctions.now.keys spot }
+{
+    if spot.block != block {
+        return None;
+    }
+    let number = junctions.get_index_of(&spot.at)?;
+    Some(number as u32)
 }
 
 /// The graph of these lines keeps what each piece keeps.

@@ -2,18 +2,18 @@ ghost use Rattle.std.specs.Prelude.{◌≡◌, ◌&&◌, ◌++◌, ◌∷◌, []
 ghost use Rattle.std.specs.HashMap.{get};
 ghost use Rattle.std.specs.List.{flat_map};
 ghost use Rattle.line_graph.specs.declared.limits.TheConstants.{MAX_POINTS as max_points};
-ghost use Rattle.line_graph.specs.FirstLines.{is_same_spot};
+ghost use Rattle.line_graph.specs.Spots.{is_same_spot};
 ghost use Rattle.line_graph.specs.Growing.{Answers, point_count};
 ghost use Rattle.line_graph.specs.ListedPoints.{cuts_by, sections_by};
 ghost use Rattle.line_graph.specs.Sections.{all_sections, has_points, is_joined, joined_drawing};
 
 use crate::draw_kind::DrawKind;
 use crate::drawing::Drawing;
-use crate::first_lines::Spot;
 use crate::limits::{MAX_LINES, MAX_POINTS};
 use crate::line::Line;
 use crate::listed_points::{is_cut, listed_points};
 use crate::needle_points::first_point;
+use crate::spot::Spot;
 use design_model::{Memory, Point, Points};
 use std::alloc::Global;
 use std::collections::HashMap;
@@ -33,7 +33,7 @@ pub fn join(alloc: Global, d: &Drawing) -> Result<Drawing, DrawKind>
     if have_many_points(&sections) {
         return Err(DrawKind::TooManyPoints);
     }
-    Ok(d.with_lines(sections))
+    Ok(d.with_lines(alloc, sections)?)
 }
 
 /// The sections of all lines, in order.

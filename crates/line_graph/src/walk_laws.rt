@@ -1,6 +1,7 @@
 ghost use Rattle.line_graph.specs.OnePieces.{PiecesAreOne};
 ghost use Rattle.line_graph.specs.Runs.{RunsAreSewn};
 ghost use Rattle.line_graph.specs.SewnWalks.{FittingWalksAreSewable, PiecesKeepLimits};
+ghost use Rattle.line_graph.specs.WalkEnds.{SpotsAreJoined};
 
 use crate::laws::needles_lead_along;
 
@@ -26,4 +27,10 @@ pub fn pieces_keep_limits()
 /// A drawing has one list of pieces.
 pub fn pieces_are_one()
     ensures { PiecesAreOne }
+{}
+
+/// Starts and ends are told apart by pieces: lines lead from one junction to another where a chain of lines
+/// that touch joins lines at them.
+pub fn spots_are_joined()
+    ensures { SpotsAreJoined }
 {}

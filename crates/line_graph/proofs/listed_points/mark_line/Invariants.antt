@@ -1,7 +1,7 @@
 use Rattle.std.proofs.Common.{List, ◌++◌, length, map}
 use Rattle.std.specs.HashMap.{get}
-use Rattle.line_graph.specs.declared.first_lines.Spot.{Spot}
-use Rattle.line_graph.specs.FirstLines.{is_same_spot}
+use Rattle.line_graph.specs.declared.spot.Spot.{Spot}
+use Rattle.line_graph.specs.Spots.{is_same_spot}
 use Rattle.line_graph.specs.ListedPoints.{AreMarked, spot_at, spots_of}
 use Rattle.line_graph.proofs.listed_points.mark_line.Given as goal
 

@@ -1,7 +1,7 @@
 use Rattle.std.proofs.Common.{◌≡◌, ◌++◌, length}
 use Rattle.std.specs.HashMap.{get}
 use Rattle.std.specs.List.{flat_map}
-use Rattle.line_graph.specs.FirstLines.{is_same_spot}
+use Rattle.line_graph.specs.Spots.{is_same_spot}
 use Rattle.line_graph.specs.ListedPoints.{sections_by}
 use Rattle.line_graph.proofs.sections.marked_sections.Given as goal
 

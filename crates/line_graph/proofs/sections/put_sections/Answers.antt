@@ -1,5 +1,5 @@
 use Rattle.std.specs.HashMap.{get}
-use Rattle.line_graph.specs.FirstLines.{is_same_spot}
+use Rattle.line_graph.specs.Spots.{is_same_spot}
 use Rattle.line_graph.proofs.CutLemmas.{line_begun}
 use Rattle.line_graph.proofs.sections.put_sections.Goals as goal
 

@@ -1,6 +1,6 @@
 use Rattle.std.proofs.Common.{◌≡◌, ◌++◌, length}
 use Rattle.std.specs.HashMap.{get}
-use Rattle.line_graph.specs.FirstLines.{is_same_spot}
+use Rattle.line_graph.specs.Spots.{is_same_spot}
 use Rattle.line_graph.specs.ListedPoints.{cuts_by, sections_by, sections_on}
 use Rattle.line_graph.specs.Sections.{lines_through}
 use Rattle.line_graph.proofs.sections.put_sections.Given as goal

@@ -1,0 +1,72 @@
+-- Worked values of texts that name starts and ends, and of their faults.
+use Rattle.std.proofs.Common.{◌≡◌, ℕ, pos, List, [], ◌∷◌, ◌++◌, Ok, Err, codes, refl}
+use Rattle.std.specs.List.{flat_map}
+use Rattle.line_graph.specs.declared.draw_kind.DrawKind.{DrawKind}
+use Rattle.line_graph.specs.declared.draw_kind.DrawKind.TheVariants as kind
+use Rattle.line_graph.specs.declared.spot.Spot.{Spot}
+use Rattle.line_graph.specs.Drawings.{DrawingValue}
+use Rattle.line_graph.specs.Sections.{lines_through}
+use Rattle.drawing_text.specs.DrawingText.{drawing_as2, drawing_of}
+use Rattle.drawing_text.proofs.SpellingFacts.{place}
+
+-- a text of that version: lines of a block with a cross at 10 0, and further lines
+abbrev text : List ℕ → List (List ℕ) → List ℕ
+text header more = flat_map (λ line. line ++ 10 ∷ []) (header ∷ codes "step 10" ∷ codes "color 1"
+    ∷ codes "line 0 0 10 0 20 0" ∷ codes "line 10 5 10 0" ∷ more)
+
+abbrev spot : ℕ → ℕ → Spot
+spot x y = record { block = 0; at = place (pos x) (pos y) }
+
+abbrev crossed : List Spot → List Spot → DrawingValue
+crossed starts ends = record {
+  label = [];
+  step = 10;
+  threads = 1 ∷ [];
+  lines = lines_through 0 ((place (pos 0) (pos 0) ∷ place (pos 10) (pos 0) ∷ [])
+      ∷ (place (pos 10) (pos 0) ∷ place (pos 20) (pos 0) ∷ []) ∷ (place (pos 10) (pos 5) ∷ place (pos 10) (pos 0) ∷ []) ∷ []);
+  starts = starts;
+  ends = ends;
+}
+
+-- version 3 without starts and ends is version 2
+pub known_neither : drawing_of (text (codes "redwork 3") []) ≡ Ok (crossed [] [])
+known_neither = refl
+
+-- a start and an end, in any order, at a junction that a section made too
+pub known_both : drawing_of (text (codes "redwork 3") (codes "end 10 0" ∷ codes "start 20 0" ∷ []))
+    ≡ Ok (crossed (spot 20 0 ∷ []) (spot 10 0 ∷ []))
+known_both = refl
+
+-- such a text has that fault
+abbrev Faults : List (List ℕ) → ℕ → DrawKind → Type 0
+Faults more number why = drawing_of (text (codes "redwork 3") more) ≡ Err (record { number = number; kind = why })
+
+-- the words of such a line, from left to right
+pub known_words : Faults (codes "start 0" ∷ []) 6 kind.BadWord × Faults (codes "end 0 0 0" ∷ []) 6 kind.BadWord
+    × Faults (codes "start x 40000" ∷ []) 6 kind.BadNumber × Faults (codes "start 40000 x" ∷ []) 6 kind.OutOfRange
+known_words = (refl, refl, refl, refl)
+
+-- a line comes first, and so does each other fault of the text
+pub known_order : Faults (codes "start 5 5" ∷ codes "line 1 1" ∷ []) 7 kind.FewPoints
+    × Faults (codes "start 5 5" ∷ codes "color 2" ∷ []) 7 kind.EmptyBlock
+known_order = (refl, refl)
+
+pub known_no_block : drawing_of (codes "redwork 3" ++ 10 ∷ codes "start 0") ≡ Err (record { number = 2; kind = kind.NoBlock })
+known_no_block = refl
+
+-- no junction, and a piece that has one: the first of them in the text
+pub known_junctions : Faults (codes "start 15 0" ∷ []) 6 kind.NoJunction
+    × Faults (codes "start 0 0" ∷ codes "end 0 0" ∷ codes "start 20 0" ∷ []) 8 kind.EndRepeated
+    × Faults (codes "end 0 0" ∷ codes "end 10 0" ∷ codes "start 15 0" ∷ []) 7 kind.EndRepeated
+    × Faults (codes "color 2" ∷ codes "line 0 0 20 0" ∷ codes "start 10 5" ∷ []) 8 kind.NoJunction
+known_junctions = (refl, refl, refl, refl)
+
+-- versions 1 and 2 name none
+pub known_earlier : (drawing_of (text (codes "redwork 2") (codes "start 0 0" ∷ []))
+      ≡ Err (record { number = 6; kind = kind.BadWord }))
+    × (drawing_of (text (codes "redwork 1") (codes "end 0 0" ∷ [])) ≡ Err (record { number = 6; kind = kind.BadWord }))
+known_earlier = (refl, refl)
+
+-- and version 3 isn't read as version 2
+pub known_as2 : drawing_as2 (text (codes "redwork 3") []) ≡ Err (record { number = 1; kind = kind.BadHeader })
+known_as2 = refl

@@ -1,0 +1,40 @@
+ghost use Rattle.std.specs.Prelude.{◌≡◌, true};
+ghost use Rattle.line_graph.specs.Growing.{Changes};
+ghost use Rattle.line_graph.specs.Sections.{is_joined};
+ghost use Rattle.line_graph.specs.WalkEnds.{HasNoEnds, walk_end_added};
+ghost use Rattle.drawing_text.specs.DrawingText.{Reads, with_ends as the_drawing_with_ends};
+
+use crate::draw_fault::{DrawFault, told_at};
+use crate::walk_end::WalkEnd;
+use line_graph::{DrawKind, Drawing, EndsMaker};
+use std::alloc::Global;
+
+/// The drawing with these starts and ends, or the fault of the first that it may not have, at its own line.
+pub fn with_ends(alloc: Global, drawing: Drawing, ends: &[WalkEnd]) -> Result<Drawing, DrawFault>
+    requires joined { is_joined drawing ≡ true }
+    requires unended { HasNoEnds drawing }
+    ensures { Reads (the_drawing_with_ends drawing ends.now) result }
+{
+    let mut maker = match EndsMaker::new(alloc, drawing) {
+        Ok(maker) => maker,
+        Err(_) => return Err(told_at(0, 0, DrawKind::Memory)),
+    };
+    let mut rest = ends;
+    while let [end, after @ ..] = rest {
+        if let Err(kind) = add(&mut maker, *end) {
+            return Err(told_at(end.number, 0, kind));
+        }
+        rest = after;
+    }
+    Ok(maker.finish())
+}
+
+fn add(maker: &mut EndsMaker, end: WalkEnd) -> Result<(), DrawKind>
+    ensures { Changes (walk_end_added end.is_start maker.old end.spot) maker.old result maker.new }
+{
+    if end.is_start {
+        maker.add_start(end.spot)
+    } else {
+        maker.add_end(end.spot)
+    }
+}

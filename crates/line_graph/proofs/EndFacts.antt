@@ -1,0 +1,99 @@
+-- Starts and ends, worked out by hand: an angle of two lines and a stroke in one block, a stroke at the angle's first
+-- point in the next one.
+use Rattle.std.proofs.Common.{◌≡◌, ℕ, pos, true, false, List, [], ◌∷◌, Ok, Err, Some, None, refl}
+use Rattle.design_model.specs.declared.point.Point.{Point}
+use Rattle.line_graph.specs.declared.draw_kind.DrawKind.TheVariants as kind
+use Rattle.line_graph.specs.declared.spot.Spot.{Spot}
+use Rattle.line_graph.specs.Drawings.{DrawingValue, LineValue}
+use Rattle.line_graph.specs.PieceGraphs.{piece_of}
+use Rattle.line_graph.specs.WalkEnds.{are_joined, end_added, is_junction, start_added, walk_end_added}
+
+abbrev at : ℕ → ℕ → Point
+at x y = record { x = pos x; y = pos y }
+
+abbrev spot : ℕ → ℕ → ℕ → Spot
+spot block x y = record { block = block; at = at x y }
+
+abbrev line : ℕ → List Point → LineValue
+line block points = record { block = block; points = points }
+
+abbrev drawn : List Spot → List Spot → DrawingValue
+drawn starts ends = record {
+  label = [];
+  step = 10;
+  threads = 5 ∷ 6 ∷ [];
+  lines = line 0 (at 0 0 ∷ at 5 5 ∷ at 10 0 ∷ []) ∷ line 0 (at 30 0 ∷ at 40 0 ∷ []) ∷ line 0 (at 10 0 ∷ at 10 10 ∷ [])
+      ∷ line 1 (at 0 0 ∷ at 10 0 ∷ []) ∷ [];
+  starts = starts;
+  ends = ends;
+}
+
+-- only the ends of lines are junctions, in the block of the line
+pub known_junction : is_junction (drawn [] []).lines (spot 0 10 0) ≡ true
+known_junction = refl
+
+pub known_inside : is_junction (drawn [] []).lines (spot 0 5 5) ≡ false
+known_inside = refl
+
+pub known_other_block : is_junction (drawn [] []).lines (spot 1 30 0) ≡ false
+known_other_block = refl
+
+-- the angle joins its three ends, and not the strokes
+pub known_joined : are_joined (drawn [] []).lines (spot 0 10 10) (spot 0 0 0) ≡ true
+known_joined = refl
+
+pub known_apart : are_joined (drawn [] []).lines (spot 0 10 10) (spot 0 40 0) ≡ false
+known_apart = refl
+
+pub known_blocks_apart : are_joined (drawn [] []).lines (spot 0 10 0) (spot 1 10 0) ≡ false
+known_blocks_apart = refl
+
+-- a start at a junction, and none elsewhere
+pub known_start : start_added (drawn [] []) (spot 0 10 10) ≡ Ok (drawn (spot 0 10 10 ∷ []) [])
+known_start = refl
+
+pub known_no_junction : start_added (drawn (spot 0 10 10 ∷ []) []) (spot 0 5 5) ≡ Err kind.NoJunction
+known_no_junction = refl
+
+-- a piece has one start, and may have an end beside it, at the same junction too
+pub known_repeated : start_added (drawn (spot 0 10 10 ∷ []) []) (spot 0 0 0) ≡ Err kind.EndRepeated
+known_repeated = refl
+
+pub known_end : end_added (drawn (spot 0 10 10 ∷ []) []) (spot 0 10 10)
+    ≡ Ok (drawn (spot 0 10 10 ∷ []) (spot 0 10 10 ∷ []))
+known_end = refl
+
+pub known_end_repeated : end_added (drawn [] (spot 0 10 0 ∷ [])) (spot 0 10 0) ≡ Err kind.EndRepeated
+known_end_repeated = refl
+
+-- other pieces have their own
+pub known_other_piece : start_added (drawn (spot 0 10 10 ∷ []) []) (spot 0 30 0)
+    ≡ Ok (drawn (spot 0 10 10 ∷ spot 0 30 0 ∷ []) [])
+known_other_piece = refl
+
+pub known_next_block : start_added (drawn (spot 0 0 0 ∷ []) []) (spot 1 0 0)
+    ≡ Ok (drawn (spot 0 0 0 ∷ spot 1 0 0 ∷ []) [])
+known_next_block = refl
+
+-- a start is one, and an end the other
+pub known_which : walk_end_added true (drawn [] []) (spot 0 0 0) ≡ Ok (drawn (spot 0 0 0 ∷ []) [])
+known_which = refl
+
+pub known_which_end : walk_end_added false (drawn [] []) (spot 0 0 0) ≡ Ok (drawn [] (spot 0 0 0 ∷ []))
+known_which_end = refl
+
+-- a piece has the start and the end that are its own, by their numbers
+pub known_piece : piece_of (drawn (spot 1 0 0 ∷ spot 0 10 10 ∷ []) (spot 0 30 0 ∷ spot 0 0 0 ∷ [])) (0 ∷ 2 ∷ []) ≡ record {
+  block = 0;
+  lines = 0 ∷ 2 ∷ [];
+  junctions = at 0 0 ∷ at 10 0 ∷ at 10 10 ∷ [];
+  edges = record { a = 0; b = 1; cost = 2 } ∷ record { a = 1; b = 2; cost = 1 } ∷ [];
+  degrees = 1 ∷ 2 ∷ 1 ∷ [];
+  start = Some 2;
+  end = Some 0;
+}
+known_piece = refl
+
+-- and none where no other is its own
+pub known_stroke : (piece_of (drawn (spot 0 0 0 ∷ []) []) (3 ∷ [])).start ≡ None
+known_stroke = refl

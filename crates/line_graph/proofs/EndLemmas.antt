@@ -1,0 +1,212 @@
+-- Lines lead from one spot to another where chains of lines that touch join lines at them.
+use Rattle.std.proofs.Common.{◌≡◌, ◌⊎◌, inl, inr, ℕ, zero, suc, Bool, true, false, cond, List, [], ◌∷◌, map, slice_get, get_or, Some, All, refl, sym, ◌∙◌, ap, subst}
+use Rattle.std.proofs.lemmas.List.Elements.{All-head, All-tail}
+use Rattle.std.proofs.lemmas.Option.{slice_get-get_or}
+use Rattle.design_model.specs.declared.point.Point.{Point}
+use Rattle.step_splitter.specs.Chains.{last_from}
+use Rattle.line_graph.specs.declared.spot.Spot.{Spot}
+use Rattle.line_graph.specs.Drawings.{DrawingValue, LineValue, block_in, first_of, last_of, points_in}
+use Rattle.line_graph.specs.FirstLines.{IsEnd}
+use Rattle.line_graph.specs.Pieces.{Joined, Leads, ends_of}
+use Rattle.line_graph.specs.Spots.{is_same_spot}
+use Rattle.line_graph.specs.WalkEnds.{SpotsAreJoined, are_joined, end_spots, stands_for, stands_joined}
+use Rattle.line_graph.proofs.LabelLemmas.{joined_back, joined_on}
+use Rattle.line_graph.proofs.LinkLemmas.{below_get, same_spot, share_of, spot_found, touch_joins, touch_of}
+
+-- lines at the two spots are joined
+record Linked (d : DrawingValue) (a b : Spot) : Type 0 where
+  i : ℕ
+  j : ℕ
+  one : IsEnd d i a
+  two : IsEnd d j b
+  chain : Joined d i j
+
+-- the spots are one, or lines at them are joined
+abbrev Same : DrawingValue → Spot → Spot → Type 0
+Same d a b = (a ≡ b) ⊎ Linked d a b
+
+-- lines with an end at one spot are joined
+meeting : (d : DrawingValue) (a : Spot) (i j : ℕ) → IsEnd d i a → IsEnd d j a → Joined d i j
+meeting d a i j one two = touch_joins d i j (touch_of d i j (record { spot = a; one = one; two = two }))
+
+-- the other way round
+same_back : (d : DrawingValue) (a b : Spot) → Same d a b → Same d b a
+same_back d a b (inl is) = inl (sym is)
+same_back d a b (inr l) = inr (record { i = l.j; j = l.i; one = l.two; two = l.one; chain = joined_back d l.i l.j l.chain })
+
+-- and on
+same_on : (d : DrawingValue) (a b c : Spot) → Same d a b → Same d b c → Same d a c
+same_on d a b c (inl is) then = subst (λ (s : Spot). Same d s c) (sym is) then
+same_on d a b c (inr l) (inl is) = subst (λ (s : Spot). Same d a s) is (inr l)
+same_on d a b c (inr l) (inr m) = inr (record {
+  i = l.i;
+  j = m.j;
+  one = l.one;
+  two = m.two;
+  chain = joined_on d l.i l.j m.j l.chain (joined_on d l.j m.i m.j (meeting d b l.j m.i l.two m.one) m.chain);
+})
+
+-- the line stands in the drawing
+abbrev IsIn : DrawingValue → LineValue → Type 0
+IsIn d line = (i : ℕ) × (slice_get d.lines i ≡ Some line)
+
+-- a spot in the block of a line
+abbrev spot_on : LineValue → Point → Spot
+spot_on line p = record { block = line.block; at = p }
+
+-- the two ends of a line are linked
+ends_linked : (d : DrawingValue) (line : LineValue) (p : Point) (more : List Point) → IsIn d line → line.points ≡ p ∷ more
+    → Same d (spot_on line p) (spot_on line (last_from p more))
+ends_linked d line p more (i, is) points =
+    let there = below_get d.lines i line is in
+    let at : points_in (slice_get d.lines i) ≡ p ∷ more = ap points_in is ∙ points in
+    inr (record {
+      i = i;
+      j = i;
+      one = record { there = there; block = ap block_in is; at_end = inl (ap first_of at) };
+      two = record { there = there; block = ap block_in is; at_end = inr (ap last_of at) };
+      chain = ([], refl);
+    })
+
+-- what stands for a spot is linked with it
+stands_linked : (d : DrawingValue) (lines : List LineValue) → All (IsIn d) lines → (s : Spot) → Same d s (stands_for lines s)
+stands_linked d [] all s = inl refl
+stands_linked d (line ∷ rest) all s = by_points (λ k. stands_linked d rest (All-tail (IsIn d) line rest all) k) line.points refl
+  where
+    Before : Type 0
+    Before = (k : Spot) → Same d k (stands_for rest k)
+
+    by_test : Before → (p : Point) (more : List Point) → line.points ≡ p ∷ more → (t : Bool)
+        → is_same_spot (stands_for rest s) (stands_for rest (spot_on line p)) ≡ t
+        → Same d s (cond t (stands_for rest (spot_on line (last_from p more))) (stands_for rest s))
+    by_test before p more is false test = before s
+    by_test before p more is true test =
+        let first : Spot = spot_on line p in
+        let last : Spot = spot_on line (last_from p more) in
+        let here : Same d s (stands_for rest first) =
+        subst (λ (k : Spot). Same d s k) (same_spot (stands_for rest s) (stands_for rest first) test) (before s) in
+        let to_first = same_on d s (stands_for rest first) first here (same_back d first (stands_for rest first) (before first)) in
+        let to_last = same_on d s first last to_first (ends_linked d line p more (All-head (IsIn d) line rest all) is) in
+        same_on d s last (stands_for rest last) to_last (before last)
+
+    by_points : Before → (ps : List Point) → line.points ≡ ps
+        → Same d s (stands_joined (map (spot_on line) (ends_of ps)) (stands_for rest) s)
+    by_points before [] is = before s
+    by_points before (p ∷ more) is = by_test before p more is _ refl
+
+-- spots that one stands for are linked
+led : (d : DrawingValue) (a b : Spot) (i j : ℕ) → IsEnd d i a → IsEnd d j b → are_joined d.lines a b ≡ true → Joined d i j
+led d a b i j one two found = by_same (same_on d a (stands_for d.lines a) b (before a)
+    (subst (λ (k : Spot). Same d k b) (sym (same_spot (stands_for d.lines a) (stands_for d.lines b) found))
+    (same_back d b (stands_for d.lines b) (before b))))
+  where
+    none : LineValue
+    none = record { block = 0; points = [] }
+
+    before : (s : Spot) → Same d s (stands_for d.lines s)
+    before = stands_linked d d.lines (λ k. λ x. λ below. (k, slice_get-get_or d.lines k x below))
+
+    by_same : Same d a b → Joined d i j
+    by_same (inl is) = meeting d b i j (subst (λ (s : Spot). IsEnd d i s) is one) two
+    by_same (inr l) = joined_on d i l.i j (meeting d a i l.i one l.one)
+        (joined_on d l.i l.j j l.chain (meeting d b l.j j l.two two))
+
+-- what stands for two spots stays one
+stands_kept : (ends : List Spot) (stands : Spot → Spot) (a b : Spot) → stands a ≡ stands b
+    → stands_joined ends stands a ≡ stands_joined ends stands b
+stands_kept [] stands a b is = is
+stands_kept (p ∷ []) stands a b is = is
+stands_kept (p ∷ q ∷ rest) stands a b is = ap (λ (s : Spot). cond (is_same_spot s (stands p)) (stands q) s) is
+
+-- the spot is at an end of the line
+abbrev AtEnd : LineValue → Spot → Type 0
+AtEnd line s = (line.block ≡ s.block) × ((first_of line.points ≡ Some s.at) ⊎ (last_of line.points ≡ Some s.at))
+
+-- what is there is one thing
+some_same : (a b : Point) → Some a ≡ Some b → a ≡ b
+some_same a b is = cc
+
+-- one spot stands for both ends of a line
+at_one : (line : LineValue) (stands : Spot → Spot) (a b : Spot) → AtEnd line a → AtEnd line b
+    → stands_joined (end_spots line) stands a ≡ stands_joined (end_spots line) stands b
+at_one line stands a b one two = by_points line.points refl one two
+  where
+    make : ℕ → Point → Spot
+    make block at = record { block = block; at = at }
+
+    both : List Point → Spot → Spot
+    both ps = stands_joined (map (spot_on line) (ends_of ps)) stands
+
+    first_stands : (p : Point) (more : List Point) → both (p ∷ more) (spot_on line p) ≡ stands (spot_on line (last_from p more))
+    first_stands p more =
+        ap (λ (t : Bool). cond t (stands (spot_on line (last_from p more))) (stands (spot_on line p))) (spot_found (stands (spot_on line p)))
+
+    last_stands : (p : Point) (more : List Point)
+        → both (p ∷ more) (spot_on line (last_from p more)) ≡ stands (spot_on line (last_from p more))
+    last_stands p more = either _
+      where
+        either : (t : Bool) → cond t (stands (spot_on line (last_from p more))) (stands (spot_on line (last_from p more)))
+            ≡ stands (spot_on line (last_from p more))
+        either true = refl
+        either false = refl
+
+    end_stands : (p : Point) (more : List Point) (s : Spot) → line.block ≡ s.block
+        → (first_of (p ∷ more) ≡ Some s.at) ⊎ (last_of (p ∷ more) ≡ Some s.at)
+        → both (p ∷ more) s ≡ stands (spot_on line (last_from p more))
+    end_stands p more s block (inl is) =
+        ap (both (p ∷ more)) (sym (ap (λ (n : ℕ). make n p) block ∙ ap (make s.block) (some_same p s.at is))) ∙ first_stands p more
+    end_stands p more s block (inr is) =
+        ap (both (p ∷ more)) (sym (ap (λ (n : ℕ). make n (last_from p more)) block
+        ∙ ap (make s.block) (some_same (last_from p more) s.at is))) ∙ last_stands p more
+
+    no_first : (p : Point) → first_of [] ≡ Some p → ⊥
+    no_first p is = cc
+
+    no_last : (p : Point) → last_of [] ≡ Some p → ⊥
+    no_last p is = cc
+
+    by_points : (ps : List Point) → line.points ≡ ps → AtEnd line a → AtEnd line b → both ps a ≡ both ps b
+    by_points [] is (block, inl at) other = absurd (no_first a.at (ap first_of (sym is) ∙ at))
+    by_points [] is (block, inr at) other = absurd (no_last a.at (ap last_of (sym is) ∙ at))
+    by_points (p ∷ more) is one two =
+        let End : Spot → List Point → Type 0 = λ s. λ ps. (first_of ps ≡ Some s.at) ⊎ (last_of ps ≡ Some s.at) in
+        end_stands p more a one.0 (subst (End a) is one.1) ∙ sym (end_stands p more b two.0 (subst (End b) is two.1))
+
+-- and for both ends of each of the lines
+line_stands : (lines : List LineValue) (i : ℕ) (line : LineValue) → slice_get lines i ≡ Some line → (a b : Spot) → AtEnd line a
+    → AtEnd line b → stands_for lines a ≡ stands_for lines b
+line_stands [] i line is a b one two = absurd (cc)
+line_stands (x ∷ rest) zero line is a b one two =
+    let same : line ≡ x = cc in
+    at_one x (stands_for rest) a b (subst (λ (l : LineValue). AtEnd l a) same one) (subst (λ (l : LineValue). AtEnd l b) same two)
+line_stands (x ∷ rest) (suc i) line is a b one two =
+    stands_kept (end_spots x) (stands_for rest) a b (line_stands rest i line is a b one two)
+
+-- the same of the lines of a drawing
+index_stands : (d : DrawingValue) (i : ℕ) (a b : Spot) → IsEnd d i a → IsEnd d i b → stands_for d.lines a ≡ stands_for d.lines b
+index_stands d i a b one two =
+    let none : LineValue = record { block = 0; points = [] } in
+    let line : LineValue = get_or d.lines i none in
+    let is : slice_get d.lines i ≡ Some line = slice_get-get_or d.lines i none one.there in
+    line_stands d.lines i line is a b (at_end i line is a one) (at_end i line is b two)
+  where
+    at_end : (i : ℕ) (line : LineValue) → slice_get d.lines i ≡ Some line → (s : Spot) → IsEnd d i s → AtEnd line s
+    at_end i line is s end = (
+      sym (ap block_in is) ∙ end.block,
+      subst (λ (ps : List Point). (first_of ps ≡ Some s.at) ⊎ (last_of ps ≡ Some s.at)) (ap points_in is) end.at_end,
+    )
+
+-- one spot stands for the ends of all lines of a chain
+chain_stands : (d : DrawingValue) (i j : ℕ) (chain : List ℕ) → Leads d i chain j → (a b : Spot) → IsEnd d i a → IsEnd d j b
+    → stands_for d.lines a ≡ stands_for d.lines b
+chain_stands d i j [] leads a b one two = index_stands d i a b one (subst (λ (k : ℕ). IsEnd d k b) (sym leads) two)
+chain_stands d i j (k ∷ chain) leads a b one two =
+    let share = share_of d i k leads.0 in
+    index_stands d i a share.spot one share.one ∙ chain_stands d k j chain leads.1 share.spot b share.two two
+
+pub spots_are_joined : SpotsAreJoined
+spots_are_joined d a b i j one two = record {
+  led = led d a b i j one two;
+  found = λ chain. ap (λ (s : Spot). is_same_spot s (stands_for d.lines b)) (chain_stands d i j chain.0 chain.1 a b one two)
+      ∙ spot_found (stands_for d.lines b);
+}

@@ -1,0 +1,11 @@
+use Rattle.std.proofs.Common.{pos, ap, sym, ◌∙◌, arith}
+use Rattle.std.proofs.lemmas.Bool.Decides.{nat_tests}
+use Rattle.std.specs.List.{list_any}
+use Rattle.design_model.specs.Points.{is_same_point}
+use Rattle.line_graph.proofs.PointLists.{ends_are}
+use Rattle.line_graph.proofs.chosen_spots.has_end.Goals as goal
+
+pub returns : goal.returns
+returns c =
+    c.is_either.ensures ∙ ap (list_any (is_same_point c.args.at))
+    (sym (ends_are c.args.points.now (record { x = pos 0; y = pos 0 }) (grind (arith, nat_tests))))

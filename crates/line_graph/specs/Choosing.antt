@@ -1,0 +1,30 @@
+-- What the choosing of starts and ends keeps. No public clause cites this file.
+use Rattle.std.specs.Prelude.{◌≡◌, ℕ, ◌==◌, true, false, List, length, get_or}
+use Rattle.std.specs.List.{list_any, position_or_len}
+use Rattle.line_graph.specs.declared.chosen_spots.ChosenSpots.{ChosenSpots}
+use Rattle.line_graph.specs.declared.spot.Spot.{Spot}
+use Rattle.line_graph.specs.Drawings.{DrawingValue, KeepsDrawing, LineValue}
+use Rattle.line_graph.specs.PieceParts.{AreLabels}
+use Rattle.line_graph.specs.Sections.{is_joined}
+use Rattle.line_graph.specs.WalkEnds.{AreApart, meets}
+
+-- the label of the first line that begins or ends at the spot
+abbrev pub label_at : List LineValue → List ℕ → Spot → ℕ
+label_at lines labels spot = get_or labels (position_or_len (meets spot) lines) 0
+
+-- the junctions are apart, and the table says of which labels there is one
+pub record AreChosen (lines : List LineValue) (labels : List ℕ) (chosen : ChosenSpots)
+    : Type 0 where
+  pub sized : length chosen.taken.items ≡ length lines
+  pub apart : AreApart lines chosen.spots.items
+  pub each : (label : ℕ) → get_or chosen.taken.items label false
+      ≡ list_any (λ spot. label_at lines labels spot == label) chosen.spots.items
+
+-- a drawing that meets at ends alone, the labels of its lines, and its starts and ends
+pub record IsEnding (d : DrawingValue) (labels : List ℕ) (starts ends : ChosenSpots)
+    : Type 0 where
+  pub limits : KeepsDrawing d
+  pub joined : is_joined d ≡ true
+  pub labelled : AreLabels d labels
+  pub starts_are : AreChosen d.lines labels starts
+  pub ends_are : AreChosen d.lines labels ends

@@ -1,0 +1,85 @@
+ghost use Rattle.std.specs.Prelude.{◌≡◌, true, IfOk};
+ghost use Rattle.line_graph.specs.Growing.{Changes};
+ghost use Rattle.line_graph.specs.Sections.{is_joined};
+ghost use Rattle.line_graph.specs.WalkEnds.{HasNoEnds, end_added, start_added};
+
+use crate::chosen_spots::ChosenSpots;
+use crate::draw_kind::DrawKind;
+use crate::drawing::Drawing;
+use crate::first_lines::links;
+use crate::line_labels::labels;
+use crate::spot::Spot;
+use design_model::Memory;
+use std::alloc::Global;
+use std::marker::Model;
+
+/// A drawing that takes starts and ends of its pieces, one by one.
+#[derive(Debug, Drop)]
+pub struct EndsMaker {
+    drawing: Drawing,
+    labels: Vec<u32>,
+    starts: ChosenSpots,
+    ends: ChosenSpots,
+}
+
+impl Model for EndsMaker {
+    ghost use Rattle.line_graph.specs.Choosing.{IsEnding};
+    ghost use Rattle.line_graph.specs.Drawings.{DrawingValue};
+
+    ghost Value = { DrawingValue };
+
+    ghost view = { λ m. record m.drawing {
+      starts = m.starts.spots.items;
+      ends = m.ends.spots.items;
+    } };
+
+    ghost invariant = { λ m. IsEnding m.drawing m.labels.items m.starts m.ends };
+}
+
+impl EndsMaker {
+    /// A drawing whose lines meet at ends alone, and which has no start and no end yet.
+    pub fn new(alloc: Global, drawing: Drawing) -> Result<EndsMaker, Memory>
+        requires joined { is_joined drawing ≡ true }
+        requires unended { HasNoEnds drawing }
+        ensures { IfOk result (λ maker. maker ≡ drawing) }
+    {
+        let links = links(alloc, &drawing)?;
+        let labels = labels(alloc, links.as_slice(), drawing.line_count())?;
+        let starts = ChosenSpots::new(alloc, &drawing)?;
+        let ends = ChosenSpots::new(alloc, &drawing)?;
+        Ok(EndsMaker {
+            drawing,
+            labels,
+            starts,
+            ends,
+        })
+    }
+
+    /// Adds a start: `NoJunction` where no line of the block begins or ends there, then `EndRepeated` where
+    /// its piece has a start, and then `Memory`. A refusal leaves the drawing as it was.
+    pub fn add_start(&mut self, spot: Spot) -> Result<(), DrawKind>
+        ensures { Changes (start_added self.old spot) self.old result self.new }
+    {
+        self.starts.add(&self.drawing, self.labels.as_slice(), spot)
+    }
+
+    /// Adds an end, with the same refusals.
+    pub fn add_end(&mut self, spot: Spot) -> Result<(), DrawKind>
+        ensures { Changes (end_added self.old spot) self.old result self.new }
+    {
+        self.ends.add(&self.drawing, self.labels.as_slice(), spot)
+    }
+
+    /// The drawing with its starts and ends.
+    pub fn finish(self) -> Drawing
+        ensures { result ≡ self }
+    {
+        let EndsMaker {
+            drawing,
+            starts,
+            ends,
+            ..
+        } = self;
+        drawing.with_ends(starts.spots, ends.spots)
+    }
+}
