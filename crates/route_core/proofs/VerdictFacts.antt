@@ -51,6 +51,8 @@ stroke = record {
   step = 10;
   threads = 1 ∷ [];
   lines = record { block = 0; points = at 0 ∷ at 40 ∷ [] } ∷ [];
+  starts = [];
+  ends = [];
 }
 
 abbrev forth : ℕ → Pass
@@ -155,6 +157,8 @@ strokes = record {
   step = 10;
   threads = 1 ∷ 2 ∷ [];
   lines = record { block = 0; points = at 0 ∷ at 20 ∷ [] } ∷ record { block = 1; points = at 50 ∷ at 80 ∷ [] } ∷ [];
+  starts = [];
+  ends = [];
 }
 
 abbrev first_sewn : List Command

@@ -87,6 +87,8 @@ pub known_sample : sample_of 75 ≡ record {
   lines = drawn_line (at 49 27) (at 106 45) ∷ drawn_line (at 1 141) (at 126 149)
       ∷ drawn_line (at 49 27) (at 1 141) ∷ drawn_line (at 106 45) (at 126 149)
       ∷ drawn_line (at 49 27) (at 126 149) ∷ drawn_line (at 106 45) (at 1 141) ∷ [];
+  starts = [];
+  ends = [];
 }
 known_sample = refl
 

@@ -1,13 +1,15 @@
 -- A growing drawing takes short lines as long as it has room.
-use Rattle.std.proofs.Common.{◌≡◌, ℕ, ◌+◌, ◌≤◌, ◌==◌, false, nat_lt, List, [], ◌∷◌, length, Result, Ok, ap, ◌∙◌, refl, arith}
+use Rattle.std.proofs.Common.{◌≡◌, ℕ, zero, suc, ◌+◌, ◌≤◌, ◌==◌, Bool, true, false, nat_lt, List, [], ◌∷◌, ◌++◌, length, map, Result, Ok, Err, ap, ◌∙◌, refl, arith}
 use Rattle.std.proofs.lemmas.Bool.Decides.{nat_tests}
+use Rattle.std.specs.List.{list_any}
 use Rattle.design_model.specs.declared.point.Point.{Point}
 use Rattle.line_graph.specs.declared.draw_kind.DrawKind.{DrawKind}
 use Rattle.line_graph.specs.declared.draw_kind.DrawKind.TheVariants as kind
 use Rattle.line_graph.specs.Drawings.{DrawingValue}
-use Rattle.line_graph.specs.Growing.{IsSaid, line_added, point_count, step_count}
+use Rattle.line_graph.specs.Growing.{IsSaid, finished, line_added, point_count, step_count}
 use Rattle.line_graph.specs.Needles.{line_steps}
 use Rattle.sample_drawings.specs.declared.segment.Segment.{Segment}
+use Rattle.sample_drawings.specs.Samples.{across, cell_count, diagonals, down, line_along, row_by_row, segments}
 use Rattle.sample_drawings.specs.Taking.{HasRoom, IsShort, first_block, with_segments}
 
 -- the drawing takes the two ends of a short line
@@ -42,6 +44,8 @@ wants_memory said a kind.TooManyLines is refused = absurd cc
 wants_memory said a kind.TooManyPoints is refused = absurd cc
 wants_memory said a kind.TooManyBlocks is refused = absurd cc
 wants_memory said a kind.TooMuchCost is refused = absurd cc
+wants_memory said a kind.NoJunction is refused = absurd cc
+wants_memory said a kind.EndRepeated is refused = absurd cc
 
 -- a drawing of one block without a line has room for so many
 pub first_room : (count : ℕ) → count ≤ 930 → HasRoom first_block count
@@ -52,3 +56,27 @@ first_room count few = record {
   points = omega arith;
   steps = omega arith;
 }
+
+-- a sample has a line of its block
+some_across : (number columns rows : ℕ) (more yet : List Segment) → 1 ≤ columns → 1 ≤ rows
+    → list_any (λ line. line.block == 0) (map line_along ((row_by_row columns rows (across number) ++ more) ++ yet)) ≡ true
+some_across number zero rows more yet some others = absurd (omega (arith, some))
+some_across number (suc columns) zero more yet some others = absurd (omega (arith, others))
+some_across number (suc columns) (suc rows) more yet some others = refl
+
+-- so the drawing that took its lines may end
+ends_where : (d : DrawingValue) → d.threads ≡ 1 ∷ [] → (t : Bool) → list_any (λ line. line.block == 0) d.lines ≡ t → t ≡ true
+    → finished d ≡ Ok d
+ends_where d threads true used is = rw (threads, used) refl
+ends_where d threads false used is = absurd cc
+
+pub sample_ends : (number : ℕ) → finished (with_segments first_block (segments number)) ≡ Ok (with_segments first_block (segments number))
+sample_ends number =
+    let cells = cell_count number in
+    ends_where (with_segments first_block (segments number)) refl _ refl
+    (some_across number cells (cells + 1) (row_by_row (cells + 1) cells (down number)) (row_by_row cells cells (diagonals number))
+    (omega arith) (omega arith))
+
+-- what ends isn't refused
+pub never : (why : DrawKind) (d : DrawingValue) → Err why ≡ Ok d → ⊥
+never why d is = cc

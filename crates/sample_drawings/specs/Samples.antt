@@ -83,11 +83,13 @@ segments number =
 abbrev pub line_along : Segment → LineValue
 line_along s = record { block = 0; points = s.from ∷ s.to ∷ [] }
 
--- the sample drawing of a number
+-- the sample drawing of a number, which has no starts and no ends
 abbrev pub sample_of : ℕ → DrawingValue
 sample_of number = record {
   label = codes "sample";
   step = 25;
   threads = 1 ∷ [];
   lines = map line_along (segments number);
+  starts = [];
+  ends = [];
 }

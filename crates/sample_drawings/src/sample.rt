@@ -1,5 +1,6 @@
 ghost use Rattle.std.specs.Prelude.{◌≡◌, ◌≤◌, ◌∷◌, [], All, IfOk, OnOk, length};
 ghost use Rattle.line_graph.specs.declared.draw_kind.DrawKind.TheVariants as kind;
+ghost use Rattle.line_graph.specs.WalkEnds.{HasNoEnds};
 ghost use Rattle.sample_drawings.specs.declared.draws.TheConstants.{MAX_NUMBER};
 ghost use Rattle.sample_drawings.specs.Samples.{sample_of};
 ghost use Rattle.sample_drawings.specs.Taking.{HasRoom, IsShort, first_block, with_segments};
@@ -22,7 +23,8 @@ const THREAD: u8 = 1;
 pub fn sample_drawing(alloc: Global, number: u32) -> Result<Drawing, Memory>
     requires low { 1 ≤ number }
     requires high { number ≤ MAX_NUMBER }
-    ensures { IfOk result (λ drawing. drawing ≡ sample_of number) }
+    ensures value { IfOk result (λ drawing. drawing ≡ sample_of number) }
+    ensures unended { IfOk result HasNoEnds }
 {
     let grid = Grid::of_number(alloc, number)?;
     let lines = segments(alloc, &grid)?;

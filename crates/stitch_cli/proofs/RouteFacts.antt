@@ -20,6 +20,8 @@ strokes = record {
   threads = 3 ∷ 9 ∷ [];
   lines = record { block = 0; points = at 0 0 ∷ at 40 0 ∷ [] } ∷ record { block = 1; points = at 0 0 ∷ at 0 20 ∷ [] }
       ∷ record { block = 1; points = at 0 20 ∷ at 30 20 ∷ [] } ∷ [];
+  starts = [];
+  ends = [];
 }
 
 -- a certificate of that retraced cost; the report looks at nothing else

@@ -25,6 +25,8 @@ kite = record {
         points = at (pos 0) (pos 0) ∷ at (pos 0) (negsuc 19) ∷ at (pos 10) (negsuc 19) ∷ at (pos 10) (pos 0) ∷ [];
       }
       ∷ record { block = 0; points = at (pos 10) (pos 0) ∷ at (pos 50) (pos 0) ∷ [] } ∷ [];
+  starts = [];
+  ends = [];
 }
 
 -- the shortest way and the line to the third junction are sewn again, and cuts of 2 and 8 halves say so
