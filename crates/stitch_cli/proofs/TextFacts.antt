@@ -61,6 +61,12 @@ known_many_blocks = refl
 pub known_much_cost : draw_text kind.TooMuchCost ≡ codes "more than 200000 steps"
 known_much_cost = refl
 
+pub known_no_junction : draw_text kind.NoJunction ≡ codes "not a junction"
+known_no_junction = refl
+
+pub known_end_repeated : draw_text kind.EndRepeated ≡ codes "start or end repeated"
+known_end_repeated = refl
+
 -- a block without a line is told at the line that opened it
 pub known_draw_line : refusal_line (undrawn (codes "a.rw") (record { number = 2; kind = kind.EmptyBlock }))
     ≡ codes "stitch: a.rw: line 2: block without a line" ++ line_end

@@ -48,6 +48,8 @@ draw_text kind.TooManyLines = codes "more than 1024 lines"
 draw_text kind.TooManyPoints = codes "more than 65536 points"
 draw_text kind.TooManyBlocks = codes "more than 255 blocks"
 draw_text kind.TooMuchCost = codes "more than 200000 steps"
+draw_text kind.NoJunction = codes "not a junction"
+draw_text kind.EndRepeated = codes "start or end repeated"
 draw_text kind.Memory = codes "out of memory"
 
 -- a line about a line of a drawing text, counted from 1

@@ -116,6 +116,8 @@ fn draw_text(kind: DrawKind) -> &'static [u8]
         DrawKind::TooManyPoints => b"more than 65536 points",
         DrawKind::TooManyBlocks => b"more than 255 blocks",
         DrawKind::TooMuchCost => b"more than 200000 steps",
+        DrawKind::NoJunction => b"not a junction",
+        DrawKind::EndRepeated => b"start or end repeated",
         DrawKind::Memory => b"out of memory",
     }
 }

@@ -1,6 +1,5 @@
-ghost use Rattle.std.specs.Prelude.{◌≡◌, ◌≤◌, IfOk, length, string_bytes, true};
-ghost use Rattle.drawing_text.specs.DrawingText.{drawing_as2};
-ghost use Rattle.line_graph.specs.Sections.{is_joined};
+ghost use Rattle.std.specs.Prelude.{◌≡◌, ◌≤◌, IfOk, length, string_bytes};
+ghost use Rattle.drawing_text.specs.DrawingText.{IsWhole, drawing_as2};
 ghost use Rattle.outside_io.specs.declared.limits.TheConstants.{MAX_FILE};
 ghost use Rattle.outside_io.specs.Files.{IsName};
 ghost use Rattle.stitch_cli.specs.Endings.{Prepares, Settles};
@@ -61,7 +60,7 @@ fn migrate_text<'a>(
 }
 
 fn migrated<'a>(alloc: Global, output: &'a str, drawing: &Drawing) -> Result<Product<'a>, Memory>
-    requires { is_joined drawing.now ≡ true }
+    requires { IsWhole drawing.now }
     ensures { IfOk result (λ product. IsMigrated output.now drawing.now (product_of product)) }
 {
     let pieces = pieces(alloc, drawing)?;

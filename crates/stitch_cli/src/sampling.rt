@@ -1,6 +1,7 @@
 ghost use Rattle.std.specs.Prelude.{◌≡◌, ◌+◌, ◌<◌, ◌≤◌, ◌^◌, All, IfOk, length, sum_by};
 ghost use Rattle.line_graph.specs.declared.limits.TheConstants.{MAX_BLOCKS, MAX_LINES};
 ghost use Rattle.line_graph.specs.CutPieces.{graph_of};
+ghost use Rattle.line_graph.specs.WalkEnds.{HasNoEnds};
 ghost use Rattle.outside_io.specs.Files.{IsName};
 ghost use Rattle.sample_drawings.specs.declared.draws.TheConstants.{MAX_NUMBER};
 ghost use Rattle.sample_drawings.specs.Samples.{sample_of};
@@ -53,6 +54,7 @@ fn told<'a>(
     name: &'a str,
     drawing: &Drawing,
 ) -> Result<Product<'a>, Memory>
+    requires { HasNoEnds drawing.now }
     ensures { IfOk result (λ product. TellsOf (sample_order number name.now) drawing.now
         (product_of product)) }
 {
