@@ -179,10 +179,7 @@ const ENDED: &[Row] = &[
             done!(
                 TO_DST,
                 "block 1 piece 1 lines 1 cost 4 retraced 4 penetrations 9\npieces 1 penetrations 9\n",
-                &[(
-                    "b.cert",
-                    Holds::At(52, 22, b"piece 4\nwalk -1 1\ncut 8 "),
-                )],
+                &[],
             ),
             done!(OF_DST, "yes\n", &[]),
         ],
