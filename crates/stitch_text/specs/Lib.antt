@@ -1,0 +1,3 @@
+-- read this one first: what a design is written as
+pub mod StitchLists
+pub mod Steps

@@ -1,0 +1,24 @@
+-- What it means to add the lines of acts to a text.
+use Rattle.std.specs.Prelude.{◌≡◌, ℕ, List, ◌∷◌, ◌++◌, [], None, Result, Ok, Err}
+use Rattle.design_model.specs.declared.act.NumberedAct.{NumberedAct}
+use Rattle.format_traits.specs.declared.fault.WriteFault.{WriteFault}
+use Rattle.format_traits.specs.declared.standing.Standing.{Standing}
+use Rattle.format_traits.specs.Refusals.{first_refusal, refusal_at, standing_after}
+use Rattle.format_traits.specs.Spellings.{RefusedAs}
+use Rattle.stitch_text.specs.declared.stitch_list.TheConstants.{LIMIT}
+use Rattle.stitch_text.specs.StitchLists.{act_line, act_lines, reach}
+
+-- what an answer of adding the line of an act means
+abbrev pub PutsLine : {T : Type 0} → (ℕ → ℕ) → Standing → NumberedAct → List ℕ → Result T WriteFault
+    → Standing → List ℕ → Type 0
+PutsLine thread before a old (Ok _) after new = (refusal_at reach before a ≡ None)
+    × (new ≡ old ++ (act_line thread before.stops a.act ++ 10 ∷ []))
+    × (after ≡ standing_after LIMIT before a.act)
+PutsLine thread before a old (Err f) after new = RefusedAs (refusal_at reach before a) f
+
+-- what an answer of adding the lines of all acts, and the end, means
+abbrev pub PutsLines : {T : Type 0} → (ℕ → ℕ) → List NumberedAct → List ℕ → Result T WriteFault
+    → List ℕ → Type 0
+PutsLines thread acts old (Ok _) new = (first_refusal reach acts ≡ None)
+    × (new ≡ old ++ act_lines thread 0 acts)
+PutsLines thread acts old (Err f) new = RefusedAs (first_refusal reach acts) f

@@ -1,0 +1,14 @@
+//! The stitch list: the acts of a design as lines of a plain text, which can be read, compared and
+//! mailed. Own format.
+//!
+//! A line is no record of format_traits. Records tell moves of a bounded size from where the one before
+//! left the hoop, and a far needle takes several; a line tells the point itself, however far, and there
+//! is one for each act. A reader of records keeps whatever commands are in range; a list is read only
+//! where it is the list of some design, and so judges its acts as a writer does. So the judging of acts,
+//! their standing and their room are those of format_traits, and the records aren't.
+#![tactic(auto)]
+
+mod stitch_list;
+mod writing;
+
+pub use stitch_list::{LIMIT, MAX_STOPS};

@@ -1,0 +1,142 @@
+ghost use Rattle.std.specs.Prelude.{◌≡◌, ◌≤◌, ◌+◌, ◌^◌, ◌<◌, ◌∷◌, ◌++◌, [], IsTrue, OnOk};
+ghost use Rattle.std.specs.Fmt.{decimal, signed_decimal};
+ghost use Rattle.design_model.specs.declared.design.TheConstants.{MAX_COMMANDS};
+ghost use Rattle.design_model.specs.declared.point.TheConstants.{NEEDLE_LIMIT};
+ghost use Rattle.design_model.specs.Acts.{acts_of};
+ghost use Rattle.design_model.specs.ActPlaces.{is_act_in_range};
+ghost use Rattle.design_model.specs.Designs.{thread_of};
+ghost use Rattle.design_model.specs.Points.{is_within};
+ghost use Rattle.format_traits.specs.Laws.{Writes};
+ghost use Rattle.stitch_text.specs.StitchLists.{act_line, block_line, headed, label_line, point_line, reach as reach_of_list, writes};
+ghost use Rattle.stitch_text.specs.Steps.{PutsLine, PutsLines};
+
+use crate::stitch_list::{LIMIT, MAX_STOPS};
+use design_model::{Act, ActWalk, Bytes, Design, Memory, NumberedAct, Point};
+use format_traits::{Reach, Standing, WriteFault};
+use itoa::Buffer;
+use std::alloc::Global;
+
+/// The list of a design.
+pub fn write_file(alloc: Global, design: &Design) -> Result<Bytes, WriteFault>
+    ensures { Writes (writes design.now) result }
+{
+    let mut text = Bytes::new(alloc);
+    put_head(&mut text, design)?;
+    match put_lines(&mut text, design) {
+        Ok(()) => Ok(text),
+        Err(fault) => Err(fault),
+    }
+}
+
+/// What a list can have.
+pub fn reach() -> Reach
+    ensures { result ≡ reach_of_list }
+{
+    Reach {
+        limit: LIMIT,
+        float_hops: None,
+        stops: Some(MAX_STOPS),
+    }
+}
+
+/// Adds the first three lines.
+fn put_head(text: &mut Bytes, design: &Design) -> Result<(), Memory>
+    ensures { OnOk result (text.new
+        ≡ text.old ++ headed design.now.label (thread_of design.now 0) []) }
+{
+    text.append(b"stitch-list 1\nlabel [")?;
+    text.append(design.label())?;
+    text.append(b"]\n")?;
+    put_block(text, design.thread(0))?;
+    text.push(b'\n')?;
+    Ok(())
+}
+
+/// Adds the lines of all acts, up to the first that can't be written, and the end.
+fn put_lines(text: &mut Bytes, design: &Design) -> Result<(), WriteFault>
+    ensures { PutsLines (thread_of design.now) (acts_of design.now) text.old result text.new }
+{
+    let mut standing = Standing::new();
+    let mut walk = ActWalk::new();
+    for command in design.commands() {
+        let Some(act) = walk.next(*command) else {
+            continue;
+        };
+        if let Err(fault) = put_act(text, &mut standing, design, act) {
+            return Err(fault);
+        }
+    }
+    text.append(b"end\n")?;
+    Ok(())
+}
+
+/// Adds the line of an act, after which it stands otherwise, or says why a list can't have it.
+fn put_act(
+    text: &mut Bytes,
+    standing: &mut Standing,
+    design: &Design,
+    act: NumberedAct,
+) -> Result<(), WriteFault>
+    requires place { IsTrue (is_within NEEDLE_LIMIT standing.old.place) }
+    requires act { IsTrue (is_act_in_range act.act) }
+    requires room { standing.old.room ≤ MAX_COMMANDS }
+    requires stops { standing.old.stops ≤ standing.old.room }
+    ensures value { PutsLine (thread_of design.now) standing.old act text.old result
+        standing.new text.new }
+
+    // What holds of it goes on holding.
+    ensures place { OnOk result (IsTrue (is_within NEEDLE_LIMIT standing.new.place)) }
+    ensures room { OnOk result (standing.new.room ≤ MAX_COMMANDS) }
+    ensures stops { OnOk result (standing.new.stops ≤ standing.new.room) }
+{
+    if let Some(fault) = reach().refusal(standing, act.number, act.act) {
+        return Err(fault);
+    }
+    put_line(text, design, standing.stops, act.act)?;
+    *standing = standing.after(LIMIT, act.act);
+    Ok(())
+}
+
+/// Adds the line of an act after so many stops.
+fn put_line(text: &mut Bytes, design: &Design, stops: u32, act: Act) -> Result<(), Memory>
+    requires { stops ≤ MAX_COMMANDS }
+    ensures { OnOk result (text.new
+        ≡ text.old ++ (act_line (thread_of design.now) stops act ++ 10 ∷ [])) }
+{
+    match act {
+        Act::Needle { at, float: true } => put_point(text, b"float", at)?,
+        Act::Needle { at, float: false } => put_point(text, b"needle", at)?,
+        Act::Trim => text.append(b"trim")?,
+        Act::Stop => put_block(text, design.thread(stops + 1))?,
+    }
+    text.push(b'\n')?;
+    Ok(())
+}
+
+fn put_block(text: &mut Bytes, thread: u8) -> Result<(), Memory>
+    ensures { OnOk result (text.new ≡ text.old ++ block_line thread) }
+{
+    let mut buffer = Buffer::new();
+    text.append(b"block ")?;
+    text.append(buffer.format(thread).as_bytes())?;
+    Ok(())
+}
+
+fn put_point(text: &mut Bytes, word: &[u8], at: Point) -> Result<(), Memory>
+    ensures { OnOk result (text.new ≡ text.old ++ point_line word.now at) }
+{
+    text.append(word)?;
+    text.push(b' ')?;
+    put_number(text, at.x)?;
+    text.push(b' ')?;
+    put_number(text, at.y)?;
+    Ok(())
+}
+
+fn put_number(text: &mut Bytes, number: i32) -> Result<(), Memory>
+    ensures { OnOk result (text.new ≡ text.old ++ signed_decimal number) }
+{
+    let mut buffer = Buffer::new();
+    text.append(buffer.format(number).as_bytes())?;
+    Ok(())
+}
