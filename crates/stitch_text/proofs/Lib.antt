@@ -1,2 +1,7 @@
+mod PartLemmas
+mod ReadingLemmas
+mod LabelLemmas
 mod WriterLemmas
 mod ListFacts
+mod LineFacts
+mod ReadingFacts

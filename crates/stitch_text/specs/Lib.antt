@@ -1,3 +1,8 @@
 -- read this one first: what a design is written as
 pub mod StitchLists
 pub mod Steps
+-- what a text reads as
+pub mod Words
+pub mod ListLines
+pub mod Readings
+pub mod Drafts

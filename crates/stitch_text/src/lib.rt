@@ -8,7 +8,14 @@
 //! their standing and their room are those of format_traits, and the records aren't.
 #![tactic(auto)]
 
+mod draft;
+mod label_line;
+mod list_line;
+mod reading;
 mod stitch_list;
+mod words;
 mod writing;
 
+pub use draft::Draft;
+pub use list_line::{ListLine, MAX_LINE};
 pub use stitch_list::{LIMIT, MAX_STOPS};

@@ -1,5 +1,5 @@
-ghost use Rattle.std.specs.Prelude.{◌≡◌, ◌≤◌, ◌+◌, ◌^◌, ◌<◌, ◌∷◌, ◌++◌, [], IsTrue, OnOk};
-ghost use Rattle.std.specs.Fmt.{decimal, signed_decimal};
+ghost use Rattle.std.specs.Prelude.{◌≡◌, ◌≤◌, ◌∷◌, ◌++◌, [], IsTrue, OnOk};
+ghost use Rattle.std.specs.Fmt.{signed_decimal};
 ghost use Rattle.design_model.specs.declared.design.TheConstants.{MAX_COMMANDS};
 ghost use Rattle.design_model.specs.declared.point.TheConstants.{NEEDLE_LIMIT};
 ghost use Rattle.design_model.specs.Acts.{acts_of};
@@ -7,12 +7,12 @@ ghost use Rattle.design_model.specs.ActPlaces.{is_act_in_range};
 ghost use Rattle.design_model.specs.Designs.{thread_of};
 ghost use Rattle.design_model.specs.Points.{is_within};
 ghost use Rattle.format_traits.specs.Laws.{Writes};
-ghost use Rattle.stitch_text.specs.StitchLists.{act_line, block_line, headed, label_line, point_line, reach as reach_of_list, writes};
+ghost use Rattle.stitch_text.specs.StitchLists.{act_line, block_line, headed, point_line, writes};
 ghost use Rattle.stitch_text.specs.Steps.{PutsLine, PutsLines};
 
-use crate::stitch_list::{LIMIT, MAX_STOPS};
+use crate::stitch_list::{LIMIT, reach};
 use design_model::{Act, ActWalk, Bytes, Design, Memory, NumberedAct, Point};
-use format_traits::{Reach, Standing, WriteFault};
+use format_traits::{Standing, WriteFault};
 use itoa::Buffer;
 use std::alloc::Global;
 
@@ -25,17 +25,6 @@ pub fn write_file(alloc: Global, design: &Design) -> Result<Bytes, WriteFault>
     match put_lines(&mut text, design) {
         Ok(()) => Ok(text),
         Err(fault) => Err(fault),
-    }
-}
-
-/// What a list can have.
-pub fn reach() -> Reach
-    ensures { result ≡ reach_of_list }
-{
-    Reach {
-        limit: LIMIT,
-        float_hops: None,
-        stops: Some(MAX_STOPS),
     }
 }
 

@@ -1,0 +1,54 @@
+-- What one line of a list says, where a line is its bytes without the 10 that ends it.
+use Rattle.std.specs.Prelude.{ℕ, ◌-◌, ◌&&◌, pos, Bool, true, false, List, [], ◌∷◌, Option, Some, None, bytes_eq, codes, drop, length, nat_le, nat_lt, option_map, take, if◌then◌else◌}
+use Rattle.design_model.specs.declared.whole_number.Whole.{Whole}
+use Rattle.design_model.specs.declared.whole_number.Whole.TheVariants as whole
+use Rattle.stitch_text.specs.declared.list_line.ListLine.{ListLine}
+use Rattle.stitch_text.specs.declared.list_line.ListLine.TheVariants as line
+use Rattle.stitch_text.specs.declared.list_line.TheConstants.{MAX_LINE}
+use Rattle.stitch_text.specs.StitchLists.{label_line}
+use Rattle.stitch_text.specs.Words.{is_label, number_in, words_in}
+
+-- a block whose thread has that number, which must be a byte
+abbrev pub block_said : Whole → Option ListLine
+block_said (whole.Value (pos thread)) = if nat_le thread 255 then Some (line.Block thread) else None
+block_said other = None
+
+-- a needle act by its coordinates, which is a float or isn't
+abbrev pub needle_said : Bool → Whole → Whole → Option ListLine
+needle_said float whole.NotANumber y = None
+needle_said float (whole.Value x) (whole.Value y) =
+    Some (line.Needle (record { x = x; y = y }) float)
+needle_said float x whole.NotANumber = None
+needle_said float x y = Some line.Far
+
+-- what a line of one word says
+abbrev pub word_said : List ℕ → Option ListLine
+word_said word =
+    if bytes_eq word (codes "trim") then Some line.Trim
+    else if bytes_eq word (codes "end") then Some line.End
+    else None
+
+-- what words say: the first one tells of what kind the line is
+abbrev pub words_said : List (List ℕ) → Option ListLine
+words_said (word ∷ []) = word_said word
+words_said (word ∷ number ∷ []) =
+    if bytes_eq word (codes "block") then block_said (number_in number) else None
+words_said (word ∷ x ∷ y ∷ []) =
+    if bytes_eq word (codes "needle") then needle_said false (number_in x) (number_in y)
+    else if bytes_eq word (codes "float") then needle_said true (number_in x) (number_in y)
+    else None
+words_said words = None
+
+-- what a line says, if it says anything; it isn't long
+abbrev pub line_said : List ℕ → Option ListLine
+line_said bytes = if nat_lt MAX_LINE (length bytes) then None else words_said (words_in bytes)
+
+-- what stands in the place of the label: behind seven bytes, and before the last one
+abbrev pub in_brackets : List ℕ → List ℕ
+in_brackets bytes = take (length bytes - 8) (drop 7 bytes)
+
+-- the label of a line that is the line of a label
+abbrev pub label_said : List ℕ → Option (List ℕ)
+label_said bytes =
+    if bytes_eq bytes (label_line (in_brackets bytes)) && is_label (in_brackets bytes)
+    then Some (in_brackets bytes) else None

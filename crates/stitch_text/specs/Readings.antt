@@ -1,0 +1,198 @@
+-- What a text reads as. Its lines are judged in order, each by those before it, and the first one that
+-- doesn't fit is told by its offset. `at` is the offset of what is left, parted at the bytes 10.
+use Rattle.std.specs.Prelude.{◌≡◌, ℕ, ◌+◌, ◌&&◌, Bool, true, false, List, [], ◌∷◌, ◌++◌, Option, Some, None, Result, Ok, Err, bytes_eq, length, if◌then◌else◌}
+use Rattle.design_model.specs.declared.act.Act.{Act}
+use Rattle.design_model.specs.declared.act.Act.TheVariants as act
+use Rattle.design_model.specs.declared.act.NumberedAct.{NumberedAct}
+use Rattle.design_model.specs.declared.command.Command.{Command}
+use Rattle.design_model.specs.declared.command.Command.TheVariants.{Stitch, Jump, Trim, Stop}
+use Rattle.design_model.specs.declared.point.Point.{Point}
+use Rattle.design_model.specs.declared.point.TheConstants.{NEEDLE_LIMIT}
+use Rattle.design_model.specs.Acts.{acts_of, numbered}
+use Rattle.design_model.specs.Designs.{DesignValue, empty_design, with_label, with_thread}
+use Rattle.design_model.specs.ActPlaces.{place_after, is_loose_after}
+use Rattle.design_model.specs.Points.{is_within, move_between, origin}
+use Rattle.format_traits.specs.declared.fault.ReadFault.{ReadFault}
+use Rattle.format_traits.specs.declared.fault.ReadFault.TheVariants as read
+use Rattle.format_traits.specs.declared.fault.WriteFault.{WriteFault}
+use Rattle.format_traits.specs.declared.fault.WriteFault.TheVariants as write
+use Rattle.format_traits.specs.declared.loaded.Loaded.{Loaded}
+use Rattle.format_traits.specs.declared.standing.Standing.{Standing}
+use Rattle.format_traits.specs.Cutting.{RefusesAs}
+use Rattle.format_traits.specs.Keeping.{with_commands}
+use Rattle.format_traits.specs.Refusals.{beginning, refusal_at, standing_after}
+use Rattle.stitch_text.specs.declared.draft.Draft.{Draft}
+use Rattle.stitch_text.specs.declared.list_line.ListLine.{ListLine}
+use Rattle.stitch_text.specs.declared.list_line.ListLine.TheVariants as line
+use Rattle.stitch_text.specs.declared.stitch_list.TheConstants.{LIMIT}
+use Rattle.stitch_text.specs.ListLines.{label_said, line_said}
+use Rattle.stitch_text.specs.StitchLists.{first_line, reach}
+use Rattle.stitch_text.specs.Words.{parted}
+
+-- the commands of an act
+abbrev pub commands_of : Act → List Command
+commands_of (act.Needle p false) = Stitch p ∷ []
+commands_of (act.Needle p true) = Jump p ∷ Stitch p ∷ []
+commands_of act.Trim = Trim ∷ []
+commands_of act.Stop = Stop ∷ []
+
+-- a float and a trim have a thread that isn't loose
+abbrev pub wants_thread : Act → Bool
+wants_thread (act.Needle p float) = float
+wants_thread act.Trim = true
+wants_thread act.Stop = false
+
+-- what a reader says where a writer would refuse
+abbrev pub told_as : ℕ → Option WriteFault → Option ReadFault
+told_as at None = None
+told_as at (Some (write.TooLong number)) = Some (read.TooMany at)
+told_as at (Some other) = Some (read.Control at)
+
+-- the refusal of an act; no number is told
+abbrev pub act_fault : ℕ → Standing → Act → Option ReadFault
+act_fault at before a = if before.loose && wants_thread a then Some (read.Control at)
+    else told_as at (refusal_at reach before (numbered 0 a))
+
+-- the draft with one act more
+abbrev pub with_act : Draft → Act → Draft
+with_act draft a = record {
+  design = with_commands draft.design (commands_of a);
+  standing = standing_after LIMIT draft.standing a;
+}
+
+-- the draft with a thread for the block that began
+abbrev pub with_block : ℕ → Draft → Draft
+with_block thread draft = record draft { design = with_thread draft.design thread }
+
+-- the new draft, or the refusal
+abbrev pub unless_fault : Option ReadFault → Draft → Result Draft ReadFault
+unless_fault None new = Ok new
+unless_fault (Some f) new = Err f
+
+-- the draft with one act more, where it may stand there
+abbrev pub taken : ℕ → Draft → Act → Result Draft ReadFault
+taken at draft a = unless_fault (act_fault at draft.standing a) (with_act draft a)
+
+-- what a line makes of the draft, by what it says
+abbrev pub judged : ℕ → Draft → Option ListLine → Result Draft ReadFault
+judged at draft (Some (line.Block thread)) =
+    unless_fault (act_fault at draft.standing act.Stop) (with_block thread (with_act draft act.Stop))
+judged at draft (Some (line.Needle p float)) =
+    if is_within NEEDLE_LIMIT p then taken at draft (act.Needle p float) else Err (read.Range at)
+judged at draft (Some line.Trim) = taken at draft act.Trim
+judged at draft (Some line.Far) = Err (read.Range at)
+judged at draft other = Err (read.Control at)
+
+-- what was read until reading was over: the design so far, and the refusal where there is one
+pub record Said : Type 0 where
+  pub design : DesignValue
+  pub fault : Option ReadFault
+
+-- refused there
+abbrev pub refused : DesignValue → ReadFault → Said
+refused d f = record { design = d; fault = Some f }
+
+-- behind the last line there is nothing
+abbrev pub ended : ℕ → DesignValue → List (List ℕ) → Said
+ended at d ([] ∷ []) = record { design = d; fault = None }
+ended at d parts = refused d (read.Control at)
+
+-- a line that was judged, and what comes behind it
+abbrev pub goes_on : Draft → Result Draft ReadFault → (Draft → Said) → Said
+goes_on draft (Ok new) more = more new
+goes_on draft (Err f) more = refused draft.design f
+
+-- the line is the last one
+abbrev pub is_end : Option ListLine → Bool
+is_end (Some line.End) = true
+is_end other = false
+
+-- the last line, or one that is judged
+abbrev pub on_line : ℕ → Draft → Option ListLine → Said → (Draft → Said) → Said
+on_line at draft said over more =
+    if is_end said then over else goes_on draft (judged at draft said) more
+
+-- what the lines behind the third one say
+abbrev pub acts_said : ℕ → Draft → List (List ℕ) → Said
+acts_said at draft [] = refused draft.design (read.Short at)
+acts_said at draft (rest ∷ []) = refused draft.design (read.Short (at + length rest))
+acts_said at draft (bytes ∷ next ∷ more) =
+    on_line at draft (line_said bytes)
+    (ended (at + length bytes + 1) draft.design (next ∷ more))
+    (λ new. acts_said (at + length bytes + 1) new (next ∷ more))
+
+-- the next line and what stands behind it, where the line has an end
+abbrev pub next_line : ℕ → DesignValue → List (List ℕ) → (List ℕ → List (List ℕ) → Said) → Said
+next_line at d [] f = refused d (read.Short at)
+next_line at d (rest ∷ []) f = refused d (read.Short (at + length rest))
+next_line at d (bytes ∷ next ∷ more) f = f bytes (next ∷ more)
+
+-- the draft of a label and the thread of the first block
+abbrev pub begun : DesignValue → ℕ → Draft
+begun d thread = record { design = with_thread d thread; standing = beginning }
+
+-- the thread of a line that begins a block
+abbrev pub thread_said : Option ListLine → Option ℕ
+thread_said (Some (line.Block thread)) = Some thread
+thread_said other = None
+
+-- the third line has the thread of the first block
+abbrev pub by_block : ℕ → DesignValue → List ℕ → Option ℕ → List (List ℕ) → Said
+by_block at d bytes (Some thread) rest = acts_said (at + length bytes + 1) (begun d thread) rest
+by_block at d bytes None rest = refused d (read.Control at)
+
+abbrev pub block_first : ℕ → DesignValue → List (List ℕ) → Said
+block_first at d parts =
+    next_line at d parts (λ bytes rest. by_block at d bytes (thread_said (line_said bytes)) rest)
+
+-- the second line has a label
+abbrev pub by_label : ℕ → List ℕ → Option (List ℕ) → List (List ℕ) → Said
+by_label at bytes (Some label) rest =
+    block_first (at + length bytes + 1) (with_label empty_design label) rest
+by_label at bytes None rest = refused empty_design (read.Control at)
+
+abbrev pub label_first : ℕ → List (List ℕ) → Said
+label_first at parts =
+    next_line at empty_design parts (λ bytes rest. by_label at bytes (label_said bytes) rest)
+
+-- the first line tells the format
+abbrev pub by_signature : Bool → List ℕ → List (List ℕ) → Said
+by_signature true bytes rest = label_first (length bytes + 1) rest
+by_signature false bytes rest = refused empty_design (read.Signature 0)
+
+-- what a text says
+abbrev pub text_said : List ℕ → Said
+text_said text = next_line 0 empty_design (parted 10 text)
+    (λ bytes rest. by_signature (bytes_eq bytes first_line) bytes rest)
+
+-- what is loaded; a list that is read has ended
+abbrev pub loaded_by : DesignValue → Option ReadFault → Result Loaded ReadFault
+loaded_by d None = Ok (record { design = d; ended = true })
+loaded_by d (Some f) = Err f
+
+abbrev pub loaded_from : Said → Result Loaded ReadFault
+loaded_from said = loaded_by said.design said.fault
+
+-- what a text reads as
+abbrev pub reads : List ℕ → Result Loaded ReadFault
+reads text = loaded_from (text_said text)
+
+-- the move of a needle that is neither loose nor a float
+abbrev pub straight_move : Bool → Point → Act → List Point
+straight_move false place (act.Needle p false) = move_between place p ∷ []
+straight_move loose place other = []
+
+-- those of acts in order, from that place on
+abbrev pub straight_moves : Bool → Point → List NumberedAct → List Point
+straight_moves loose place [] = []
+straight_moves loose place (a ∷ rest) = straight_move loose place a.act
+    ++ straight_moves (is_loose_after a.act) (place_after place a.act) rest
+
+-- the moves of a text's needles, before its end or its first refusal
+abbrev pub moves : List ℕ → List Point
+moves text = straight_moves true origin (acts_of (text_said text).design)
+
+-- what an answer of judging a line means
+abbrev pub Takes : {T : Type 0} → ℕ → Draft → Option ListLine → Result T ReadFault → Draft → Type 0
+Takes at old said (Ok _) new = judged at old said ≡ Ok new
+Takes at old said (Err f) new = RefusesAs (judged at old said) f

@@ -1,0 +1,43 @@
+-- The words of a line and the numbers that they spell: decimal, without leading zeros and without -0.
+use Rattle.std.specs.Prelude.{ℕ, ◌-◌, ◌==◌, ◌&&◌, ◌||◌, Bool, true, false, not, List, [], ◌∷◌, length, get_or, nat_le, if◌then◌else◌}
+use Rattle.std.specs.List.{list_all, slice_split}
+use Rattle.design_model.specs.declared.design.TheConstants.{MAX_LABEL}
+use Rattle.design_model.specs.declared.whole_number.Whole.{Whole}
+use Rattle.design_model.specs.declared.whole_number.Whole.TheVariants as whole
+use Rattle.design_model.specs.WholeNumbers.{whole_of}
+
+-- what stands between the bytes of that kind: one part more than there are such bytes
+abbrev pub parted : ℕ → List ℕ → List (List ℕ)
+parted mark bytes = slice_split (λ b. b == mark) bytes
+
+-- the words of a line; there is one that is empty beside a space that separates no two
+abbrev pub words_in : List ℕ → List (List ℕ)
+words_in line = parted 32 line
+
+-- a zero (48) stands first
+abbrev pub begins_with_zero : List ℕ → Bool
+begins_with_zero [] = false
+begins_with_zero (b ∷ rest) = b == 48
+
+-- a zero stands first only where it is the whole word; 45 is the minus sign
+abbrev pub is_plain : List ℕ → Bool
+is_plain [] = false
+is_plain (b ∷ rest) = if b == 45 then not (begins_with_zero rest)
+    else (not (b == 48) || length rest == 0)
+
+-- the number that a word of any length spells
+abbrev pub number_in : List ℕ → Whole
+number_in word = if is_plain word then whole_of word else whole.NotANumber
+
+-- a printable character of ASCII
+abbrev pub is_printable : ℕ → Bool
+is_printable byte = nat_le 32 byte && nat_le byte 126
+
+-- the last byte is a space
+abbrev pub ends_with_space : List ℕ → Bool
+ends_with_space text = get_or text (length text - 1) 0 == 32
+
+-- a design may have the label
+abbrev pub is_label : List ℕ → Bool
+is_label text = nat_le (length text) MAX_LABEL
+    && (list_all is_printable text && not (ends_with_space text))

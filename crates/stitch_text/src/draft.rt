@@ -1,0 +1,143 @@
+ghost use Rattle.std.specs.Prelude.{◌≡◌, ◌+◌, ◌<◌, ◌≤◌, [], length, Some, IsTrue, OnOk};
+ghost use Rattle.design_model.specs.declared.design.TheConstants.{MAX_COMMANDS};
+ghost use Rattle.design_model.specs.declared.point.TheConstants.{NEEDLE_LIMIT as needle_limit};
+ghost use Rattle.design_model.specs.ActPlaces.{is_act_in_range};
+ghost use Rattle.design_model.specs.Commands.{is_in_range};
+ghost use Rattle.design_model.specs.Designs.{with_command};
+ghost use Rattle.design_model.specs.Points.{is_within};
+ghost use Rattle.format_traits.specs.Keeping.{with_commands};
+ghost use Rattle.stitch_text.specs.Drafts.{IsSound, IsSoundBut, TakesAct};
+ghost use Rattle.format_traits.specs.Refusals.{stops_in};
+ghost use Rattle.stitch_text.specs.declared.list_line.ListLine.TheVariants as line;
+ghost use Rattle.stitch_text.specs.Readings.{Takes, act_fault as fault_of_act, begun, commands_of, wants_thread as wants_a_thread};
+
+use crate::list_line::ListLine;
+use crate::stitch_list::{LIMIT, reach};
+use design_model::{Act, Command, Design, Memory, ModelFault, NEEDLE_LIMIT};
+use format_traits::{ReadFault, Standing, WriteFault};
+
+/// What the lines of a list so far say: a design, and how it stands after its acts.
+#[derive(Debug, Drop)]
+pub struct Draft {
+    pub design: Design,
+    pub standing: Standing,
+}
+
+impl Draft {
+    /// The draft of a label and the thread of the first block.
+    pub(crate) fn new(design: Design, thread: u8) -> Draft
+        requires threads { design.threads ≡ [] }
+        requires commands { design.commands ≡ [] }
+        ensures value { result ≡ begun design thread }
+        ensures sound { IsSound result }
+    {
+        let mut design = design;
+        design.push_thread(thread);
+        Draft {
+            design,
+            standing: Standing::new(),
+        }
+    }
+
+    /// Adds what the line at that offset says, or says why it doesn't fit.
+    pub(crate) fn take_line(&mut self, at: u64, said: Option<ListLine>) -> Result<(), ReadFault>
+        requires { IsSound self.old }
+        ensures value { Takes at self.old said result self.new }
+        ensures sound { OnOk result (IsSound self.new) }
+    {
+        match said {
+            Some(ListLine::Block(thread)) => self.take_block(at, thread),
+            Some(ListLine::Needle { at: p, float }) if p.is_within(NEEDLE_LIMIT) => {
+                self.take(at, Act::Needle { at: p, float })
+            }
+            Some(ListLine::Needle { .. } | ListLine::Far) => Err(ReadFault::Range { at }),
+            Some(ListLine::Trim) => self.take(at, Act::Trim),
+            Some(ListLine::End) | None => Err(ReadFault::Control { at }),
+        }
+    }
+}
+
+impl Draft {
+    /// Adds a stop, and the thread of the block after it.
+    fn take_block(&mut self, at: u64, thread: u8) -> Result<(), ReadFault>
+        requires { IsSound self.old }
+        ensures value { Takes at self.old (Some (line.Block thread)) result self.new }
+        ensures sound { OnOk result (IsSound self.new) }
+    {
+        self.take(at, Act::Stop)?;
+        self.design.push_thread(thread);
+        Ok(())
+    }
+
+    /// Adds an act whose line stands at that offset.
+    fn take(&mut self, at: u64, act: Act) -> Result<(), ReadFault>
+        requires sound { IsSound self.old }
+        requires act { IsTrue (is_act_in_range act) }
+        ensures value { TakesAct at self.old act result self.new }
+        ensures sound { OnOk result (IsSoundBut (stops_in act) self.new) }
+    {
+        if let Some(fault) = act_fault(at, &self.standing, act) {
+            return Err(fault);
+        }
+        push_act(&mut self.design, act)?;
+        self.standing = self.standing.after(LIMIT, act);
+        Ok(())
+    }
+}
+
+/// Why an act can't stand there, if it can't.
+fn act_fault(at: u64, before: &Standing, act: Act) -> Option<ReadFault>
+    requires place { IsTrue (is_within needle_limit before.now.place) }
+    requires act { IsTrue (is_act_in_range act) }
+    requires room { before.now.room ≤ MAX_COMMANDS }
+    requires stops { before.now.stops ≤ MAX_COMMANDS }
+    ensures { result ≡ fault_of_act at before.now act }
+{
+    if before.loose && wants_thread(act) {
+        return Some(ReadFault::Control { at });
+    }
+    match reach().refusal(before, 0, act) {
+        None => None,
+        Some(WriteFault::TooLong { .. }) => Some(ReadFault::TooMany { at }),
+        Some(_) => Some(ReadFault::Control { at }),
+    }
+}
+
+fn wants_thread(act: Act) -> bool
+    ensures { result ≡ wants_a_thread act }
+{
+    match act {
+        Act::Needle { float, .. } => float,
+        Act::Trim => true,
+        Act::Stop => false,
+    }
+}
+
+/// Adds the commands of an act.
+fn push_act(design: &mut Design, act: Act) -> Result<(), Memory>
+    requires room { length design.old.commands + length (commands_of act) ≤ MAX_COMMANDS }
+    requires act { IsTrue (is_act_in_range act) }
+    ensures { OnOk result (design.new ≡ with_commands design.old (commands_of act)) }
+{
+    match act {
+        Act::Needle { at, float: true } => {
+            push(design, Command::Jump(at))?;
+            push(design, Command::Stitch(at))
+        }
+        Act::Needle { at, float: false } => push(design, Command::Stitch(at)),
+        Act::Trim => push(design, Command::Trim),
+        Act::Stop => push(design, Command::Stop),
+    }
+}
+
+fn push(design: &mut Design, command: Command) -> Result<(), Memory>
+    requires room { length design.old.commands < MAX_COMMANDS }
+    requires in_range { IsTrue (is_in_range command) }
+    ensures { OnOk result (design.new ≡ with_command design.old command) }
+{
+    match design.push(command) {
+        Ok(()) => Ok(()),
+        Err(ModelFault::Memory) => Err(Memory),
+        Err(ModelFault::Range | ModelFault::TooMany) => unreachable!(),
+    }
+}
