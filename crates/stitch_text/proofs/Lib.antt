@@ -1,6 +1,10 @@
 mod PartLemmas
 mod ReadingLemmas
 mod LabelLemmas
+mod NumberLemmas
+mod LineLemmas
+mod ActLemmas
+pub mod Rereading
 mod WriterLemmas
 mod ListFacts
 mod LineFacts

@@ -6,3 +6,4 @@ pub mod Words
 pub mod ListLines
 pub mod Readings
 pub mod Drafts
+pub mod Format

@@ -3,12 +3,11 @@
 use Rattle.std.specs.Prelude.{◌≡◌, ℕ, ◌+◌, ◌&&◌, Bool, true, false, List, [], ◌∷◌, ◌++◌, Option, Some, None, Result, Ok, Err, bytes_eq, length, if◌then◌else◌}
 use Rattle.design_model.specs.declared.act.Act.{Act}
 use Rattle.design_model.specs.declared.act.Act.TheVariants as act
-use Rattle.design_model.specs.declared.act.NumberedAct.{NumberedAct}
 use Rattle.design_model.specs.declared.command.Command.{Command}
 use Rattle.design_model.specs.declared.command.Command.TheVariants.{Stitch, Jump, Trim, Stop}
 use Rattle.design_model.specs.declared.point.Point.{Point}
 use Rattle.design_model.specs.declared.point.TheConstants.{NEEDLE_LIMIT}
-use Rattle.design_model.specs.Acts.{acts_of, numbered}
+use Rattle.design_model.specs.Acts.{acts_of, bare, numbered}
 use Rattle.design_model.specs.Designs.{DesignValue, empty_design, with_label, with_thread}
 use Rattle.design_model.specs.ActPlaces.{place_after, is_loose_after}
 use Rattle.design_model.specs.Points.{is_within, move_between, origin}
@@ -183,14 +182,14 @@ straight_move false place (act.Needle p false) = move_between place p ∷ []
 straight_move loose place other = []
 
 -- those of acts in order, from that place on
-abbrev pub straight_moves : Bool → Point → List NumberedAct → List Point
+abbrev pub straight_moves : Bool → Point → List Act → List Point
 straight_moves loose place [] = []
-straight_moves loose place (a ∷ rest) = straight_move loose place a.act
-    ++ straight_moves (is_loose_after a.act) (place_after place a.act) rest
+straight_moves loose place (a ∷ rest) = straight_move loose place a
+    ++ straight_moves (is_loose_after a) (place_after place a) rest
 
 -- the moves of a text's needles, before its end or its first refusal
 abbrev pub moves : List ℕ → List Point
-moves text = straight_moves true origin (acts_of (text_said text).design)
+moves text = straight_moves true origin (bare (acts_of (text_said text).design))
 
 -- what an answer of judging a line means
 abbrev pub Takes : {T : Type 0} → ℕ → Draft → Option ListLine → Result T ReadFault → Draft → Type 0

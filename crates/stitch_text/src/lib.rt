@@ -11,6 +11,7 @@
 mod draft;
 mod label_line;
 mod list_line;
+mod promises;
 mod reading;
 mod stitch_list;
 mod words;
@@ -18,4 +19,5 @@ mod writing;
 
 pub use draft::Draft;
 pub use list_line::{ListLine, MAX_LINE};
-pub use stitch_list::{LIMIT, MAX_STOPS};
+pub use promises::written_reads_again;
+pub use stitch_list::{LIMIT, List, MAX_STOPS};

@@ -61,11 +61,7 @@ fn read_block(design: Design, at: u64, bytes: &[u8]) -> Result<Loaded, ReadFault
     let Some(thread) = thread_of(line_of(line)) else {
         return Err(ReadFault::Control { at });
     };
-    read_acts(
-        Draft::new(design, thread),
-        at + line.len() as u64 + 1,
-        rest,
-    )
+    read_acts(Draft::new(design, thread), at + line.len() as u64 + 1, rest)
 }
 
 /// The thread of a line that begins a block.

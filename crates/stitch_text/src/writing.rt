@@ -6,10 +6,12 @@ ghost use Rattle.design_model.specs.Acts.{acts_of};
 ghost use Rattle.design_model.specs.ActPlaces.{is_act_in_range};
 ghost use Rattle.design_model.specs.Designs.{thread_of};
 ghost use Rattle.design_model.specs.Points.{is_within};
-ghost use Rattle.format_traits.specs.Laws.{Writes};
+ghost use Rattle.format_traits.specs.Laws.{KeepsLaws, Writes};
+ghost use Rattle.stitch_text.specs.Format.{stitch_list};
 ghost use Rattle.stitch_text.specs.StitchLists.{act_line, block_line, headed, point_line, writes};
 ghost use Rattle.stitch_text.specs.Steps.{PutsLine, PutsLines};
 
+use crate::promises::written_reads_again;
 use crate::stitch_list::{LIMIT, reach};
 use design_model::{Act, ActWalk, Bytes, Design, Memory, NumberedAct, Point};
 use format_traits::{Standing, WriteFault};
@@ -18,6 +20,16 @@ use std::alloc::Global;
 
 /// The list of a design.
 pub fn write_file(alloc: Global, design: &Design) -> Result<Bytes, WriteFault>
+    ensures value { Writes (writes design.now) result }
+    ensures laws { KeepsLaws stitch_list design.now }
+{
+    written_reads_again();
+    // The clauses of `commands` bring the design's limits.
+    let _commands = design.commands();
+    put_list(alloc, design)
+}
+
+fn put_list(alloc: Global, design: &Design) -> Result<Bytes, WriteFault>
     ensures { Writes (writes design.now) result }
 {
     let mut text = Bytes::new(alloc);
