@@ -1,9 +1,9 @@
 -- Labels, and the lines that have them.
-use Rattle.std.proofs.Common.{◌≡◌, ◌≢◌, ℕ, ◌+◌, ◌-◌, ◌<◌, ◌≤◌, ◌==◌, ◌&&◌, Bool, true, false, not, nat_le, List, [], ◌∷◌, ◌++◌, Option, None, Some, All, bytes_eq, codes, length, length-append, get_or, slice_get, take, if◌then◌else◌, Bor, IfSome, MatchOption, ap, sym, refl, ◌∙◌, inl, inr, arith}
+use Rattle.std.proofs.Common.{◌≡◌, ◌≢◌, ℕ, ◌+◌, ◌-◌, ◌<◌, ◌≤◌, ◌==◌, ◌&&◌, Bool, true, false, not, nat_le, List, [], ◌∷◌, ◌++◌, Option, None, Some, All, bytes_eq, codes, length, length-append, get_or, slice_get, take, if◌then◌else◌, Bor, IfSome, MatchOption, subst, ap, sym, refl, ◌∙◌, inl, inr, arith}
 use Rattle.std.proofs.lemmas.Bool.{and_from, and_parts, not-true}
 use Rattle.std.proofs.lemmas.Bool.Decides.{nat_tests}
 use Rattle.std.proofs.lemmas.List.Sums.{AllPass-from_list_all, list_all-from_AllPass}
-use Rattle.std.proofs.lemmas.Option.{get_or_from_slice_get, slice_get-get_or}
+use Rattle.std.proofs.lemmas.Option.{get_or_from_slice_get, same_Some, slice_get-get_or}
 use Rattle.std.proofs.lemmas.Slice.Eq.{bytes_eq-Decides}
 use Rattle.std.proofs.Math.Seq.{take-append_seam}
 use Rattle.std.specs.List.{list_all}
@@ -100,3 +100,23 @@ pub before_last : (bytes : List ℕ) (r : Option (Bor (List ℕ)))
     → IfSome r (λ label. bytes ≡ label.now ++ 93 ∷ [])
 before_last bytes None says = tt
 before_last bytes (Some x) says = says
+
+-- what the label of a line tells
+pub record HasLabel (line label : List ℕ) : Type 0 where
+  pub is : line ≡ label_line label
+  pub good : is_label label ≡ true
+
+pub label_is : (line label : List ℕ) → label_said line ≡ Some label → HasLabel line label
+label_is line label says =
+    by_tests (bytes_eq line (label_line (in_brackets line))) (is_label (in_brackets line)) refl refl says where
+      none_label : None ≡ Some label → ⊥
+      none_label same = cc
+
+      by_tests : (same good : Bool) → bytes_eq line (label_line (in_brackets line)) ≡ same → is_label (in_brackets line) ≡ good
+          → (if same && good then Some (in_brackets line) else None) ≡ Some label → HasLabel line label
+      by_tests false good is fine says = absurd (none_label says)
+      by_tests true false is fine says = absurd (none_label says)
+      by_tests true true is fine says = subst (λ label. HasLabel line label) (same_Some (in_brackets line) label says) (record {
+        is = (bytes_eq-Decides line (label_line (in_brackets line))).0 is;
+        good = fine;
+      })

@@ -5,6 +5,8 @@ mod NumberLemmas
 mod LineLemmas
 mod ActLemmas
 pub mod Rereading
+pub mod OneText
+pub mod KeptLemmas
 mod WriterLemmas
 mod ListFacts
 mod LineFacts

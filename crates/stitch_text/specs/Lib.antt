@@ -7,3 +7,4 @@ pub mod ListLines
 pub mod Readings
 pub mod Drafts
 pub mod Format
+pub mod Laws

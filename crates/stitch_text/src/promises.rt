@@ -1,5 +1,6 @@
 ghost use Rattle.format_traits.specs.Laws.{KeepsAllLaws};
 ghost use Rattle.stitch_text.specs.Format.{stitch_list};
+ghost use Rattle.stitch_text.specs.Laws.{KeepsLabelAndThreads, ReadsAsWritten, ReadsWhereWritten};
 
 use format_traits::{an_accepted_design_is_small, codecs_keep_the_laws};
 
@@ -10,4 +11,23 @@ pub fn written_reads_again()
 {
     an_accepted_design_is_small();
     codecs_keep_the_laws();
+}
+
+/// A list keeps the label of its design, and the thread of each block.
+pub fn lists_keep_label_and_threads()
+    ensures { KeepsLabelAndThreads }
+{
+    an_accepted_design_is_small();
+}
+
+/// A text that reads as a design is what that design is written as, so that a design has no other list.
+pub fn what_is_read_is_written_so()
+    ensures { ReadsAsWritten }
+{}
+
+/// A text reads as a design exactly where it is what some design is written as.
+pub fn lists_alone_are_read()
+    ensures { ReadsWhereWritten }
+{
+    written_reads_again();
 }

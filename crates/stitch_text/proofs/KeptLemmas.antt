@@ -1,0 +1,90 @@
+-- The label and the threads of a design are read back.
+use Rattle.std.proofs.Common.{◌≡◌, ℕ, zero, suc, ◌+◌, ◌<◌, ◌≤◌, ◌%◌, true, List, [], ◌∷◌, ◌++◌, Option, None, Some, Result, Ok, Err, All, IsOkAnd, length, get_or, slice_get, unwrap_or, refl, ap, sym, ◌∙◌, subst, inl, inr, arith}
+use Rattle.std.proofs.lemmas.List.Elements.{All-head, All-tail}
+use Rattle.design_model.specs.declared.act.Act.{Act}
+use Rattle.design_model.specs.declared.act.Act.TheVariants as act
+use Rattle.design_model.specs.declared.act.NumberedAct.{NumberedAct}
+use Rattle.design_model.specs.Acts.{acts_of}
+use Rattle.design_model.specs.Designs.{DesignValue, KeepsLimits, thread_of}
+use Rattle.format_traits.specs.declared.fault.WriteFault.{WriteFault}
+use Rattle.format_traits.specs.declared.loaded.Loaded.{Loaded}
+use Rattle.format_traits.specs.Accepted.{AcceptedIsSmall}
+use Rattle.format_traits.specs.Refusals.{first_refusal, stops_in, stops_of, unless_refused}
+use Rattle.stitch_text.specs.Laws.{IsKept, KeepsLabelAndThreads}
+use Rattle.stitch_text.specs.Readings.{Said, loaded_from, reads}
+use Rattle.stitch_text.specs.StitchLists.{list_of, reach, writes}
+use Rattle.stitch_text.proofs.ActLemmas.{commands_along}
+use Rattle.stitch_text.proofs.Rereading.{list_said, threads_along, threads_in, threads_told}
+
+-- the thread at a later place
+told_at : (thread : ℕ → ℕ) (acts : List NumberedAct) (stops k : ℕ) → k < stops_of acts
+    → slice_get (threads_along thread stops acts) k ≡ Some (thread (stops + 1 + k) % 256)
+told_at thread [] stops k there = absurd (omega (arith, there))
+told_at thread (a ∷ rest) stops k there =
+    by_act (λ stops k there. told_at thread rest stops k there) a.act k there where
+      by_act : ((stops k : ℕ) → k < stops_of rest → slice_get (threads_along thread stops rest) k ≡ Some (thread (stops + 1 + k) % 256))
+          → (b : Act) (k : ℕ) → k < stops_in b + stops_of rest
+          → slice_get (threads_in thread stops b ++ threads_along thread (stops + stops_in b) rest) k ≡ Some (thread (stops + 1 + k) % 256)
+      by_act again (act.Needle p float) k there =
+          let same : stops + 0 ≡ stops = omega arith in
+          subst (λ s. slice_get (threads_along thread s rest) k ≡ Some (thread (stops + 1 + k) % 256)) (sym same)
+          (again stops k (omega (arith, there)))
+      by_act again act.Trim k there =
+          let same : stops + 0 ≡ stops = omega arith in
+          subst (λ s. slice_get (threads_along thread s rest) k ≡ Some (thread (stops + 1 + k) % 256)) (sym same)
+          (again stops k (omega (arith, there)))
+      by_act again act.Stop zero there =
+          let same : stops + 1 ≡ stops + 1 + 0 = omega arith in ap (λ n. Some (thread n % 256)) same
+      by_act again act.Stop (suc k) there =
+          let same : stops + 1 + 1 + k ≡ stops + 1 + suc k = omega arith in
+          again (stops + 1) k (omega (arith, there)) ∙ ap (λ n. Some (thread n % 256)) same
+
+told_of : (d : DesignValue) (block : ℕ) → block ≤ stops_of (acts_of d)
+    → slice_get (threads_told d) block ≡ Some (thread_of d block % 256)
+told_of d zero there = refl
+told_of d (suc k) there =
+    let same : 0 + 1 + k ≡ suc k = omega arith in
+    told_at (thread_of d) (acts_of d) 0 k (omega (arith, there)) ∙ ap (λ n. Some (thread_of d n % 256)) same
+
+-- a thread that is a byte
+byte_of : (threads : List ℕ) (block other : ℕ) → All (λ thread. thread < 256) threads → other < 256
+    → unwrap_or (slice_get threads block) other < 256
+byte_of [] block other all small = small
+byte_of (t ∷ threads) zero other all small = All-head (λ thread. thread < 256) t threads all
+byte_of (t ∷ threads) (suc block) other all small =
+    byte_of threads block other (All-tail (λ thread. thread < 256) t threads all) small
+
+-- what was written is the list
+record IsWritten (d : DesignValue) (text : List ℕ) : Type 0 where
+  none : first_refusal reach (acts_of d) ≡ None
+  is : list_of d ≡ text
+
+is_written : (d : DesignValue) (text : List ℕ) → writes d ≡ Ok text → IsWritten d text
+is_written d text written = by_refusal (first_refusal reach (acts_of d)) refl written where
+  ok : List ℕ → Result (List ℕ) WriteFault
+  ok bytes = Ok bytes
+
+  same_bytes : (one other : List ℕ) → ok one ≡ ok other → one ≡ other
+  same_bytes one other same = cc
+
+  by_refusal : (r : Option WriteFault) → first_refusal reach (acts_of d) ≡ r → unless_refused r (list_of d) ≡ ok text → IsWritten d text
+  by_refusal None is says = record { none = is; is = same_bytes (list_of d) text says }
+  by_refusal (Some f) is says = absurd (let no : ⊥ = cc in no)
+
+-- label and threads are kept
+pub keeps_label_and_threads : AcceptedIsSmall → KeepsLabelAndThreads
+keeps_label_and_threads small d text limits bytes written =
+    let is = is_written d text written in
+    let loaded : Loaded = record {
+      design = record { label = d.label; threads = threads_told d; commands = commands_along (acts_of d) };
+      ended = true;
+    } in
+    let kept : IsKept d loaded = record {
+      label = refl;
+      threads = λ block there.
+          let byte = byte_of d.threads block (1 + block % 64) bytes (omega arith) in
+          let same : thread_of d block % 256 ≡ thread_of d block = omega (arith, byte) in
+          ap (λ o. unwrap_or o (1 + block % 64)) (told_of d block there) ∙ same;
+    } in
+    subst (λ (bytes : List ℕ). IsOkAnd (reads bytes) (λ loaded. IsKept d loaded)) is.is
+    (subst (λ said. IsOkAnd (loaded_from said) (λ loaded. IsKept d loaded)) (sym (list_said small d limits is.none)) kept)
