@@ -20,7 +20,8 @@ use Rattle.format_traits.specs.declared.fault.WriteFault.TheVariants as fault
 use Rattle.format_traits.specs.declared.standing.Standing.{Standing}
 use Rattle.format_traits.specs.Refusals.{needle_refusal, or_else, own_refusal, passes, refusal_at, refusal_from, refused_where, standing_after}
 use Rattle.stitch_text.specs.declared.stitch_list.TheConstants.{LIMIT, MAX_STOPS}
-use Rattle.stitch_text.specs.Readings.{act_fault, commands_of, straight_move, straight_moves, told_as, wants_thread}
+use Rattle.stitch_text.specs.Judging.{act_fault, commands_of, told_as, wants_thread}
+use Rattle.stitch_text.specs.Readings.{straight_move, straight_moves}
 use Rattle.stitch_text.specs.StitchLists.{reach}
 
 -- an act that the fold over commands can give: no float of a loose thread, and no trim of one

@@ -5,8 +5,10 @@ mod NumberLemmas
 mod LineLemmas
 mod ActLemmas
 pub mod Rereading
+mod Continuing
 pub mod OneText
 pub mod KeptLemmas
+mod FloatLemmas
 mod WriterLemmas
 mod ListFacts
 mod LineFacts

@@ -8,7 +8,8 @@ use Rattle.format_traits.specs.declared.fault.ReadFault.{ReadFault}
 use Rattle.format_traits.specs.declared.fault.ReadFault.TheVariants as fault
 use Rattle.format_traits.specs.declared.loaded.Loaded.{Loaded}
 use Rattle.format_traits.specs.declared.standing.Standing.{Standing}
-use Rattle.stitch_text.specs.Readings.{act_fault, moves, reads}
+use Rattle.stitch_text.specs.Judging.{act_fault}
+use Rattle.stitch_text.specs.Readings.{moves, reads}
 
 abbrev pub point : ℤ → ℤ → Point
 point x y = record { x = x; y = y }

@@ -11,7 +11,8 @@ use Rattle.format_traits.specs.Laws.{Reads}
 use Rattle.stitch_text.specs.declared.draft.Draft.{Draft}
 use Rattle.stitch_text.specs.declared.list_line.ListLine.{ListLine}
 use Rattle.stitch_text.specs.ListLines.{label_said, line_said, words_said}
-use Rattle.stitch_text.specs.Readings.{Said, acts_said, begun, block_first, by_block, by_label, by_signature, ended, goes_on, is_end, judged, label_first, loaded_from, next_line, on_line, refused, text_said, thread_said}
+use Rattle.stitch_text.specs.Judging.{judged}
+use Rattle.stitch_text.specs.Readings.{Said, acts_said, begun, block_first, by_block, by_label, by_signature, ended, goes_on, is_end, label_first, loaded_from, next_line, on_line, refused, text_said, thread_said}
 use Rattle.stitch_text.specs.StitchLists.{first_line}
 use Rattle.stitch_text.specs.Words.{parted, words_in}
 use Rattle.stitch_text.proofs.PartLemmas.{some_part}

@@ -27,7 +27,8 @@ use Rattle.stitch_text.specs.declared.list_line.ListLine.TheVariants as line
 use Rattle.stitch_text.specs.declared.stitch_list.TheConstants.{LIMIT}
 use Rattle.stitch_text.specs.Format.{stitch_list}
 use Rattle.stitch_text.specs.ListLines.{line_said}
-use Rattle.stitch_text.specs.Readings.{Said, act_fault, acts_said, begun, block_first, commands_of, ended, goes_on, is_end, judged, label_first, loaded_from, moves, on_line, reads, straight_moves, taken, text_said, thread_said, unless_fault, with_act, with_block}
+use Rattle.stitch_text.specs.Judging.{act_fault, commands_of, judged, taken, unless_fault, with_act, with_block}
+use Rattle.stitch_text.specs.Readings.{Said, acts_said, begun, block_first, ended, goes_on, is_end, label_first, loaded_from, moves, on_line, reads, straight_moves, text_said, thread_said}
 use Rattle.stitch_text.specs.StitchLists.{act_line, act_lines, block_line, first_line, headed, label_line, list_of, reach}
 use Rattle.stitch_text.specs.Words.{ends_with_space, is_label, is_printable, parted}
 use Rattle.stitch_text.proofs.ActLemmas.{acts_again, are_told, commands_along, is_told, moves_within, no_fault, or_else_none, told}

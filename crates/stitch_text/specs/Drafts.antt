@@ -8,7 +8,7 @@ use Rattle.format_traits.specs.declared.fault.ReadFault.{ReadFault}
 use Rattle.format_traits.specs.Cutting.{RefusesAs}
 use Rattle.stitch_text.specs.declared.draft.Draft.{Draft}
 use Rattle.stitch_text.specs.declared.stitch_list.TheConstants.{MAX_STOPS}
-use Rattle.stitch_text.specs.Readings.{act_fault, taken, with_act}
+use Rattle.stitch_text.specs.Judging.{act_fault, taken, with_act}
 
 -- the acts so far have little room and few stops, and so many blocks have no thread yet
 pub record IsSoundBut (bare : ℕ) (draft : Draft) : Type 0 where

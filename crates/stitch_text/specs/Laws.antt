@@ -1,7 +1,8 @@
 -- What holds of all texts: a list is the only text of its design, and it keeps label and threads.
-use Rattle.std.specs.Prelude.{◌≡◌, ◌↔◌, ℕ, ◌<◌, ◌≤◌, List, All, Ok, IsOk, IsOkAnd}
+use Rattle.std.specs.Prelude.{◌≡◌, ◌≢◌, ◌↔◌, ℕ, ◌<◌, ◌≤◌, List, All, Ok, Err, IsOk, IsOkAnd}
 use Rattle.design_model.specs.Acts.{acts_of}
 use Rattle.design_model.specs.Designs.{DesignValue, KeepsLimits, thread_of}
+use Rattle.format_traits.specs.declared.fault.WriteFault.TheVariants as fault
 use Rattle.format_traits.specs.declared.loaded.Loaded.{Loaded}
 use Rattle.format_traits.specs.Refusals.{stops_of}
 use Rattle.stitch_text.specs.Readings.{reads}
@@ -32,3 +33,7 @@ ReadsAsWritten = (text : List ℕ) (loaded : Loaded) → reads text ≡ Ok loade
 -- a text reads as a design exactly where it is what some design is written as
 abbrev pub ReadsWhereWritten : Type 0
 ReadsWhereWritten = (text : List ℕ) → IsOk (reads text) ↔ ((d : DesignValue) × IsTextOf text d)
+
+-- no design is refused for a float
+abbrev pub NoFloatIsTooLong : Type 0
+NoFloatIsTooLong = (d : DesignValue) (number : ℕ) → writes d ≢ Err (fault.FloatTooLong number)

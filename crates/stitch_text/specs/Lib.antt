@@ -4,6 +4,7 @@ pub mod Steps
 -- what a text reads as
 pub mod Words
 pub mod ListLines
+pub mod Judging
 pub mod Readings
 pub mod Drafts
 pub mod Format

@@ -1,86 +1,24 @@
 -- What a text reads as. Its lines are judged in order, each by those before it, and the first one that
 -- doesn't fit is told by its offset. `at` is the offset of what is left, parted at the bytes 10.
-use Rattle.std.specs.Prelude.{◌≡◌, ℕ, ◌+◌, ◌&&◌, Bool, true, false, List, [], ◌∷◌, ◌++◌, Option, Some, None, Result, Ok, Err, bytes_eq, length, if◌then◌else◌}
+use Rattle.std.specs.Prelude.{ℕ, ◌+◌, Bool, true, false, List, [], ◌∷◌, ◌++◌, Option, Some, None, Result, Ok, Err, bytes_eq, length, if◌then◌else◌}
 use Rattle.design_model.specs.declared.act.Act.{Act}
 use Rattle.design_model.specs.declared.act.Act.TheVariants as act
-use Rattle.design_model.specs.declared.command.Command.{Command}
-use Rattle.design_model.specs.declared.command.Command.TheVariants.{Stitch, Jump, Trim, Stop}
 use Rattle.design_model.specs.declared.point.Point.{Point}
-use Rattle.design_model.specs.declared.point.TheConstants.{NEEDLE_LIMIT}
-use Rattle.design_model.specs.Acts.{acts_of, bare, numbered}
+use Rattle.design_model.specs.Acts.{acts_of, bare}
 use Rattle.design_model.specs.Designs.{DesignValue, empty_design, with_label, with_thread}
 use Rattle.design_model.specs.ActPlaces.{place_after, is_loose_after}
-use Rattle.design_model.specs.Points.{is_within, move_between, origin}
+use Rattle.design_model.specs.Points.{move_between, origin}
 use Rattle.format_traits.specs.declared.fault.ReadFault.{ReadFault}
 use Rattle.format_traits.specs.declared.fault.ReadFault.TheVariants as read
-use Rattle.format_traits.specs.declared.fault.WriteFault.{WriteFault}
-use Rattle.format_traits.specs.declared.fault.WriteFault.TheVariants as write
 use Rattle.format_traits.specs.declared.loaded.Loaded.{Loaded}
-use Rattle.format_traits.specs.declared.standing.Standing.{Standing}
-use Rattle.format_traits.specs.Cutting.{RefusesAs}
-use Rattle.format_traits.specs.Keeping.{with_commands}
-use Rattle.format_traits.specs.Refusals.{beginning, refusal_at, standing_after}
+use Rattle.format_traits.specs.Refusals.{beginning}
 use Rattle.stitch_text.specs.declared.draft.Draft.{Draft}
 use Rattle.stitch_text.specs.declared.list_line.ListLine.{ListLine}
 use Rattle.stitch_text.specs.declared.list_line.ListLine.TheVariants as line
-use Rattle.stitch_text.specs.declared.stitch_list.TheConstants.{LIMIT}
+use Rattle.stitch_text.specs.Judging.{judged}
 use Rattle.stitch_text.specs.ListLines.{label_said, line_said}
-use Rattle.stitch_text.specs.StitchLists.{first_line, reach}
+use Rattle.stitch_text.specs.StitchLists.{first_line}
 use Rattle.stitch_text.specs.Words.{parted}
-
--- the commands of an act
-abbrev pub commands_of : Act → List Command
-commands_of (act.Needle p false) = Stitch p ∷ []
-commands_of (act.Needle p true) = Jump p ∷ Stitch p ∷ []
-commands_of act.Trim = Trim ∷ []
-commands_of act.Stop = Stop ∷ []
-
--- a float and a trim have a thread that isn't loose
-abbrev pub wants_thread : Act → Bool
-wants_thread (act.Needle p float) = float
-wants_thread act.Trim = true
-wants_thread act.Stop = false
-
--- what a reader says where a writer would refuse
-abbrev pub told_as : ℕ → Option WriteFault → Option ReadFault
-told_as at None = None
-told_as at (Some (write.TooLong number)) = Some (read.TooMany at)
-told_as at (Some other) = Some (read.Control at)
-
--- the refusal of an act; no number is told
-abbrev pub act_fault : ℕ → Standing → Act → Option ReadFault
-act_fault at before a = if before.loose && wants_thread a then Some (read.Control at)
-    else told_as at (refusal_at reach before (numbered 0 a))
-
--- the draft with one act more
-abbrev pub with_act : Draft → Act → Draft
-with_act draft a = record {
-  design = with_commands draft.design (commands_of a);
-  standing = standing_after LIMIT draft.standing a;
-}
-
--- the draft with a thread for the block that began
-abbrev pub with_block : ℕ → Draft → Draft
-with_block thread draft = record draft { design = with_thread draft.design thread }
-
--- the new draft, or the refusal
-abbrev pub unless_fault : Option ReadFault → Draft → Result Draft ReadFault
-unless_fault None new = Ok new
-unless_fault (Some f) new = Err f
-
--- the draft with one act more, where it may stand there
-abbrev pub taken : ℕ → Draft → Act → Result Draft ReadFault
-taken at draft a = unless_fault (act_fault at draft.standing a) (with_act draft a)
-
--- what a line makes of the draft, by what it says
-abbrev pub judged : ℕ → Draft → Option ListLine → Result Draft ReadFault
-judged at draft (Some (line.Block thread)) =
-    unless_fault (act_fault at draft.standing act.Stop) (with_block thread (with_act draft act.Stop))
-judged at draft (Some (line.Needle p float)) =
-    if is_within NEEDLE_LIMIT p then taken at draft (act.Needle p float) else Err (read.Range at)
-judged at draft (Some line.Trim) = taken at draft act.Trim
-judged at draft (Some line.Far) = Err (read.Range at)
-judged at draft other = Err (read.Control at)
 
 -- what was read until reading was over: the design so far, and the refusal where there is one
 pub record Said : Type 0 where
@@ -190,8 +128,3 @@ straight_moves loose place (a ∷ rest) = straight_move loose place a
 -- the moves of a text's needles, before its end or its first refusal
 abbrev pub moves : List ℕ → List Point
 moves text = straight_moves true origin (bare (acts_of (text_said text).design))
-
--- what an answer of judging a line means
-abbrev pub Takes : {T : Type 0} → ℕ → Draft → Option ListLine → Result T ReadFault → Draft → Type 0
-Takes at old said (Ok _) new = judged at old said ≡ Ok new
-Takes at old said (Err f) new = RefusesAs (judged at old said) f

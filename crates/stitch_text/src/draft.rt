@@ -9,7 +9,8 @@ ghost use Rattle.format_traits.specs.Keeping.{with_commands};
 ghost use Rattle.stitch_text.specs.Drafts.{IsSound, IsSoundBut, TakesAct};
 ghost use Rattle.format_traits.specs.Refusals.{stops_in};
 ghost use Rattle.stitch_text.specs.declared.list_line.ListLine.TheVariants as line;
-ghost use Rattle.stitch_text.specs.Readings.{Takes, act_fault as fault_of_act, begun, commands_of, wants_thread as wants_a_thread};
+ghost use Rattle.stitch_text.specs.Judging.{Takes, act_fault as fault_of_act, commands_of, wants_thread as wants_a_thread};
+ghost use Rattle.stitch_text.specs.Readings.{begun};
 
 use crate::list_line::ListLine;
 use crate::stitch_list::{LIMIT, reach};

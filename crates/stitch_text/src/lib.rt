@@ -14,13 +14,13 @@ mod list_line;
 mod promises;
 mod reading;
 mod stitch_list;
+#[cfg(test)]
+mod tests;
 mod words;
 mod writing;
 
-pub use draft::Draft;
-pub use list_line::{ListLine, MAX_LINE};
 pub use promises::{
-    lists_alone_are_read, lists_keep_label_and_threads, what_is_read_is_written_so,
+    floats_are_never_too_long, lists_alone_are_read, lists_keep_label_and_threads, what_is_read_is_written_so,
     written_reads_again,
 };
 pub use stitch_list::{LIMIT, List, MAX_STOPS};

@@ -1,6 +1,6 @@
 ghost use Rattle.format_traits.specs.Laws.{KeepsAllLaws};
 ghost use Rattle.stitch_text.specs.Format.{stitch_list};
-ghost use Rattle.stitch_text.specs.Laws.{KeepsLabelAndThreads, ReadsAsWritten, ReadsWhereWritten};
+ghost use Rattle.stitch_text.specs.Laws.{KeepsLabelAndThreads, NoFloatIsTooLong, ReadsAsWritten, ReadsWhereWritten};
 
 use format_traits::{an_accepted_design_is_small, codecs_keep_the_laws};
 
@@ -31,3 +31,8 @@ pub fn lists_alone_are_read()
 {
     written_reads_again();
 }
+
+/// No design is refused for a float, which is placed by its point.
+pub fn floats_are_never_too_long()
+    ensures { NoFloatIsTooLong }
+{}
