@@ -1,5 +1,5 @@
 -- Acts of designs, and acts that a list can have.
-use Rattle.std.proofs.Common.{◌≡◌, ℕ, ◌+◌, ◌<◌, ◌≤◌, ◌%◌, Bool, true, false, not, ◌&&◌, IsTrue, List, [], ◌∷◌, ◌++◌, Option, Some, None, nat_le, nat_lt, unsigned_abs, if◌then◌else◌, refl, ap, sym, ◌∙◌, arith}
+use Rattle.std.proofs.Common.{◌≡◌, ℕ, ◌+◌, ◌≤◌, Bool, true, false, not, ◌&&◌, IsTrue, List, [], ◌∷◌, ◌++◌, Option, Some, None, nat_le, nat_lt, unsigned_abs, if◌then◌else◌, refl, ap, ◌∙◌, arith}
 use Rattle.std.proofs.lemmas.Bool.{and_from, not-true}
 use Rattle.std.proofs.lemmas.Bool.Decides.{nat_tests}
 use Rattle.std.specs.List.{list_all}
@@ -13,13 +13,12 @@ use Rattle.design_model.specs.declared.point.Point.{Point}
 use Rattle.design_model.specs.ActPlaces.{is_loose_after, place_after}
 use Rattle.design_model.specs.Acts.{acts_from, bare, numbered}
 use Rattle.design_model.specs.Points.{is_within, move_between, size_of}
-use Rattle.format_traits.specs.declared.fault.ReadFault.{ReadFault}
 use Rattle.format_traits.specs.declared.fault.ReadFault.TheVariants as read
 use Rattle.format_traits.specs.declared.fault.WriteFault.{WriteFault}
 use Rattle.format_traits.specs.declared.fault.WriteFault.TheVariants as fault
 use Rattle.format_traits.specs.declared.standing.Standing.{Standing}
 use Rattle.format_traits.specs.Refusals.{needle_refusal, or_else, own_refusal, passes, refusal_at, refusal_from, refused_where, standing_after}
-use Rattle.stitch_text.specs.declared.stitch_list.TheConstants.{LIMIT, MAX_STOPS}
+use Rattle.stitch_text.specs.declared.stitch_list.TheConstants.{LIMIT}
 use Rattle.stitch_text.specs.Judging.{act_fault, commands_of, told_as, wants_thread}
 use Rattle.stitch_text.specs.Readings.{straight_move, straight_moves}
 use Rattle.stitch_text.specs.StitchLists.{reach}
@@ -57,7 +56,8 @@ pub acts_again : (acts : List NumberedAct) (n : ℕ) (loose : Bool) → IsTrue (
 acts_again [] n loose told = refl
 acts_again (a ∷ rest) n loose told = by_act (λ n loose told. acts_again rest n loose told) a.act loose told where
   by_act : ((n : ℕ) (loose : Bool) → IsTrue (are_told loose rest)
-      → bare (acts_from n loose false (commands_along rest)) ≡ bare rest) → (b : Act) (loose : Bool) → IsTrue (is_told loose b && are_told (is_loose_after b) rest)
+      → bare (acts_from n loose false (commands_along rest)) ≡ bare rest) → (b : Act) (loose : Bool)
+      → IsTrue (is_told loose b && are_told (is_loose_after b) rest)
       → bare (acts_from n loose false (commands_of b ++ commands_along rest)) ≡ b ∷ bare rest
   by_act again (act.Needle p false) true told = ap (λ acts. act.Needle p false ∷ acts) (again (n + 1) false told)
   by_act again (act.Needle p false) false told = ap (λ acts. act.Needle p false ∷ acts) (again (n + 1) false told)

@@ -1,50 +1,38 @@
 -- The lines of acts that are read are the lines of a design that goes on from what was read before.
-use Rattle.std.proofs.Common.{◌≡◌, ◌≢◌, ℕ, zero, suc, ◌+◌, ◌<◌, ◌≤◌, ◌%◌, max, Bool, true, false, not, ◌&&◌, IsTrue, IfOk, IsOk, IsOkAnd, List, [], ◌∷◌, ◌++◌, Option, Some, None, Result, Ok, Err, bytes_eq, codes, decimal, length, length-append, nat_le, nat_lt, slice_get, unwrap_or, unsigned_abs, if◌then◌else◌, refl, ap, sym, ◌∙◌, subst, append-nil, append_assoc, arith}
+use Rattle.std.proofs.Common.{◌≡◌, ℕ, ◌+◌, ◌<◌, ◌≤◌, ◌%◌, Bool, true, false, ◌&&◌, IsTrue, List, [], ◌∷◌, ◌++◌, Option, Some, None, Err, codes, decimal, length, length-append, nat_le, nat_lt, slice_get, unwrap_or, unsigned_abs, if◌then◌else◌, refl, ap, sym, ◌∙◌, subst, append-nil, append_assoc, arith}
 use Rattle.std.proofs.lemmas.Bool.{and_from, and_parts}
 use Rattle.std.proofs.lemmas.Bool.Decides.{nat_tests}
 use Rattle.std.proofs.lemmas.List.Folds.{list_all-append}
-use Rattle.std.proofs.lemmas.List.Splits.{join_with_byte-slice_split}
-use Rattle.std.proofs.lemmas.Slice.Eq.{bytes_eq-Decides}
 use Rattle.std.specs.List.{join_with_byte, list_all}
 use Rattle.design_model.specs.declared.act.Act.{Act}
 use Rattle.design_model.specs.declared.act.Act.TheVariants as act
-use Rattle.design_model.specs.declared.act.NumberedAct.{NumberedAct}
 use Rattle.design_model.specs.declared.command.Command.{Command}
-use Rattle.design_model.specs.declared.command.Command.TheVariants.{Stitch, Jump, Trim, Stop}
 use Rattle.design_model.specs.declared.design.TheConstants.{MAX_COMMANDS}
 use Rattle.design_model.specs.declared.point.Point.{Point}
 use Rattle.design_model.specs.declared.point.TheConstants.{NEEDLE_LIMIT, JUMP_LIMIT}
 use Rattle.design_model.specs.ActPlaces.{is_act_in_range, is_loose_after, place_after}
-use Rattle.design_model.specs.Acts.{acts_from, acts_of, numbered}
+use Rattle.design_model.specs.Acts.{acts_from, numbered}
 use Rattle.design_model.specs.Commands.{is_in_range}
-use Rattle.design_model.specs.Designs.{DesignValue, KeepsLimits, empty_design, thread_of, with_label}
-use Rattle.design_model.specs.Labels.{IsLabel}
+use Rattle.design_model.specs.Designs.{DesignValue, thread_of}
 use Rattle.design_model.specs.Points.{is_within, move_between}
 use Rattle.format_traits.specs.declared.fault.ReadFault.{ReadFault}
 use Rattle.format_traits.specs.declared.fault.ReadFault.TheVariants as read
 use Rattle.format_traits.specs.declared.fault.WriteFault.TheVariants as fault
-use Rattle.format_traits.specs.declared.fault.WriteFault.{WriteFault}
-use Rattle.format_traits.specs.declared.loaded.Loaded.{Loaded}
 use Rattle.format_traits.specs.declared.standing.Standing.{Standing}
-use Rattle.format_traits.specs.Laws.{IsAgain, KeepsAllLaws, ReadsAgain}
 use Rattle.format_traits.specs.Placing.{hops}
-use Rattle.format_traits.specs.Refusals.{beginning, own_refusal, passes, refusal_at, refusal_from, refused_where, standing_after, stops_in, unless_refused}
-use Rattle.format_traits.specs.Rooms.{act_room, loose_room}
+use Rattle.format_traits.specs.Refusals.{own_refusal, passes, refusal_at, refusal_from, refused_where, standing_after, stops_in}
+use Rattle.format_traits.specs.Rooms.{act_room}
 use Rattle.stitch_text.specs.declared.draft.Draft.{Draft}
 use Rattle.stitch_text.specs.declared.list_line.ListLine.{ListLine}
 use Rattle.stitch_text.specs.declared.list_line.ListLine.TheVariants as line
 use Rattle.stitch_text.specs.declared.stitch_list.TheConstants.{LIMIT}
 use Rattle.stitch_text.specs.Drafts.{IsSoundBut}
-use Rattle.stitch_text.specs.Format.{stitch_list}
-use Rattle.stitch_text.specs.Laws.{IsTextOf, ReadsAsWritten, ReadsWhereWritten}
-use Rattle.stitch_text.specs.ListLines.{label_said, line_said}
-use Rattle.stitch_text.specs.Judging.{act_fault, commands_of, judged, taken, unless_fault, with_act, with_block}
-use Rattle.stitch_text.specs.Readings.{Said, acts_said, begun, block_first, by_block, by_label, by_signature, ended, goes_on, is_end, label_first, loaded_by, next_line, on_line, reads, refused, text_said, thread_said}
-use Rattle.stitch_text.specs.StitchLists.{act_line, act_lines, block_line, first_line, headed, label_line, list_of, reach}
-use Rattle.stitch_text.specs.Words.{parted}
+use Rattle.stitch_text.specs.ListLines.{line_said}
+use Rattle.stitch_text.specs.Judging.{act_fault, commands_of, taken, unless_fault, with_act, with_block}
+use Rattle.stitch_text.specs.Readings.{Said, acts_said, ended, goes_on, on_line, refused}
+use Rattle.stitch_text.specs.StitchLists.{act_line, act_lines, block_line, reach}
 use Rattle.stitch_text.proofs.ActLemmas.{is_told, no_refusal, not_refused, or_else_both, or_else_none}
-use Rattle.stitch_text.proofs.LabelLemmas.{label_from, label_is}
-use Rattle.stitch_text.proofs.LineLemmas.{SaysLine, line_is}
+use Rattle.stitch_text.proofs.LineLemmas.{line_is}
 
 -- an act has no more commands than room
 few_commands : (s : Standing) (a : Act) → IsTrue (is_told s.loose a) → length (commands_of a) ≤ act_room LIMIT s.loose s.place a
@@ -305,11 +293,13 @@ line_written at behind draft bytes rest d (Some (line.Block t)) is keeps again s
 line_written at behind draft bytes rest d (Some (line.Needle p float)) is keeps again says =
     by_range (is_within NEEDLE_LIMIT p) refl says where
       by_range : (b : Bool) → is_within NEEDLE_LIMIT p ≡ b
-          → goes_on draft (if b then taken at draft (act.Needle p float) else Err (read.Range at)) (λ new. acts_said behind new rest) ≡ over d
+          → goes_on draft (if b then taken at draft (act.Needle p float) else Err (read.Range at))
+          (λ new. acts_said behind new rest) ≡ over d
           → Continues draft (bytes ++ 10 ∷ join_with_byte 10 rest) d
       by_range false out says = not_over draft.design d (read.Range at) says
       by_range true within says =
-          act_written at behind draft (act.Needle p float) bytes rest d keeps within refl (line_is bytes (line.Needle p float) is) again says
+          act_written at behind draft (act.Needle p float) bytes rest d keeps within refl
+          (line_is bytes (line.Needle p float) is) again says
 
 -- the lines behind the third one
 pub acts_written : (parts : List (List ℕ)) (at : ℕ) (draft : Draft) (d : DesignValue) → Keeps 0 draft

@@ -1,17 +1,17 @@
 -- The label and the threads of a design are read back.
-use Rattle.std.proofs.Common.{◌≡◌, ℕ, zero, suc, ◌+◌, ◌<◌, ◌≤◌, ◌%◌, true, List, [], ◌∷◌, ◌++◌, Option, None, Some, Result, Ok, Err, All, IsOkAnd, length, get_or, slice_get, unwrap_or, refl, ap, sym, ◌∙◌, subst, inl, inr, arith}
+use Rattle.std.proofs.Common.{◌≡◌, ℕ, zero, suc, ◌+◌, ◌<◌, ◌≤◌, ◌%◌, true, List, [], ◌∷◌, ◌++◌, Option, None, Some, Result, Ok, All, IsOkAnd, slice_get, unwrap_or, refl, ap, sym, ◌∙◌, subst, arith}
 use Rattle.std.proofs.lemmas.List.Elements.{All-head, All-tail}
 use Rattle.design_model.specs.declared.act.Act.{Act}
 use Rattle.design_model.specs.declared.act.Act.TheVariants as act
 use Rattle.design_model.specs.declared.act.NumberedAct.{NumberedAct}
 use Rattle.design_model.specs.Acts.{acts_of}
-use Rattle.design_model.specs.Designs.{DesignValue, KeepsLimits, thread_of}
+use Rattle.design_model.specs.Designs.{DesignValue, thread_of}
 use Rattle.format_traits.specs.declared.fault.WriteFault.{WriteFault}
 use Rattle.format_traits.specs.declared.loaded.Loaded.{Loaded}
 use Rattle.format_traits.specs.Accepted.{AcceptedIsSmall}
 use Rattle.format_traits.specs.Refusals.{first_refusal, stops_in, stops_of, unless_refused}
 use Rattle.stitch_text.specs.Laws.{IsKept, KeepsLabelAndThreads}
-use Rattle.stitch_text.specs.Readings.{Said, loaded_from, reads}
+use Rattle.stitch_text.specs.Readings.{loaded_from, reads}
 use Rattle.stitch_text.specs.StitchLists.{list_of, reach, writes}
 use Rattle.stitch_text.proofs.ActLemmas.{commands_along}
 use Rattle.stitch_text.proofs.Rereading.{list_said, threads_along, threads_in, threads_told}

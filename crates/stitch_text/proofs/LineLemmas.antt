@@ -1,5 +1,5 @@
 -- Lines as texts: what a line says, and the text of what it says.
-use Rattle.std.proofs.Common.{◌≡◌, ◌≢◌, ℕ, ℤ, pos, negsuc, ◌+◌, ◌<◌, ◌≤◌, ◌^◌, ◌==◌, ◌&&◌, Bool, true, false, not, nat_le, nat_lt, unsigned_abs, List, [], ◌∷◌, ◌++◌, Option, None, Some, All, IsTrue, bytes_eq, codes, length, length-append, if◌then◌else◌, subst, ap, sym, refl, ◌∙◌, arith}
+use Rattle.std.proofs.Common.{◌≡◌, ℕ, ℤ, pos, negsuc, ◌<◌, ◌≤◌, ◌==◌, Bool, true, false, not, nat_le, nat_lt, unsigned_abs, List, [], ◌∷◌, ◌++◌, None, Some, All, IsTrue, bytes_eq, codes, length, length-append, if◌then◌else◌, subst, ap, sym, refl, ◌∙◌, arith}
 use Rattle.std.proofs.lemmas.Bool.{and_from, and_parts, not-true}
 use Rattle.std.proofs.lemmas.Bool.Decides.{nat_tests}
 use Rattle.std.proofs.lemmas.Fmt.{length_signed_le}

@@ -61,7 +61,8 @@ known_blocks = refl
 
 -- the longest stitch, and one that is longer
 pub known_longest : writes (sewn (5 ∷ []) (Stitch (point (pos 0) (pos 0)) ∷ Stitch (point (pos 2047) (negsuc 2046)) ∷ []))
-    ≡ Ok (lines (codes "stitch-list 1" ∷ codes "label []" ∷ codes "block 5" ∷ codes "needle 0 0" ∷ codes "needle 2047 -2047" ∷ codes "end" ∷ []))
+    ≡ Ok (lines (codes "stitch-list 1" ∷ codes "label []" ∷ codes "block 5" ∷ codes "needle 0 0"
+    ∷ codes "needle 2047 -2047" ∷ codes "end" ∷ []))
 unfolding digits
 known_longest = refl
 
@@ -70,7 +71,8 @@ pub known_long : writes (sewn (5 ∷ []) (Stitch (point (pos 0) (pos 0)) ∷ Sti
 known_long = refl
 
 -- a float of any length is written
-pub known_far : writes (sewn (5 ∷ []) (Stitch (point (pos 0) (pos 0)) ∷ Jump (point (pos 0) (pos 0)) ∷ Stitch (point (pos 9000) (pos 0)) ∷ []))
+pub known_far : writes (sewn (5 ∷ []) (Stitch (point (pos 0) (pos 0)) ∷ Jump (point (pos 0) (pos 0))
+    ∷ Stitch (point (pos 9000) (pos 0)) ∷ []))
     ≡ Ok (lines (codes "stitch-list 1" ∷ codes "label []" ∷ codes "block 5" ∷ codes "needle 0 0" ∷ codes "float 9000 0" ∷ codes "end" ∷ []))
 unfolding digits
 known_far = refl

@@ -1,5 +1,5 @@
 -- Numbers as words: what a word says, and the one word that says it.
-use Rattle.std.proofs.Common.{◌≡◌, ◌≢◌, ℕ, ℤ, pos, negsuc, neg_ℤ, zero, suc, ◌+◌, ◌<◌, ◌≤◌, ◌^◌, ◌==◌, ◌&&◌, ◌||◌, Bool, true, false, not, nat_le, unsigned_abs, List, [], ◌∷◌, length, get_or, if◌then◌else◌, subst, ap, sym, refl, ◌∙◌, inl, inr, arith}
+use Rattle.std.proofs.Common.{◌≡◌, ℕ, ℤ, pos, negsuc, zero, suc, ◌<◌, ◌≤◌, ◌^◌, ◌==◌, ◌&&◌, ◌||◌, Bool, true, false, not, nat_le, unsigned_abs, List, [], ◌∷◌, length, get_or, if◌then◌else◌, subst, ap, sym, refl, ◌∙◌, inl, inr, arith}
 use Rattle.std.proofs.lemmas.Bool.{and_from, and_parts, cases_order, not-true}
 use Rattle.std.proofs.lemmas.Bool.Decides.{nat_tests}
 use Rattle.std.proofs.lemmas.Fmt.{decimal-digits_value, decimal_digit, decimal_nonempty, digits_decimal, digits_value-decimal, first_decimal}
@@ -9,7 +9,6 @@ use Rattle.std.specs.Fmt.{decimal, signed_decimal}
 use Rattle.std.specs.List.{list_all}
 use Rattle.std.specs.Str.{all_ascii_digits}
 use Rattle.std.specs.Str.Parse.{digits_value}
-use Rattle.design_model.specs.declared.whole_number.Whole.{Whole}
 use Rattle.design_model.specs.declared.whole_number.Whole.TheVariants as whole
 use Rattle.design_model.specs.WholeNumbers.{is_numeral, signed, signed_whole, whole_of}
 use Rattle.stitch_text.specs.Words.{begins_with_zero, is_plain, number_in}

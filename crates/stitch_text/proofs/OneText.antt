@@ -1,50 +1,27 @@
 -- A text that reads as a design is what that design is written as.
-use Rattle.std.proofs.Common.{◌≡◌, ◌≢◌, ℕ, zero, suc, ◌+◌, ◌<◌, ◌≤◌, ◌%◌, max, Bool, true, false, not, ◌&&◌, IsTrue, IfOk, IsOk, IsOkAnd, List, [], ◌∷◌, ◌++◌, Option, Some, None, Result, Ok, Err, bytes_eq, codes, decimal, length, length-append, nat_le, nat_lt, slice_get, unwrap_or, unsigned_abs, if◌then◌else◌, refl, ap, sym, ◌∙◌, subst, append-nil, append_assoc, arith}
-use Rattle.std.proofs.lemmas.Bool.{and_from, and_parts}
-use Rattle.std.proofs.lemmas.Bool.Decides.{nat_tests}
-use Rattle.std.proofs.lemmas.List.Folds.{list_all-append}
+use Rattle.std.proofs.Common.{◌≡◌, ℕ, ◌+◌, ◌<◌, Bool, true, false, IfOk, IsOk, IsOkAnd, List, [], ◌∷◌, ◌++◌, Option, Some, None, Result, Ok, Err, bytes_eq, codes, decimal, length, refl, ap, sym, ◌∙◌, subst, arith}
 use Rattle.std.proofs.lemmas.List.Splits.{join_with_byte-slice_split}
 use Rattle.std.proofs.lemmas.Slice.Eq.{bytes_eq-Decides}
-use Rattle.std.specs.List.{join_with_byte, list_all}
-use Rattle.design_model.specs.declared.act.Act.{Act}
-use Rattle.design_model.specs.declared.act.Act.TheVariants as act
-use Rattle.design_model.specs.declared.act.NumberedAct.{NumberedAct}
-use Rattle.design_model.specs.declared.command.Command.{Command}
-use Rattle.design_model.specs.declared.command.Command.TheVariants.{Stitch, Jump, Trim, Stop}
-use Rattle.design_model.specs.declared.design.TheConstants.{MAX_COMMANDS}
-use Rattle.design_model.specs.declared.point.Point.{Point}
-use Rattle.design_model.specs.declared.point.TheConstants.{NEEDLE_LIMIT, JUMP_LIMIT}
-use Rattle.design_model.specs.ActPlaces.{is_act_in_range, is_loose_after, place_after}
-use Rattle.design_model.specs.Acts.{acts_from, acts_of, numbered}
-use Rattle.design_model.specs.Commands.{is_in_range}
-use Rattle.design_model.specs.Designs.{DesignValue, KeepsLimits, empty_design, thread_of, with_label}
+use Rattle.std.specs.List.{join_with_byte}
+use Rattle.design_model.specs.Acts.{acts_from, acts_of}
+use Rattle.design_model.specs.Designs.{DesignValue, empty_design, thread_of, with_label}
 use Rattle.design_model.specs.Labels.{IsLabel}
-use Rattle.design_model.specs.Points.{is_within, move_between}
 use Rattle.format_traits.specs.declared.fault.ReadFault.{ReadFault}
 use Rattle.format_traits.specs.declared.fault.ReadFault.TheVariants as read
-use Rattle.format_traits.specs.declared.fault.WriteFault.TheVariants as fault
 use Rattle.format_traits.specs.declared.fault.WriteFault.{WriteFault}
 use Rattle.format_traits.specs.declared.loaded.Loaded.{Loaded}
-use Rattle.format_traits.specs.declared.standing.Standing.{Standing}
 use Rattle.format_traits.specs.Laws.{IsAgain, KeepsAllLaws, ReadsAgain}
-use Rattle.format_traits.specs.Placing.{hops}
-use Rattle.format_traits.specs.Refusals.{beginning, own_refusal, passes, refusal_at, refusal_from, refused_where, standing_after, stops_in, unless_refused}
-use Rattle.format_traits.specs.Rooms.{act_room, loose_room}
-use Rattle.stitch_text.specs.declared.draft.Draft.{Draft}
+use Rattle.format_traits.specs.Refusals.{beginning, refusal_from, unless_refused}
 use Rattle.stitch_text.specs.declared.list_line.ListLine.{ListLine}
 use Rattle.stitch_text.specs.declared.list_line.ListLine.TheVariants as line
-use Rattle.stitch_text.specs.declared.stitch_list.TheConstants.{LIMIT}
-use Rattle.stitch_text.specs.Drafts.{IsSoundBut}
 use Rattle.stitch_text.specs.Format.{stitch_list}
 use Rattle.stitch_text.specs.Laws.{IsTextOf, ReadsAsWritten, ReadsWhereWritten}
 use Rattle.stitch_text.specs.ListLines.{label_said, line_said}
-use Rattle.stitch_text.specs.Judging.{act_fault, commands_of, judged, taken, unless_fault, with_act, with_block}
-use Rattle.stitch_text.specs.Readings.{Said, acts_said, begun, block_first, by_block, by_label, by_signature, ended, goes_on, is_end, label_first, loaded_by, next_line, on_line, reads, refused, text_said, thread_said}
-use Rattle.stitch_text.specs.StitchLists.{act_line, act_lines, block_line, first_line, headed, label_line, list_of, reach}
+use Rattle.stitch_text.specs.Readings.{Said, begun, block_first, by_block, by_label, by_signature, label_first, loaded_by, next_line, reads, text_said, thread_said}
+use Rattle.stitch_text.specs.StitchLists.{act_lines, block_line, first_line, label_line, list_of, reach}
 use Rattle.stitch_text.specs.Words.{parted}
-use Rattle.stitch_text.proofs.ActLemmas.{is_told, no_refusal, not_refused, or_else_both, or_else_none}
 use Rattle.stitch_text.proofs.LabelLemmas.{label_from, label_is}
-use Rattle.stitch_text.proofs.LineLemmas.{SaysLine, line_is}
+use Rattle.stitch_text.proofs.LineLemmas.{line_is}
 use Rattle.stitch_text.proofs.Continuing.{Continues, Keeps, acts_written, block_text, not_over, over, thread_is}
 
 -- a line that has an end, and what stands behind it
@@ -210,4 +187,5 @@ reads_where_written laws text = (λ ok. from (reads text) refl ok, λ is. to is.
   to : (d : DesignValue) → IsTextOf text d → IsOk (reads text)
   to d is =
       let kept = laws d is.limits in
-      is_ok_of (λ loaded. IsAgain d loaded) (reads text) (subst (λ (r : Result (List ℕ) WriteFault). IfOk r (λ bytes. ReadsAgain stitch_list d bytes)) is.written kept.again)
+      is_ok_of (λ loaded. IsAgain d loaded) (reads text)
+      (subst (λ (r : Result (List ℕ) WriteFault). IfOk r (λ bytes. ReadsAgain stitch_list d bytes)) is.written kept.again)

@@ -1,8 +1,8 @@
 -- The lines of a text, judged one after another.
-use Rattle.std.proofs.Common.{◌≡◌, ◌≢◌, ℕ, ◌+◌, ◌<◌, List, [], ◌∷◌, Option, None, Some, Bool, true, false, Result, Ok, Err, bytes_eq, length, if◌then◌else◌, subst, ap, sym, refl, ◌∙◌, arith}
+use Rattle.std.proofs.Common.{◌≡◌, ◌≢◌, ℕ, ◌+◌, ◌<◌, List, [], ◌∷◌, Option, Bool, true, false, Result, Err, bytes_eq, length, if◌then◌else◌, subst, ap, sym, refl, ◌∙◌, arith}
 use Rattle.std.proofs.lemmas.List.Splits.{join_with_byte-slice_split}
 use Rattle.std.specs.List.{join_with_byte}
-use Rattle.design_model.specs.Designs.{DesignValue, empty_design, with_label}
+use Rattle.design_model.specs.Designs.{DesignValue, empty_design}
 use Rattle.format_traits.specs.declared.fault.ReadFault.{ReadFault}
 use Rattle.format_traits.specs.declared.fault.ReadFault.TheVariants as read
 use Rattle.format_traits.specs.declared.loaded.Loaded.{Loaded}
@@ -12,7 +12,7 @@ use Rattle.stitch_text.specs.declared.draft.Draft.{Draft}
 use Rattle.stitch_text.specs.declared.list_line.ListLine.{ListLine}
 use Rattle.stitch_text.specs.ListLines.{label_said, line_said, words_said}
 use Rattle.stitch_text.specs.Judging.{judged}
-use Rattle.stitch_text.specs.Readings.{Said, acts_said, begun, block_first, by_block, by_label, by_signature, ended, goes_on, is_end, label_first, loaded_from, next_line, on_line, refused, text_said, thread_said}
+use Rattle.stitch_text.specs.Readings.{Said, acts_said, block_first, by_block, by_label, by_signature, ended, goes_on, is_end, label_first, loaded_from, next_line, on_line, refused, text_said, thread_said}
 use Rattle.stitch_text.specs.StitchLists.{first_line}
 use Rattle.stitch_text.specs.Words.{parted, words_in}
 use Rattle.stitch_text.proofs.PartLemmas.{some_part}

@@ -1,5 +1,5 @@
 -- What is written reads again.
-use Rattle.std.proofs.Common.{◌≡◌, ℕ, ◌+◌, ◌<◌, ◌≤◌, ◌%◌, ◌==◌, Bool, true, false, not, ◌&&◌, IsTrue, IsOkAnd, List, [], ◌∷◌, ◌++◌, Option, Some, None, Result, Ok, Err, bytes_eq, codes, decimal, length, nat_le, nat_lt, if◌then◌else◌, refl, ap, sym, ◌∙◌, subst, append-nil, append_assoc, arith}
+use Rattle.std.proofs.Common.{◌≡◌, ℕ, ◌+◌, ◌<◌, ◌≤◌, ◌%◌, ◌==◌, Bool, true, false, not, ◌&&◌, IsTrue, IsOkAnd, List, [], ◌∷◌, ◌++◌, Some, None, Result, Ok, Err, length, nat_le, if◌then◌else◌, refl, ap, sym, ◌∙◌, subst, append-nil, append_assoc, arith}
 use Rattle.std.proofs.lemmas.Bool.{and_from, and_parts}
 use Rattle.std.proofs.lemmas.Bool.Decides.{nat_tests}
 use Rattle.std.proofs.lemmas.List.Folds.{list_all-append}
@@ -9,7 +9,6 @@ use Rattle.design_model.specs.declared.act.Act.{Act}
 use Rattle.design_model.specs.declared.act.Act.TheVariants as act
 use Rattle.design_model.specs.declared.act.NumberedAct.{NumberedAct}
 use Rattle.design_model.specs.declared.command.Command.{Command}
-use Rattle.design_model.specs.declared.point.TheConstants.{NEEDLE_LIMIT}
 use Rattle.design_model.specs.ActPlaces.{is_act_in_range, is_loose_after}
 use Rattle.design_model.specs.Acts.{acts_along, acts_of, bare}
 use Rattle.design_model.specs.Designs.{DesignValue, KeepsLimits, empty_design, thread_of, with_label}
@@ -17,7 +16,6 @@ use Rattle.design_model.specs.Points.{is_within, origin}
 use Rattle.format_traits.specs.declared.fault.ReadFault.{ReadFault}
 use Rattle.format_traits.specs.declared.fault.ReadFault.TheVariants as read
 use Rattle.format_traits.specs.declared.loaded.Loaded.{Loaded}
-use Rattle.format_traits.specs.declared.standing.Standing.{Standing}
 use Rattle.format_traits.specs.Accepted.{AcceptedIsSmall}
 use Rattle.format_traits.specs.Laws.{IsAgain, IsCodec}
 use Rattle.format_traits.specs.Refusals.{beginning, first_refusal, passes, refusal_at, refusal_from, standing_after, stops_in}
@@ -26,10 +24,9 @@ use Rattle.stitch_text.specs.declared.list_line.ListLine.{ListLine}
 use Rattle.stitch_text.specs.declared.list_line.ListLine.TheVariants as line
 use Rattle.stitch_text.specs.declared.stitch_list.TheConstants.{LIMIT}
 use Rattle.stitch_text.specs.Format.{stitch_list}
-use Rattle.stitch_text.specs.ListLines.{line_said}
 use Rattle.stitch_text.specs.Judging.{act_fault, commands_of, judged, taken, unless_fault, with_act, with_block}
-use Rattle.stitch_text.specs.Readings.{Said, acts_said, begun, block_first, ended, goes_on, is_end, label_first, loaded_from, moves, on_line, reads, straight_moves, text_said, thread_said}
-use Rattle.stitch_text.specs.StitchLists.{act_line, act_lines, block_line, first_line, headed, label_line, list_of, reach}
+use Rattle.stitch_text.specs.Readings.{Said, acts_said, begun, is_end, loaded_from, straight_moves, text_said, thread_said}
+use Rattle.stitch_text.specs.StitchLists.{act_line, act_lines, block_line, first_line, label_line, list_of, reach}
 use Rattle.stitch_text.specs.Words.{ends_with_space, is_label, is_printable, parted}
 use Rattle.stitch_text.proofs.ActLemmas.{acts_again, are_told, commands_along, is_told, moves_within, no_fault, or_else_none, told}
 use Rattle.stitch_text.proofs.LabelLemmas.{label_to, label_yes}
@@ -188,7 +185,8 @@ list_said small d limits none =
     first_is (list_of d) first_line second true (line_before first_line second head) refl
     ∙ label_is at second (label_line d.label) third (Some d.label) (line_before (label_line d.label) third (label_lacks d.label good))
     (label_yes (label_line d.label) d.label refl good)
-    ∙ first_block_is later named third (block_line (thread_of d 0)) lines (Some thread) (line_before (block_line (thread_of d 0)) lines block.kept)
+    ∙ first_block_is later named third (block_line (thread_of d 0)) lines (Some thread)
+    (line_before (block_line (thread_of d 0)) lines block.kept)
     (sym (ap thread_said block.said))
     ∙ acts_read (thread_of d) (acts_of d) (begun named thread) (later + length (block_line (thread_of d 0)) + 1)
     (told 1 true false d.commands) (small reach d limits none).in_range none

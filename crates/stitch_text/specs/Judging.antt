@@ -1,5 +1,5 @@
--- How a line of acts is judged by the acts before it: where a writer would refuse the act, so does a
--- reader. `at` is the offset of the line.
+-- How a line of acts is judged by the acts before it: where a writer would refuse the act, so does
+-- a reader. `at` is the offset of the line.
 use Rattle.std.specs.Prelude.{◌≡◌, ℕ, ◌&&◌, Bool, true, false, List, [], ◌∷◌, Option, Some, None, Result, Ok, Err, if◌then◌else◌}
 use Rattle.design_model.specs.declared.act.Act.{Act}
 use Rattle.design_model.specs.declared.act.Act.TheVariants as act
@@ -70,7 +70,8 @@ taken at draft a = unless_fault (act_fault at draft.standing a) (with_act draft 
 -- what a line makes of the draft, by what it says
 abbrev pub judged : ℕ → Draft → Option ListLine → Result Draft ReadFault
 judged at draft (Some (line.Block thread)) =
-    unless_fault (act_fault at draft.standing act.Stop) (with_block thread (with_act draft act.Stop))
+    unless_fault (act_fault at draft.standing act.Stop)
+    (with_block thread (with_act draft act.Stop))
 judged at draft (Some (line.Needle p float)) =
     if is_within NEEDLE_LIMIT p then taken at draft (act.Needle p float) else Err (read.Range at)
 judged at draft (Some line.Trim) = taken at draft act.Trim

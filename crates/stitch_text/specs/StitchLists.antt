@@ -1,6 +1,6 @@
--- The stitch list of a design, as bytes of ASCII. Own format: a label, a thread for each block, and a
--- line for each act. Each line ends with the byte 10, words stand one space (32) apart, and numbers have
--- no leading zeros. Points are in tenths of a millimetre, y downwards.
+-- The stitch list of a design, as bytes of ASCII. Own format: a label, a thread for each block, and
+-- a line for each act. Each line ends with the byte 10, words stand one space (32) apart, and
+-- numbers have no leading zeros. Points are in tenths of a millimetre, y downwards.
 use Rattle.std.specs.Prelude.{ℕ, ◌+◌, ◌%◌, Bool, true, false, List, [], ◌∷◌, ◌++◌, Some, None, Result, codes}
 use Rattle.std.specs.Fmt.{decimal, signed_decimal}
 use Rattle.design_model.specs.declared.act.Act.{Act}

@@ -1,5 +1,6 @@
--- The words of a line and the numbers that they spell: decimal, without leading zeros and without -0.
-use Rattle.std.specs.Prelude.{ℕ, ◌-◌, ◌==◌, ◌&&◌, ◌||◌, Bool, true, false, not, List, [], ◌∷◌, length, get_or, nat_le, if◌then◌else◌}
+-- The words of a line and the numbers that they spell: decimal, without leading zeros and without
+-- -0.
+use Rattle.std.specs.Prelude.{ℕ, ◌-◌, ◌==◌, ◌&&◌, ◌||◌, Bool, false, not, List, [], ◌∷◌, length, get_or, nat_le, if◌then◌else◌}
 use Rattle.std.specs.List.{list_all, slice_split}
 use Rattle.design_model.specs.declared.design.TheConstants.{MAX_LABEL}
 use Rattle.design_model.specs.declared.whole_number.Whole.{Whole}

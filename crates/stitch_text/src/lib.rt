@@ -20,7 +20,7 @@ mod words;
 mod writing;
 
 pub use promises::{
-    floats_are_never_too_long, lists_alone_are_read, lists_keep_label_and_threads, what_is_read_is_written_so,
-    written_reads_again,
+    floats_are_never_too_long, lists_alone_are_read, lists_keep_label_and_threads,
+    what_is_read_is_written_so, written_reads_again,
 };
 pub use stitch_list::{LIMIT, List, MAX_STOPS};

@@ -5,15 +5,25 @@ use std::alloc::Global;
 use std::test::Fail;
 
 /// The list of a square of 30 in thread 5, with its trim.
-const SQUARE: &str =
-    "stitch-list 1\nlabel []\nblock 5\nneedle 0 0\nneedle 30 0\nneedle 30 30\nneedle 0 30\nneedle 0 0\ntrim\nend\n";
+const SQUARE: &str = "stitch-list 1
+label []
+block 5
+needle 0 0
+needle 30 0
+needle 30 30
+needle 0 30
+needle 0 0
+trim
+end
+";
 
 fn at(x: i32, y: i32) -> Point {
     Point { x, y }
 }
 
-fn design_of(alloc: Global, commands: &[Command]) -> Result<Design, ModelFault> {
+fn design_of(alloc: Global, thread: u8, commands: &[Command]) -> Result<Design, ModelFault> {
     let mut design = Design::new(alloc);
+    design.push_thread(thread);
     for command in commands {
         design.push(*command)?;
     }
@@ -44,8 +54,7 @@ fn a_square_has_its_lines_and_reads_again(rt: HostRuntime) -> Result<(), Fail> {
         Command::Stitch(at(0, 0)),
         Command::Trim,
     ];
-    let mut design = design_of(alloc, &commands).ok().ok_or("no design")?;
-    design.push_thread(5);
+    let design = design_of(alloc, 5, &commands).ok().ok_or("no design")?;
     let text = list.encode(alloc, &design).ok().ok_or("not written")?;
     assert_eq!(rt; text.as_slice(), SQUARE.as_bytes());
     let loaded = list

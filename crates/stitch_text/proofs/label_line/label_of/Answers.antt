@@ -1,5 +1,5 @@
 use Rattle.std.proofs.Common.{sym, ◌∙◌}
-use Rattle.stitch_text.proofs.LabelLemmas.{label_from, label_no, label_yes, no_label}
+use Rattle.stitch_text.proofs.LabelLemmas.{label_from, label_yes}
 use Rattle.stitch_text.proofs.label_line.label_of.Goals as goal
 
 pub returns-then-is_label-clause-some : goal.returns-then-is_label-clause-some
