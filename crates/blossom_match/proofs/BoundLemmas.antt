@@ -156,6 +156,8 @@ offer_coupled t h s hs i at a b ha hb = record {
 pub can_cross : (t : TableValue) (h : ℕ → ℕ) (s : Search) (hs : List ℕ) → IsSearch t h s → HeightsAre hs h
     → CanCross t hs s.root s.tree.items
 can_cross t h s hs i at = record {
+  within = λ x here. place_in t x (omega (arith, i.places x, here));
+  some = omega (arith, i.root.kept.odd);
   offer = λ a b ha hb apart. record {
     a_in = place_in t a (omega (arith, i.places a, ha));
     b_in = place_in t b (omega (arith, i.places b, hb));

@@ -20,6 +20,7 @@ pub mod SearchLemmas
 pub mod FreeLemmas
 pub mod RaisedLemmas
 pub mod ScanLemmas
+pub mod ReachLemmas
 pub mod BoundLemmas
 pub mod WidthLemmas
 pub mod EndLemmas

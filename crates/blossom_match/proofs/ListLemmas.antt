@@ -1,5 +1,6 @@
 -- Facts of each item of joined lists.
-use Rattle.std.proofs.Common.{◌≡◌, ℕ, suc, zero, List, [], ◌∷◌, ◌++◌, take, drop, length, ◌+◌, ◌<◌, get_or, drop-cons, add-one, sym, ap, ◌∙◌}
+use Rattle.std.proofs.Common.{◌≡◌, ℕ, suc, zero, List, [], ◌∷◌, ◌++◌, take, drop, length, ◌+◌, ◌<◌, get_or, drop-cons, add-one, sym, ap, subst, ◌∙◌}
+use Rattle.std.proofs.Math.Seq.{take-append_seam}
 use Rattle.blossom_match.specs.Lists.{Each, EachPair}
 
 pub each-append : {X : Type 0} (P : X → Type 0) (xs ys : List X) → Each P xs → Each P ys → Each P (xs ++ ys)
@@ -42,3 +43,7 @@ pairs-append R (x ∷ xs) ys p q across = (each-append (R x) xs ys p.0 across.0,
 -- the item at the index comes first among those that are left
 pub drop_here : {X : Type 0} (xs : List X) (i : ℕ) (x : X) → i < length xs → x ≡ get_or xs i x → drop i xs ≡ x ∷ drop (i + 1) xs
 drop_here {X} xs i x low is = rw add-one (drop-cons xs i x low ∙ ap (λ (y : X). y ∷ drop (suc i) xs) (sym is))
+
+-- what a vector has behind a call on its slice
+pub written : (len : ℕ) (new old : List ℕ) → length new ≡ len → take len (new ++ drop (length new) old) ≡ new
+written len new old size = subst (λ (n : ℕ). take n (new ++ drop (length new) old) ≡ new) size (take-append_seam new (drop (length new) old))

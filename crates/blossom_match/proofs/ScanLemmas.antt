@@ -72,44 +72,13 @@ scans_ys t hs k xs ys zs o m n one two = record {
       (λ x. omega (arith, count-append x ys zs)) one.is two.is;
 }
 
-scans_xs : (t : TableValue) (hs : List ℕ) (k : Kind) (xs zs ys : List ℕ) (o m n : Change) → Scans t hs k xs ys o m → Scans t hs k zs ys m n
-    → Scans t hs k (xs ++ zs) ys o n
-scans_xs t hs k xs zs ys o m n one two = record {
-  less = omega (arith, one.less, two.less);
-  wide = λ a b ha hb. either {P = HasRoom t hs k n.by a b} (count a xs) (count a zs)
-      (λ here. room_less t hs k a b m.by n.by two.less (one.wide a b here hb)) (λ here. two.wide a b here hb)
-      (omega (arith, ha, count-append a xs zs));
-  is = is_more t hs k xs ys zs ys (xs ++ zs) ys o m n (λ x. omega (arith, count-append x xs zs)) (λ x. omega arith)
-      (λ x. omega (arith, count-append x xs zs)) (λ x. omega arith) one.is two.is;
-}
-
 pub scans_no_ys : (t : TableValue) (hs : List ℕ) (k : Kind) (xs : List ℕ) (o : Change) → Scans t hs k xs [] o o
 scans_no_ys t hs k xs o = record { less = omega arith; wide = λ a b ha hb. absurd (omega (arith, hb)); is = inl refl }
 
-pub scans_no_xs : (t : TableValue) (hs : List ℕ) (k : Kind) (ys : List ℕ) (o : Change) → Scans t hs k [] ys o o
-scans_no_xs t hs k ys o = record { less = omega arith; wide = λ a b ha hb. absurd (omega (arith, ha)); is = inl refl }
-
-pub row_more : (t : TableValue) (hs : List ℕ) (k : Kind) (a : ℕ) (ys : List ℕ) (i : ℕ) (o m n : Change) → i < length ys
-    → Scans t hs k (a ∷ []) (take i ys) o m → Scans t hs k (a ∷ []) (get_or ys i 0 ∷ []) m n →
-    Scans t hs k (a ∷ []) (take (i + 1) ys) o n
-row_more t hs k a ys i o m n low one two =
-    subst (λ (zs : List ℕ). Scans t hs k (a ∷ []) zs o n) (sym (number_here ys i low))
-    (scans_ys t hs k (a ∷ []) (take i ys) (get_or ys i 0 ∷ []) o m n one two)
-
-pub rows_more : (t : TableValue) (hs : List ℕ) (k : Kind) (xs ys : List ℕ) (i : ℕ) (o m n : Change) → i < length xs
-    → Scans t hs k (take i xs) ys o m → Scans t hs k (get_or xs i 0 ∷ []) ys m n →
-    Scans t hs k (take (i + 1) xs) ys o n
-rows_more t hs k xs ys i o m n low one two =
-    subst (λ (zs : List ℕ). Scans t hs k zs ys o n) (sym (number_here xs i low))
-    (scans_xs t hs k (take i xs) (get_or xs i 0 ∷ []) ys o m n one two)
-
-pub row_done : (t : TableValue) (hs : List ℕ) (k : Kind) (xs ys : List ℕ) (o n : Change) → Scans t hs k xs (take (length ys) ys) o n
-    → Scans t hs k xs ys o n
-row_done t hs k xs ys o n s = subst (λ (zs : List ℕ). Scans t hs k xs zs o n) (take-length ys) s
-
-pub rows_done : (t : TableValue) (hs : List ℕ) (k : Kind) (xs ys : List ℕ) (o n : Change) → Scans t hs k (take (length xs) xs) ys o n
-    → Scans t hs k xs ys o n
-rows_done t hs k xs ys o n s = subst (λ (zs : List ℕ). Scans t hs k zs ys o n) (take-length xs) s
+pub row_more : (t : TableValue) (hs : List ℕ) (k : Kind) (xs ys : List ℕ) (i : ℕ) (o m n : Change) → i < length ys → Scans t hs k xs (take i ys) o m → Scans t hs k xs (get_or ys i 0 ∷ []) m n →
+    Scans t hs k xs (take (i + 1) ys) o n
+row_more t hs k xs ys i o m n low one two =
+    subst (λ (zs : List ℕ). Scans t hs k xs zs o n) (sym (number_here ys i low)) (scans_ys t hs k xs (take i ys) (get_or ys i 0 ∷ []) o m n one two)
 
 -- outer sets that do not hold one of the places do not hold both
 pub around_none : (a b : ℕ) (base : List ℕ) (bs : List Branch) → count b (outer_members base bs) ≡ 0 → around a b bs ≡ 0

@@ -89,10 +89,10 @@ abbrev pub HasOuters : NestValue → List Branch → List ℕ → Type 0
 HasOuters root tree xs = (x : ℕ) → count x xs ≡ count x (outer_members root.members tree)
 
 -- between each two outer sets there is room, in whole changes
-pub record CanCross (t : TableValue) (hs : List ℕ) (root : NestValue)
-    (tree : List Branch) : Type 0 where
-  pub offer : (a b : ℕ) → 1 ≤ count a (outer_members root.members tree)
-      → 1 ≤ count b (outer_members root.members tree) → holding a b root tree ≡ 0 →
+pub record CanCross (t : TableValue) (hs : List ℕ) (root : NestValue) (tree : List Branch) : Type 0 where
+  pub within : (x : ℕ) → 1 ≤ count x (outer_members root.members tree) → x < t.places
+  pub some : 1 ≤ length root.members
+  pub offer : (a b : ℕ) → 1 ≤ count a (outer_members root.members tree) → 1 ≤ count b (outer_members root.members tree) → holding a b root tree ≡ 0 →
       CanOffer t hs kind.Shrink a b
   pub once : (x : ℕ) → count x (outer_members root.members tree) ≤ 1
 

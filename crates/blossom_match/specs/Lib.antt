@@ -18,6 +18,7 @@ pub mod Lays
 pub mod Searches
 pub mod Bounds
 pub mod Widths
+pub mod Reaches
 pub mod Phases
 pub mod Prices
 pub mod Heights

@@ -2,13 +2,15 @@ ghost use Rattle.std.specs.Prelude.{◌≡◌, ◌≤◌, ◌+◌, ◌*◌, ◌<
 ghost use Rattle.blossom_match.specs.Bands.{count};
 ghost use Rattle.blossom_match.specs.Couples.{couple_members};
 ghost use Rattle.blossom_match.specs.Tables.{entry};
-ghost use Rattle.blossom_match.specs.Bounds.{Bounds, CanCross, CanOffer, CanOfferAll, CanSearch, Crosses, Found, HasOuters, Narrows, NarrowsAt, Scans};
+ghost use Rattle.blossom_match.specs.Bounds.{step_of, Bounds, CanCross, CanOffer, CanOfferAll, CanSearch, Crosses, Found, HasOuters, Narrows, NarrowsAt, Scans};
 ghost use Rattle.blossom_match.specs.Searches.{height_at};
+ghost use Rattle.blossom_match.specs.Reaches.{change_of, left_by, IsLeft, Reaches, RowsAre};
 ghost use Rattle.blossom_match.specs.declared.least.Kind.TheVariants as kind;
 
 use crate::branches::Branch;
 use crate::couples::Couple;
 use crate::nest::{Link, Nest};
+use crate::reach::{reach_of, take_in};
 use crate::search::{Search, Step};
 use crate::table::DistTable;
 use design_model::Memory;
@@ -30,23 +32,35 @@ enum Kind {
 }
 
 /// The least change of widths after which a step can be done.
-pub fn least(alloc: Global, t: &DistTable, s: &Search) -> Result<Change, Memory>
-    requires { CanSearch t.now s.now }
+pub fn least(alloc: Global, t: &DistTable, rows: &[u32], s: &Search) -> Result<Change, Memory>
+    requires can { CanSearch t.now s.now }
+    requires rows { RowsAre t.now rows.now }
     ensures { IfOk result (λ c. Bounds t.now (height_at s.now) s.now c) }
 {
-    least_at(alloc, t, &s.heights, s)
+    least_at(alloc, t, rows, &s.heights, s)
 }
 
-fn least_at(alloc: Global, t: &DistTable, heights: &[u32], s: &Search) -> Result<Change, Memory>
+fn least_at(
+    alloc: Global,
+    t: &DistTable,
+    rows: &[u32],
+    heights: &[u32],
+    s: &Search,
+) -> Result<Change, Memory>
     requires can { CanSearch t.now s.now }
+    requires rows { RowsAre t.now rows.now }
     requires heights { heights.now ≡ s.now.heights.items }
     ensures { IfOk result (λ c. Bounds t.now (height_at s.now) s.now c) }
 {
     let first = first_change(t, heights, s.root.members(), &s.free);
-    let Crossing { outers, best } = scan_outers(alloc, t, heights, &s.root, &s.tree, first)?;
+    let Crossing {
+        outers,
+        reach,
+        best,
+    } = scan_outers(alloc, t, rows, heights, &s.root, &s.tree, first)?;
     let coupled = members_coupled(alloc, &s.rest)?;
-    let grown = scan(t, heights, &outers, &coupled, Kind::Grow, best);
-    let met = scan(t, heights, &outers, &s.free, Kind::Meet, grown);
+    let grown = scan(t, heights, &reach, &outers, &coupled, Kind::Grow, best);
+    let met = scan(t, heights, &reach, &outers, &s.free, Kind::Meet, grown);
     Ok(scan_rings(&s.tree, met))
 }
 
@@ -78,54 +92,100 @@ fn first_change(t: &DistTable, heights: &[u32], outer: &[u32], free: &[u32]) -> 
     }
 }
 
-/// The lesser of a change and the one that makes the link tight.
-fn offer(t: &DistTable, heights: &[u32], link: Link, kind: Kind, best: Change) -> Change
-    requires len { length heights.now ≡ t.now.places }
-    requires can { CanOffer t.now heights.now kind link.from link.to }
-    ensures { Scans t.now heights.now kind (link.from ∷ []) (link.to ∷ []) best result }
+/// The change of widths that uses up the room.
+fn change_for(kind: Kind, room: u32) -> u32
+    ensures { result ≡ change_of kind room }
 {
-    let room = slack(t, heights, link.from, link.to);
-    let (by, step) = match kind {
-        Kind::Meet => (room, Step::Meet(link)),
-        Kind::Grow => (room, Step::Grow(link)),
-        Kind::Shrink => (room / 2, Step::Shrink(link)),
-    };
+    match kind {
+        Kind::Meet => room,
+        Kind::Grow => room,
+        Kind::Shrink => room / 2,
+    }
+}
+
+/// The step that the link makes possible.
+fn step_for(kind: Kind, link: Link) -> Step
+    ensures { result ≡ step_of kind link }
+{
+    match kind {
+        Kind::Meet => Step::Meet(link),
+        Kind::Grow => Step::Grow(link),
+        Kind::Shrink => Step::Shrink(link),
+    }
+}
+
+/// The lesser of a change and the least one from the places to one place.
+fn offer(
+    t: &DistTable,
+    heights: &[u32],
+    reach: &[u32],
+    xs: &[u32],
+    to: u32,
+    kind: Kind,
+    best: Change,
+) -> Change
+    requires len { length heights.now ≡ t.now.places }
+    requires can { (a : ℕ) → 1 ≤ count a xs.now → CanOffer t.now heights.now kind a to }
+    requires some { 1 ≤ length xs.now }
+    requires reaches { Reaches t.now heights.now xs.now reach.now }
+    ensures { Scans t.now heights.now kind xs.now (to ∷ []) best result }
+{
+    let by = change_for(kind, reach[to as usize] - heights[to as usize]);
     if by < best.by {
-        Change { by, step }
+        let from = nearest(t, heights, xs, to, reach[to as usize]);
+        Change {
+            by,
+            step: step_for(kind, Link { from, to }),
+        }
     } else {
         best
     }
 }
 
-fn scan_row(t: &DistTable, heights: &[u32], a: u32, ys: &[u32], kind: Kind, best: Change) -> Change
+/// The place that leaves so much for another.
+fn nearest(t: &DistTable, heights: &[u32], xs: &[u32], to: u32, room: u32) -> u32
     requires len { length heights.now ≡ t.now.places }
-    requires can { (b : ℕ) → 1 ≤ count b ys.now → CanOffer t.now heights.now kind a b }
-    ensures { Scans t.now heights.now kind (a ∷ []) ys.now best result }
+    requires can { (a : ℕ) → 1 ≤ count a xs.now → CanOffer t.now heights.now kind.Meet a to }
+    requires left { IsLeft t.now heights.now xs.now to room }
+    ensures here { 1 ≤ count result xs.now }
+    ensures exact { room ≡ left_by t.now heights.now result to }
 {
-    let mut least = best;
-    for b in ys {
-        least = offer(t, heights, Link { from: a, to: *b }, kind, least);
+    for a in xs {
+        if 2 * t.get(*a, to) - heights[*a as usize] == room {
+            return *a;
+        }
     }
-    least
+    unreachable!()
 }
 
 /// The lesser of a change and the least one between two of the places.
-fn scan(t: &DistTable, heights: &[u32], xs: &[u32], ys: &[u32], kind: Kind, best: Change) -> Change
+fn scan(
+    t: &DistTable,
+    heights: &[u32],
+    reach: &[u32],
+    xs: &[u32],
+    ys: &[u32],
+    kind: Kind,
+    best: Change,
+) -> Change
     requires len { length heights.now ≡ t.now.places }
     requires can { CanOfferAll t.now heights.now kind xs.now ys.now }
+    requires some { 1 ≤ length xs.now }
+    requires reaches { Reaches t.now heights.now xs.now reach.now }
     ensures { Scans t.now heights.now kind xs.now ys.now best result }
 {
     let mut least = best;
-    for a in xs {
-        least = scan_row(t, heights, *a, ys, kind, least);
+    for b in ys {
+        least = offer(t, heights, reach, xs, *b, kind, least);
     }
     least
 }
 
-/// The places of all outer sets, and the least change so far.
+/// The places of all outer sets, the least that they leave, and the least change so far.
 #[derive(Drop)]
 struct Crossing {
     outers: Vec<u32>,
+    reach: Vec<u32>,
     best: Change,
 }
 
@@ -133,25 +193,34 @@ struct Crossing {
 fn scan_outers(
     alloc: Global,
     t: &DistTable,
+    rows: &[u32],
     heights: &[u32],
     root: &Nest,
     tree: &[Branch],
     best: Change,
 ) -> Result<Crossing, Memory>
     requires len { length heights.now ≡ t.now.places }
+    requires rows { RowsAre t.now rows.now }
     requires can { CanCross t.now heights.now root.now tree.now }
     ensures crosses { IfOk result (λ r. Crosses t.now heights.now root.now tree.now best r.best) }
     ensures outers { IfOk result (λ r. HasOuters root.now tree.now r.outers.items) }
+    ensures some { IfOk result (λ r. 1 ≤ length r.outers.items) }
+    ensures reaches { IfOk result (λ r. Reaches t.now heights.now r.outers.items r.reach.items) }
 {
+    let top = root.members();
     let mut outers = Vec::new(alloc);
-    outers.extend_from_slice(root.members())?;
+    outers.extend_from_slice(top)?;
+    let mut reach = reach_of(alloc, t, rows, heights, top)?;
     let mut least = best;
     for b in tree {
-        least = scan(t, heights, &outers, b.outer.members(), Kind::Shrink, least);
-        outers.extend_from_slice(b.outer.members())?;
+        let members = b.outer.members();
+        least = scan(t, heights, &reach, &outers, members, Kind::Shrink, least);
+        outers.extend_from_slice(members)?;
+        take_in(t, rows, heights, members, &mut reach);
     }
     Ok(Crossing {
         outers,
+        reach,
         best: least,
     })
 }

@@ -14,6 +14,7 @@ mod opening;
 mod pairing;
 mod phase;
 mod prices;
+mod reach;
 mod ring;
 mod search;
 mod shrinking;

@@ -2,6 +2,7 @@ ghost use Rattle.std.specs.Prelude.{◌≡◌, ◌≤◌, ◌<◌, ◌+◌, ◌+
 ghost use Rattle.blossom_match.specs.Tables.{IsMetric};
 ghost use Rattle.blossom_match.specs.Bounds.{CanSearch};
 ghost use Rattle.blossom_match.specs.Searches.{CanStep};
+ghost use Rattle.blossom_match.specs.Reaches.{RowsAre};
 ghost use Rattle.blossom_match.specs.Phases.{Begins, Goes, Leads, Stands};
 
 use crate::least::least;
@@ -20,17 +21,23 @@ enum Stepped {
 }
 
 /// Searches from a free place until it is paired.
-pub fn pair_up(alloc: Global, t: &DistTable, place: u32, from: Standing) -> Result<Standing, Memory>
+pub fn pair_up(
+    alloc: Global,
+    t: &DistTable,
+    rows: &[u32],
+    place: u32,
+    from: Standing,
+) -> Result<Standing, Memory>
     requires metric { IsMetric t.now }
-    requires stands { Stands t.now from.couples.items
-        (from.free.items ++ place ∷ []) from.heights.items }
+    requires rows { RowsAre t.now rows.now }
+    requires stands { Stands t.now from.couples.items (from.free.items ++ place ∷ []) from.heights.items }
     requires some { 1 ≤ length from.free.items }
     ensures stands { IfOk result (λ r. Stands t.now r.couples.items r.free.items r.heights.items) }
     ensures fewer { IfOk result (λ r. length r.free.items + 1 ≡ length from.free.items) }
 {
     let mut now = begin(alloc, place, from)?;
     'steps: loop {
-        match advance(alloc, t, now)? {
+        match advance(alloc, t, rows, now)? {
             Stepped::More(next) => now = next,
             Stepped::Done(standing) => return Ok(standing),
         }
@@ -59,12 +66,13 @@ pub fn begin(alloc: Global, place: u32, from: Standing) -> Result<Search, Memory
 }
 
 /// Changes the widths as little as allows a step, and takes it.
-fn advance(alloc: Global, t: &DistTable, s: Search) -> Result<Stepped, Memory>
+fn advance(alloc: Global, t: &DistTable, rows: &[u32], s: Search) -> Result<Stepped, Memory>
     requires metric { IsMetric t.now }
+    requires rows { RowsAre t.now rows.now }
     requires search { CanSearch t.now s }
     ensures { IfOk result (λ r. Goes t.now s r) }
 {
-    let change = least(alloc, t, &s)?;
+    let change = least(alloc, t, rows, &s)?;
     let wide = widen(alloc, s, change)?;
     let next = take_step(alloc, wide, change.step)?;
     Ok(next)

@@ -1,15 +1,13 @@
 use Rattle.std.proofs.Common.{get_or}
 use Rattle.blossom_match.proofs.RaisedLemmas.{count_at}
-use Rattle.blossom_match.proofs.ScanLemmas.{rows_more, scans_no_xs}
+use Rattle.blossom_match.proofs.ScanLemmas.{row_more, scans_no_ys}
 use Rattle.blossom_match.proofs.least.scan.Goals as goal
 
-pub loop-a-init : goal.loop-a-init
-loop-a-init c = scans_no_xs _ _ _ _ _
+pub loop-b-init : goal.loop-b-init
+loop-b-init c = scans_no_ys _ _ _ _ _
 
-pub scan_row-least-requires-clause-can : goal.scan_row-least-requires-clause-can
-scan_row-least-requires-clause-can c = λ b. c.requires.can (get_or c.args.xs.now c.loop-a.a-index 0) b
-    (count_at c.args.xs.now c.loop-a.a-index c.loop-a-test.true)
+pub offer-least-requires-clause-can : goal.offer-least-requires-clause-can
+offer-least-requires-clause-can c = λ a ha. c.requires.can a (get_or c.args.ys.now c.loop-b.b-index 0) ha (count_at c.args.ys.now c.loop-b.b-index c.loop-b-test.true)
 
-pub loop-a-preserved : goal.loop-a-preserved
-loop-a-preserved c = rows_more c.args.t.now c.args.heights.now c.args.kind c.args.xs.now c.args.ys.now c.loop-a.a-index _ c.loop-a.least _
-    c.loop-a-test.true c.loop-a.invariant c.scan_row-least.ensures
+pub loop-b-preserved : goal.loop-b-preserved
+loop-b-preserved c = row_more c.args.t.now c.args.heights.now c.args.kind c.args.xs.now c.args.ys.now c.loop-b.b-index _ c.loop-b.least _ c.loop-b-test.true c.loop-b.invariant c.offer-least.ensures
