@@ -1,5 +1,5 @@
 -- Loads between sets as heights, and the room between places.
-use Rattle.std.proofs.Common.{◌≡◌, ◌≢◌, ℕ, ◌+◌, ◌*◌, ◌≤◌, ◌⊎◌, inl, inr, suc, zero, List, [], ◌∷◌, ◌++◌, arith, refl, sym, ap, subst}
+use Rattle.std.proofs.Common.{◌≡◌, ◌≢◌, ℕ, ◌+◌, ◌-◌, ◌*◌, ◌<◌, ◌≤◌, ◌⊎◌, inl, inr, suc, zero, List, [], ◌∷◌, ◌++◌, length, get_or, arith, refl, sym, ap, subst, ◌∙◌}
 use Rattle.blossom_match.specs.Lists.{Each}
 use Rattle.blossom_match.specs.Bands.{NestValue, Kept, bands, count, height, load}
 use Rattle.blossom_match.specs.Couples.{couple_members, couple_bands}
@@ -9,7 +9,12 @@ use Rattle.blossom_match.specs.Searches.{height_of, holding_both, outers, IsSear
 use Rattle.blossom_match.specs.Heights.{HeightsAre}
 use Rattle.blossom_match.specs.TableValue.{TableValue}
 use Rattle.blossom_match.specs.Tables.{entry, IsTable}
-use Rattle.blossom_match.specs.Bounds.{Bounds, CanCross, CanOffer, Crossed, Crosses, Found, IsDue, Narrows, RingIsDue, Scans}
+use Rattle.blossom_match.specs.Bounds.{step_of, Bounds, IsDue, Narrows, RingIsDue}
+use Rattle.blossom_match.specs.Reaches.{CanReach, Reaches}
+use Rattle.blossom_match.specs.Aims.{change_at, goals, Aims, AimsAt, CanLead, IsAimed, LeadsTo}
+use Rattle.blossom_match.specs.declared.reach.TheConstants.{FAR}
+use Rattle.blossom_match.specs.declared.least.Aim.{Aim}
+use Rattle.blossom_match.specs.declared.least.Kind.{Kind}
 use Rattle.blossom_match.specs.declared.table.TheConstants.{MAX_DISTANCE}
 use Rattle.blossom_match.specs.declared.couples.Couple.{Couple}
 use Rattle.blossom_match.specs.declared.branches.Branch.{Branch}
@@ -135,44 +140,6 @@ either_room : (P : Type 0) (n m : ℕ) → (1 ≤ n → P) → (1 ≤ m → P) �
 either_room P zero m p q some = q (omega arith)
 either_room P (suc n) m p q some = p (omega arith)
 
-pub offer_free : (t : TableValue) (h : ℕ → ℕ) (s : Search) (hs : List ℕ) → IsSearch t h s → HeightsAre hs h → (a b : ℕ)
-    → 1 ≤ count a (outers s) → 1 ≤ count b s.free.items → CanOffer t hs kind.Meet a b
-offer_free t h s hs i at a b ha hb = record {
-  a_in = place_in t a (omega (arith, i.places a, ha));
-  b_in = place_in t b (omega (arith, i.places b, hb));
-  room = omega (arith, at a, at b, free_room t h s a b i ha hb);
-  whole = omega arith;
-}
-
-pub offer_coupled : (t : TableValue) (h : ℕ → ℕ) (s : Search) (hs : List ℕ) → IsSearch t h s → HeightsAre hs h → (a b : ℕ)
-    → 1 ≤ count a (outers s) → 1 ≤ count b (couple_members s.rest.items) → CanOffer t hs kind.Grow a b
-offer_coupled t h s hs i at a b ha hb = record {
-  a_in = place_in t a (omega (arith, i.places a, ha));
-  b_in = place_in t b (omega (arith, i.places b, hb));
-  room = omega (arith, at a, at b, coupled_room t h s a b i ha hb);
-  whole = omega arith;
-}
-
-pub can_cross : (t : TableValue) (h : ℕ → ℕ) (s : Search) (hs : List ℕ) → IsSearch t h s → HeightsAre hs h
-    → CanCross t hs s.root s.tree.items
-can_cross t h s hs i at = record {
-  within = λ x here. place_in t x (omega (arith, i.places x, here));
-  some = omega (arith, i.root.kept.odd);
-  offer = λ a b ha hb apart. record {
-    a_in = place_in t a (omega (arith, i.places a, ha));
-    b_in = place_in t b (omega (arith, i.places b, hb));
-    room = omega (arith, at a, at b, outer_room t h s a b i ha hb apart);
-    whole = omega (
-      arith,
-      at a,
-      at b,
-      two_even (entry t) h s.root s.tree.items i.grown i.root i.tree a b (omega (arith, ha))
-          (omega (arith, hb)),
-    );
-  };
-  once = λ x. omega (arith, i.places x, is_one t x);
-}
-
 set_in_root : (s : Search) (r : ℕ) → 1 ≤ count r s.root.members → 1 ≤ count r (outers s)
 set_in_root s r here = omega (arith, here, base_in r s.root.members s.tree.items)
 
@@ -217,50 +184,138 @@ pub height_limit : (t : TableValue) (h : ℕ → ℕ) (s : Search) (x f : ℕ) �
 height_limit t h s x f is i hf = high_case (count x (outers s) + count x (inner_members s.tree.items)
     + count x (couple_members s.rest.items)) t h s x f is i hf refl
 
-due_found : (t : TableValue) (h : ℕ → ℕ) (s : Search) (hs xs : List ℕ) (c : Change) → HeightsAre hs h
-    → ((x : ℕ) → count x xs ≤ count x (outers s)) → Found t hs kind.Meet xs s.free.items c → IsDue t h s c.by c.step
-due_found t h s hs xs c at within f = subst (λ (st : Step). IsDue t h s c.by st) (sym f.step)
-    (omega (arith, f.in_xs, within f.a), f.in_ys, omega (arith, f.exact, at f.a, at f.b))
-
-due_grown : (t : TableValue) (h : ℕ → ℕ) (s : Search) (hs xs : List ℕ) (c : Change) → HeightsAre hs h
-    → ((x : ℕ) → count x xs ≤ count x (outers s)) → Found t hs kind.Grow xs (couple_members s.rest.items) c → IsDue t h s c.by c.step
-due_grown t h s hs xs c at within f = subst (λ (st : Step). IsDue t h s c.by st) (sym f.step)
-    (omega (arith, f.in_xs, within f.a), f.in_ys, omega (arith, f.exact, at f.a, at f.b))
-
-due_crossed : (t : TableValue) (h : ℕ → ℕ) (s : Search) (hs : List ℕ) (c : Change) → HeightsAre hs h → Crossed t hs s.root s.tree.items c
-    → IsDue t h s c.by c.step
-due_crossed t h s hs c at f = subst (λ (st : Step). IsDue t h s c.by st) (sym f.step)
-    (f.in_a, f.in_b, f.apart, omega (arith, f.exact, at f.a, at f.b))
-
 due_ring : (t : TableValue) (h : ℕ → ℕ) (s : Search) (c : Change) → RingIsDue s.tree.items c → IsDue t h s c.by c.step
 due_ring t h s c f = subst (λ (st : Step). IsDue t h s c.by st) (sym f.step) f.due
 
-still : (t : TableValue) (h : ℕ → ℕ) (s : Search) (Q : Change → Type 0) (old new : Change) → IsDue t h s old.by old.step
-    → ((c : Change) → Q c → IsDue t h s c.by c.step) → (new ≡ old) ⊎ Q new → IsDue t h s new.by new.step
-still t h s Q old new due q (inl e) = subst (λ (c : Change). IsDue t h s c.by c.step) (sym e) due
-still t h s Q old new due q (inr f) = q new f
+aimed_case : (s : Search) (hs reach : List ℕ) (k : Kind) (aim : Aim) → AimsAt hs reach k (goals s k) aim → IsAimed s hs reach aim
+aimed_case s hs reach k aim a = record {
+  there = subst (λ (j : Kind). 1 ≤ count aim.to (goals s j)) (sym a.kind) a.there;
+  near = a.near;
+  by = subst (λ (j : Kind). aim.by ≡ change_at hs reach j aim.to) (sym a.kind) a.by;
+}
+
+-- the lesser of two aims leads to such a place too
+still_aimed : (s : Search) (hs reach : List ℕ) (k : Kind) (old new : Aim) → IsAimed s hs reach old
+    → (new ≡ old) ⊎ AimsAt hs reach k (goals s k) new → IsAimed s hs reach new
+still_aimed s hs reach k old new a (inl e) = subst (λ (aim : Aim). IsAimed s hs reach aim) (sym e) a
+still_aimed s hs reach k old new a (inr b) = aimed_case s hs reach k new b
+
+-- what is known of the aims of a search
+pub record IsAimedAt (t : TableValue) (h : ℕ → ℕ) (s : Search) (hs reach : List ℕ) (first met grown crossed : Aim) : Type 0 where
+  pub table : IsTable t
+  pub search : IsSearch t h s
+  pub heights : HeightsAre hs h
+  pub size : length hs ≡ t.places
+  pub reaches : Reaches t hs s.root s.tree.items reach
+  pub at_first : AimsAt hs reach kind.Meet s.free.items first
+  pub at_met : Aims hs reach kind.Meet s.free.items first met
+  pub at_grown : Aims hs reach kind.Grow (couple_members s.rest.items) met grown
+  pub at_crossed : Aims hs reach kind.Shrink (outers s) grown crossed
+
+pub aimed : (t : TableValue) (h : ℕ → ℕ) (s : Search) (hs reach : List ℕ) (first met grown crossed : Aim)
+    → IsAimedAt t h s hs reach first met grown crossed → IsAimed s hs reach crossed
+aimed t h s hs reach first met grown crossed a =
+    still_aimed s hs reach kind.Shrink grown crossed
+    (still_aimed s hs reach kind.Grow met grown
+    (still_aimed s hs reach kind.Meet first met (aimed_case s hs reach kind.Meet first a.at_first) a.at_met.is) a.at_grown.is) a.at_crossed.is
+
+-- heights for the search's places
+pub can_reach_now : (t : TableValue) (h : ℕ → ℕ) (s : Search) (hs : List ℕ) → IsSearch t h s → length hs ≡ t.places
+    → CanReach t hs s.root s.tree.items
+can_reach_now t h s hs i size = record {
+  cells = size;
+  within = λ x here. place_in t x (omega (arith, i.places x, here));
+  once = λ x. omega (arith, i.places x, is_one t x);
+}
+
+goal_case : (t : TableValue) (h : ℕ → ℕ) (s : Search) (k : Kind) (x : ℕ) → IsSearch t h s → 1 ≤ count x (goals s k) → x < t.places
+goal_case t h s kind.Meet x i here = place_in t x (omega (arith, i.places x, here))
+goal_case t h s kind.Grow x i here = place_in t x (omega (arith, i.places x, here))
+goal_case t h s kind.Shrink x i here = place_in t x (omega (arith, i.places x, here))
+
+pub can_lead : (t : TableValue) (h : ℕ → ℕ) (s : Search) (hs reach : List ℕ) (first met grown crossed : Aim)
+    → IsAimedAt t h s hs reach first met grown crossed → CanLead t hs s.root s.tree.items reach crossed
+can_lead t h s hs reach first met grown crossed a =
+    let is = aimed t h s hs reach first met grown crossed a in
+    record {
+      can = can_reach_now t h s hs a.search a.size;
+      reaches = a.reaches;
+      within = goal_case t h s crossed.kind crossed.to a.search is.there;
+      near = is.near;
+    }
+
+far_is : FAR ≡ 2 * MAX_DISTANCE + 1
+far_is = refl
+
+-- an outer place of another set reaches the place
+pub is_near : (t : TableValue) (h : ℕ → ℕ) (s : Search) (hs reach : List ℕ) (a b : ℕ) → IsTable t → IsSearch t h s
+    → Reaches t hs s.root s.tree.items reach → 1 ≤ count a (outers s) → b < t.places → holding_both a b s ≡ 0
+    → (get_or reach b 0 < FAR) × (get_or reach b 0 ≤ 2 * entry t a b - get_or hs a 0)
+is_near t h s hs reach a b is i r ha lb apart =
+    let low = r.least a b ha lb apart in
+    (omega (arith, low, far_is, is.short a b (place_in t a (omega (arith, i.places a, ha))) lb), low)
+
+-- each free place is reached
+pub free_near : (t : TableValue) (h : ℕ → ℕ) (s : Search) (hs reach : List ℕ) (b : ℕ) → IsTable t → IsSearch t h s
+    → Reaches t hs s.root s.tree.items reach → 1 ≤ count b s.free.items → get_or reach b 0 < FAR
+free_near t h s hs reach b is i r hb =
+    let a = some_member s.root.members (omega (arith, i.root.kept.odd)) in
+    (is_near t h s hs reach a.0 b is i r (set_in_root s a.0 a.1) (place_in t b (omega (arith, i.places b, hb)))
+    (not_both s a.0 b (omega (arith, i.places b, is_one t b, hb)))).0
+
+due_case : (k : Kind) (t : TableValue) (h : ℕ → ℕ) (s : Search) (hs reach : List ℕ) (from to by : ℕ) → IsSearch t h s → HeightsAre hs h
+    → 1 ≤ count from (outers s) → holding_both from to s ≡ 0 → get_or reach to 0 ≡ 2 * entry t from to - get_or hs from 0
+    → 1 ≤ count to (goals s k) → by ≡ change_at hs reach k to → IsDue t h s by (step_of k (record { from = from; to = to }))
+due_case kind.Meet t h s hs reach from to by i at here apart exact there is =
+    (here, there, omega (arith, at from, at to, exact, is, free_room t h s from to i here there))
+due_case kind.Grow t h s hs reach from to by i at here apart exact there is =
+    (here, there, omega (arith, at from, at to, exact, is, coupled_room t h s from to i here there))
+due_case kind.Shrink t h s hs reach from to by i at here apart exact there is = (
+  here,
+  there,
+  apart,
+  omega (
+    arith,
+    at from,
+    at to,
+    exact,
+    is,
+    outer_room t h s from to i here there apart,
+    two_even (entry t) h s.root s.tree.items i.grown i.root i.tree from to (omega (arith, here)) (omega (arith, there)),
+  ),
+)
+
+due_aimed : (t : TableValue) (h : ℕ → ℕ) (s : Search) (hs reach : List ℕ) (aim : Aim) (c : Change) → IsSearch t h s → HeightsAre hs h
+    → IsAimed s hs reach aim → LeadsTo t hs s.root s.tree.items reach aim c → IsDue t h s c.by c.step
+due_aimed t h s hs reach aim c i at is l =
+    subst (λ (st : Step). IsDue t h s c.by st) (sym l.step)
+    (due_case aim.kind t h s hs reach l.from aim.to c.by i at l.here l.apart l.exact is.there (l.by ∙ is.by))
+
+due_now : (t : TableValue) (h : ℕ → ℕ) (s : Search) (old new : Change) → IsDue t h s old.by old.step
+    → (new ≡ old) ⊎ RingIsDue s.tree.items new → IsDue t h s new.by new.step
+due_now t h s old new due (inl e) = subst (λ (c : Change). IsDue t h s c.by c.step) (sym e) due
+due_now t h s old new due (inr f) = due_ring t h s new f
 
 -- the least of all changes leaves room everywhere, and its step is due
-pub bounds_of : (t : TableValue) (h : ℕ → ℕ) (s : Search) (hs found coupled : List ℕ) (first best grown met new : Change) → IsSearch t h s
-    → HeightsAre hs h → Found t hs kind.Meet s.root.members s.free.items first →
-    Crosses t hs s.root s.tree.items first best → ((x : ℕ) → count x found ≡ count x (outers s)) → coupled ≡ couple_members s.rest.items
-    → Scans t hs kind.Grow found coupled best grown →
-    Scans t hs kind.Meet found s.free.items grown met → Narrows s.tree.items met new → Bounds t h s new
-bounds_of t h s hs found coupled first best grown met new i at one crosses same e grows meets narrows =
-    let g = subst (λ (xs : List ℕ). Scans t hs kind.Grow found xs best grown) e grows in
+pub bounds_of : (t : TableValue) (h : ℕ → ℕ) (s : Search) (hs reach : List ℕ) (first met grown crossed : Aim) (c new : Change)
+    → IsAimedAt t h s hs reach first met grown crossed → LeadsTo t hs s.root s.tree.items reach crossed c
+    → Narrows s.tree.items c new → Bounds t h s new
+bounds_of t h s hs reach first met grown crossed c new a l n =
+    let i = a.search in
+    let at = a.heights in
+    let near = λ (x y : ℕ) (hx : 1 ≤ count x (outers s)) (ly : y < t.places) (apart : holding_both x y s ≡ 0).
+    is_near t h s hs reach x y a.table i a.reaches hx ly apart in
     record {
-      one = λ a b ha hb. either_room (h a + h b + new.by ≤ 2 * entry t a b) (count b (couple_members s.rest.items)) (count b s.free.items)
-          (λ here. omega (arith, at a, at b, g.wide a b (omega (arith, same a, ha)) here, meets.less, narrows.less))
-          (λ here. omega (arith, at a, at b, meets.wide a b (omega (arith, same a, ha)) here, narrows.less)) hb;
-      two = λ a b ha hb apart. omega (arith, at a, at b, crosses.wide a b ha hb apart, g.less, meets.less, narrows.less);
-      rings = narrows.wide;
-      due = still t h s (RingIsDue s.tree.items) met new
-          (still t h s (Found t hs kind.Meet found s.free.items) grown met
-          (still t h s (Found t hs kind.Grow found (couple_members s.rest.items)) best grown
-          (still t h s (Crossed t hs s.root s.tree.items) first best
-          (due_found t h s hs s.root.members first at (λ x. base_in x s.root.members s.tree.items) one)
-          (λ c f. due_crossed t h s hs c at f) crosses.is)
-          (λ c f. due_grown t h s hs found c at (λ x. omega (arith, same x)) f) g.is)
-          (λ c f. due_found t h s hs found c at (λ x. omega (arith, same x)) f) meets.is)
-          (λ c f. due_ring t h s c f) narrows.is;
+      one = λ x y hx hy. either_room (h x + h y + new.by ≤ 2 * entry t x y) (count y (couple_members s.rest.items)) (count y s.free.items)
+          (λ here.
+          let k = near x y hx (place_in t y (omega (arith, i.places y, here))) (not_both s x y (omega (arith, i.places y, is_one t y, here))) in
+          omega (arith, at x, at y, k.1, a.at_grown.wide y here k.0, a.at_crossed.less, l.by, n.less, coupled_room t h s x y i hx here))
+          (λ here.
+          let k = near x y hx (place_in t y (omega (arith, i.places y, here))) (not_both s x y (omega (arith, i.places y, is_one t y, here))) in
+          omega (arith, at x, at y, k.1, a.at_met.wide y here k.0, a.at_grown.less, a.at_crossed.less, l.by, n.less, free_room t h s x y i hx here)) hy;
+      two = λ x y hx hy apart.
+          let k = near x y hx (place_in t y (omega (arith, i.places y, hy))) apart in
+          omega (arith, at x, at y, k.1, a.at_crossed.wide y hy k.0, l.by, n.less, outer_room t h s x y i hx hy apart);
+      rings = n.wide;
+      due = due_now t h s c new (due_aimed t h s hs reach crossed c i at (aimed t h s hs reach first met grown crossed a) l) n.is;
     }

@@ -21,8 +21,10 @@ pub mod FreeLemmas
 pub mod RaisedLemmas
 pub mod ScanLemmas
 pub mod ReachLemmas
+pub mod AimLemmas
 pub mod BoundLemmas
 pub mod WidthLemmas
+pub mod LoweredLemmas
 pub mod EndLemmas
 pub mod WideningLemmas
 pub mod PriceLemmas

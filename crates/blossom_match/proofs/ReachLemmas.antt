@@ -1,24 +1,21 @@
 -- What the outer places leave for each place.
-use Rattle.std.proofs.Common.{◌≡◌, ◌≢◌, ℕ, ◌+◌, ◌-◌, ◌*◌, ◌%◌, ◌≤◌, ◌<◌, ◌⊎◌, inl, inr, suc, zero, List, [], ◌∷◌, ◌++◌, length, take, drop, get_or, min, Bool, true, false, cond, eqb, arith, refl, sym, ap, subst, ◌∙◌, append_assoc, length-append}
-use Rattle.std.proofs.Math.Nat.{mul-le-mul_left, mul-le-mul_right}
-use Rattle.std.proofs.lemmas.Bool.{eqb-true}
-use Rattle.std.proofs.lemmas.List.{take_all, take-append-drop}
-use Rattle.std.proofs.lemmas.Bool.{cases_lt}
+use Rattle.std.proofs.Common.{◌≡◌, ◌≢◌, ℕ, ◌+◌, ◌-◌, ◌*◌, ◌≤◌, ◌<◌, ◌⊎◌, inl, inr, suc, zero, List, [], ◌∷◌, ◌++◌, length, take, drop, get_or, set, min, Bool, true, false, cond, eqb, arith, refl, sym, ap, subst, ◌∙◌, length-append, get_or-set_other, get_or-set_same}
+use Rattle.std.proofs.Math.Nat.{mul-le-mul_right}
+use Rattle.std.proofs.lemmas.Bool.{cases_lt, eqb-false, eqb-true}
+use Rattle.std.proofs.lemmas.List.{take-append-drop}
 use Rattle.blossom_match.specs.Bands.{NestValue, count, hit}
-use Rattle.blossom_match.specs.Trees.{outer_members}
-use Rattle.blossom_match.specs.Bounds.{rounds, step_of, CanOffer, Crosses, HasRoom, Scans}
-use Rattle.blossom_match.specs.Reaches.{change_of, left_by, IsLeft, IsRow, PushesRow, Reaches}
+use Rattle.blossom_match.specs.Trees.{around, both, outer_members}
+use Rattle.blossom_match.specs.Bounds.{holding}
+use Rattle.blossom_match.specs.Reaches.{left_by, CanReach, IsLeft, IsReached, IsRow, PushesRow, Reaches, ReachesMore, TakesIn, TakesSet}
 use Rattle.blossom_match.specs.TableValue.{TableValue}
 use Rattle.blossom_match.specs.Tables.{entry}
-use Rattle.blossom_match.specs.declared.table.TheConstants.{MAX_DISTANCE}
+use Rattle.blossom_match.specs.declared.reach.TheConstants.{FAR}
 use Rattle.blossom_match.specs.declared.branches.Branch.{Branch}
-use Rattle.blossom_match.specs.declared.least.Change.{Change}
-use Rattle.blossom_match.specs.declared.least.Kind.{Kind}
-use Rattle.blossom_match.specs.declared.least.Kind.TheVariants as kind
+use Rattle.blossom_match.specs.declared.search.Search.{Search}
 use Rattle.blossom_match.proofs.SumLemmas.{count-append, hit_is, hit_same}
 use Rattle.blossom_match.proofs.RaisedLemmas.{at_drop, outer_places}
-use Rattle.blossom_match.proofs.ScanLemmas.{number_here}
-use Rattle.blossom_match.proofs.TreeLemmas.{outer-append}
+use Rattle.blossom_match.proofs.ScanLemmas.{around_append, number_here, split_here, take_here}
+use Rattle.blossom_match.proofs.TreeLemmas.{base_in, outer-append, outer_members_push}
 
 not_case : (b : Bool) (x y : ℕ) → eqb x y ≡ b → (x ≡ y → ⊥) → cond b 1 0 ≤ 0
 not_case true x y e ne = absurd (ne (eqb-true x y e))
@@ -36,139 +33,243 @@ left_more t hs xs i x room low differs l =
 pub left_none : (t : TableValue) (hs : List ℕ) (x room : ℕ) → IsLeft t hs [] x room → ⊥
 left_none t hs x room l = omega (arith, l.here)
 
-whole_room : (k : Kind) (e s room : ℕ) → room + s ≡ 2 * e → s % rounds k ≡ 0 → room % rounds k ≡ 0
-whole_room kind.Meet e s room sum whole = omega arith
-whole_room kind.Grow e s room sum whole = omega arith
-whole_room kind.Shrink e s room sum whole = omega (arith, sum, whole)
-
-used_up : (k : Kind) (room : ℕ) → room % rounds k ≡ 0 → rounds k * change_of k room ≡ room
-used_up kind.Meet room whole = omega arith
-used_up kind.Grow room whole = omega arith
-used_up kind.Shrink room whole = omega (arith, whole)
-
--- what is known of the place that an offer leads to
-pub record Offers (t : TableValue) (hs xs reach : List ℕ) (k : Kind) (b : ℕ) : Type 0 where
-  pub can : (a : ℕ) → 1 ≤ count a xs → CanOffer t hs k a b
-  pub reaches : Reaches t hs xs reach
-  pub some : 1 ≤ length xs
-
-first_place : (xs : List ℕ) → 1 ≤ length xs → (x : ℕ) × (1 ≤ count x xs)
-first_place [] some = absurd (omega (arith, some))
-first_place (x ∷ xs) some = (x, omega (arith, hit_same x))
-
-pub offer_in : (t : TableValue) (hs xs reach : List ℕ) (k : Kind) (b : ℕ) → Offers t hs xs reach k b → b < t.places
-offer_in t hs xs reach k b o = let f = first_place xs o.some in (o.can f.0 f.1).b_in
-
-pub offer_left : (t : TableValue) (hs xs reach : List ℕ) (k : Kind) (b : ℕ) → Offers t hs xs reach k b → IsLeft t hs xs b (get_or reach b 0)
-offer_left t hs xs reach k b o = o.reaches.is b (offer_in t hs xs reach k b o) o.some
-
--- the room is what the two heights leave
-room_sum : (t : TableValue) (hs xs reach : List ℕ) (k : Kind) (b : ℕ) (o : Offers t hs xs reach k b) → (l : IsLeft t hs xs b (get_or reach b 0)) →
-    (get_or hs b 0 ≤ get_or reach b 0) × ((get_or reach b 0 - get_or hs b 0) + (get_or hs l.a 0 + get_or hs b 0) ≡ 2 * entry t l.a b)
-room_sum t hs xs reach k b o l =
-    let c = o.can l.a l.here in
-    (omega (arith, l.exact, c.room), omega (arith, l.exact, c.room))
-
-pub offer_low : (t : TableValue) (hs xs reach : List ℕ) (k : Kind) (b : ℕ) → Offers t hs xs reach k b → get_or hs b 0 ≤ get_or reach b 0
-offer_low t hs xs reach k b o = (room_sum t hs xs reach k b o (offer_left t hs xs reach k b o)).0
-
-pub offer_near : (t : TableValue) (hs xs reach : List ℕ) (k : Kind) (b : ℕ) → Offers t hs xs reach k b → (a : ℕ) → 1 ≤ count a xs → CanOffer t hs kind.Meet a b
-offer_near t hs xs reach k b o a ha =
-    let c = o.can a ha in
-    record { a_in = c.a_in; b_in = c.b_in; room = omega (arith, c.room); whole = omega arith }
-
-room_used : (t : TableValue) (hs xs reach : List ℕ) (k : Kind) (b : ℕ) → Offers t hs xs reach k b → rounds k * change_of k (get_or reach b 0 - get_or hs b 0) ≡ get_or reach b 0 - get_or hs b 0
-room_used t hs xs reach k b o =
-    let l = offer_left t hs xs reach k b o in
-    used_up k (get_or reach b 0 - get_or hs b 0)
-    (whole_room k (entry t l.a b) (get_or hs l.a 0 + get_or hs b 0) (get_or reach b 0 - get_or hs b 0) (room_sum t hs xs reach k b o l).1 (o.can l.a l.here).whole)
-
-one_hit : (b c : ℕ) → 1 ≤ hit c b + 0 → c ≡ b
-one_hit b c here = hit_is c b (omega (arith, here))
-
--- a lesser change leaves room to all
-wide_all : (t : TableValue) (hs xs reach : List ℕ) (k : Kind) (b by : ℕ) → Offers t hs xs reach k b → by ≤ change_of k (get_or reach b 0 - get_or hs b 0) →
-    (a c : ℕ) → 1 ≤ count a xs → 1 ≤ count c (b ∷ []) → HasRoom t hs k by a c
-wide_all t hs xs reach k b by o less a c ha hc =
-    let low = offer_low t hs xs reach k b o in
-    let most = mul-le-mul_left (rounds k) less in
-    let can = o.can a ha in
-    subst (λ (y : ℕ). HasRoom t hs k by a y) (sym (one_hit b c hc))
-    (omega (arith, most, room_used t hs xs reach k b o, low, o.reaches.least a b ha (offer_in t hs xs reach k b o), can.room))
-
-pub offers_none : (t : TableValue) (hs xs reach : List ℕ) (k : Kind) (b : ℕ) (best : Change) → Offers t hs xs reach k b → best.by ≤ change_of k (get_or reach b 0 - get_or hs b 0) → Scans t hs k xs (b ∷ []) best best
-offers_none t hs xs reach k b best o less = record {
-  less = omega arith;
-  wide = wide_all t hs xs reach k b best.by o less;
-  is = inl refl;
-}
-
-pub offers_some : (t : TableValue) (hs xs reach : List ℕ) (k : Kind) (b a : ℕ) (best new : Change) → Offers t hs xs reach k b → new.by ≡ change_of k (get_or reach b 0 - get_or hs b 0) → new.by < best.by →
-    1 ≤ count a xs → get_or reach b 0 ≡ left_by t hs a b → new.step ≡ step_of k (record { from = a; to = b }) → Scans t hs k xs (b ∷ []) best new
-offers_some t hs xs reach k b a best new o is less here exact step = record {
-  less = omega (arith, less);
-  wide = wide_all t hs xs reach k b new.by o (omega (arith, is));
-  is = inr (record {
-    a = a;
-    b = b;
-    in_xs = here;
-    in_ys = omega (arith, hit_same b);
-    step = step;
-    exact = omega (arith, ap (λ (n : ℕ). rounds k * n) is, room_used t hs xs reach k b o, exact, offer_low t hs xs reach k b o, (o.can a here).room);
-  });
-}
-
--- nothing is taken in yet
-pub reaches_none : (t : TableValue) (hs reach : List ℕ) → length reach ≡ t.places → ((x : ℕ) → x < t.places → get_or reach x 0 ≡ 2 * MAX_DISTANCE) → Reaches t hs [] reach
-reaches_none t hs reach size far = record {
-  size = size;
+-- no place is taken in yet
+pub takes_none : (t : TableValue) (hs old : List ℕ) → TakesIn t hs [] old old
+takes_none t hs old = record {
+  less = λ x lx. omega arith;
   least = λ a x ha lx. absurd (omega (arith, ha));
-  far = λ x lx none. omega (arith, far x lx);
-  is = λ x lx some. absurd (omega (arith, some));
+  is = λ x lx. inl refl;
 }
 
-either_case : (t : TableValue) (hs xs : List ℕ) (x now left was : ℕ) → now ≡ min left was → (left < was) ⊎ (was ≤ left) → IsLeft t hs xs x was → (now ≡ left) ⊎ IsLeft t hs xs x now
-either_case t hs xs x now left was m (inl less) l = inl (omega (arith, m, less))
-either_case t hs xs x now left was m (inr less) l = inr (record { a = l.a; here = l.here; exact = omega (arith, m, less, l.exact) })
+takes_is : (t : TableValue) (hs xs : List ℕ) (a x first was now : ℕ) → now ≡ min (left_by t hs a x) was
+    → (left_by t hs a x < was) ⊎ (was ≤ left_by t hs a x) → (was ≡ first) ⊎ IsLeft t hs xs x was
+    → (now ≡ first) ⊎ IsLeft t hs (xs ++ a ∷ []) x now
+takes_is t hs xs a x first was now m (inl less) old =
+    inr (record { a = a; here = omega (arith, count-append a xs (a ∷ []), hit_same a); exact = omega (arith, m, less) })
+takes_is t hs xs a x first was now m (inr more) (inl e) = inl (omega (arith, m, more, e))
+takes_is t hs xs a x first was now m (inr more) (inr l) =
+    inr (record { a = l.a; here = omega (arith, l.here, count-append l.a xs (a ∷ [])); exact = omega (arith, m, more, l.exact) })
 
-min_case : (n : ℕ) (t : TableValue) (hs xs reach row : List ℕ) (a x now : ℕ) → length xs ≡ n → IsRow t a row → x < t.places → Reaches t hs xs reach →
-    now ≡ min (left_by t hs a x) (get_or reach x 0) → (now ≡ left_by t hs a x) ⊎ IsLeft t hs xs x now
-min_case zero t hs xs reach row a x now e r lx old is = inl (omega (arith, is, r.cells x lx, r.short x (omega (arith, r.size, lx)), old.far x lx e))
-min_case (suc n) t hs xs reach row a x now e r lx old is =
-    either_case t hs xs x now (left_by t hs a x) (get_or reach x 0) is (cases_lt (left_by t hs a x) (get_or reach x 0)) (old.is x lx (omega (arith, e)))
-
-is_case : (t : TableValue) (hs xs : List ℕ) (a x now : ℕ) → (now ≡ left_by t hs a x) ⊎ IsLeft t hs xs x now → IsLeft t hs (xs ++ a ∷ []) x now
-is_case t hs xs a x now (inl e) = record { a = a; here = omega (arith, count-append a xs (a ∷ []), hit_same a); exact = e }
-is_case t hs xs a x now (inr l) = record { a = l.a; here = omega (arith, l.here, count-append l.a xs (a ∷ [])); exact = l.exact }
-
-least_case : (n : ℕ) (t : TableValue) (hs xs reach : List ℕ) (a c x now : ℕ) → count c xs ≡ n → 1 ≤ count c (xs ++ a ∷ []) → x < t.places → Reaches t hs xs reach → now ≡ min (left_by t hs a x) (get_or reach x 0) → now ≤ left_by t hs c x
-least_case (suc n) t hs xs reach a c x now e here lx old is = omega (arith, is, old.least c x (omega (arith, e)) lx)
-least_case zero t hs xs reach a c x now e here lx old is =
+takes_least : (n : ℕ) (t : TableValue) (hs xs old was : List ℕ) (a c x now : ℕ) → count c xs ≡ n → 1 ≤ count c (xs ++ a ∷ [])
+    → x < t.places → TakesIn t hs xs old was → now ≡ min (left_by t hs a x) (get_or was x 0) → now ≤ left_by t hs c x
+takes_least (suc n) t hs xs old was a c x now e here lx k is = omega (arith, is, k.least c x (omega (arith, e)) lx)
+takes_least zero t hs xs old was a c x now e here lx k is =
     let same : c ≡ a = hit_is c a (omega (arith, e, here, count-append c xs (a ∷ []))) in
     omega (arith, is, ap (λ (y : ℕ). left_by t hs y x) same)
 
 -- one place more
-pub reaches_more : (t : TableValue) (hs xs reach new row : List ℕ) (a : ℕ) → IsRow t a row → length new ≡ length reach →
-    ((x : ℕ) → x < length row → get_or new x 0 ≡ min (2 * get_or row x 0 - get_or hs a 0) (get_or reach x 0)) → Reaches t hs xs reach → Reaches t hs (xs ++ a ∷ []) new
-reaches_more t hs xs reach new row a r size merged old =
-    let at : (x : ℕ) → x < t.places → get_or new x 0 ≡ min (left_by t hs a x) (get_or reach x 0) = λ x lx. omega (arith, merged x (omega (arith, lx, r.size)), r.cells x lx) in
+takes_more : (t : TableValue) (hs xs old was new row : List ℕ) (a : ℕ) → IsRow t a row
+    → ((x : ℕ) → x < length row → get_or new x 0 ≡ min (2 * get_or row x 0 - get_or hs a 0) (get_or was x 0))
+    → TakesIn t hs xs old was → TakesIn t hs (xs ++ a ∷ []) old new
+takes_more t hs xs old was new row a r merged k =
+    let at : (x : ℕ) → x < t.places → get_or new x 0 ≡ min (left_by t hs a x) (get_or was x 0) =
+    λ x lx. omega (arith, merged x (omega (arith, lx, r.size)), r.cells x lx) in
     record {
-      size = size ∙ old.size;
-      least = λ c x hc lx. least_case (count c xs) t hs xs reach a c x (get_or new x 0) refl hc lx old (at x lx);
-      far = λ x lx none. absurd (omega (arith, none, length-append xs (a ∷ [])));
-      is = λ x lx some. is_case t hs xs a x (get_or new x 0) (min_case (length xs) t hs xs reach row a x (get_or new x 0) refl r lx old (at x lx));
+      less = λ x lx. omega (arith, at x lx, k.less x lx);
+      least = λ c x hc lx. takes_least (count c xs) t hs xs old was a c x (get_or new x 0) refl hc lx k (at x lx);
+      is = λ x lx. takes_is t hs xs a x (get_or old x 0) (get_or was x 0) (get_or new x 0) (at x lx)
+          (cases_lt (left_by t hs a x) (get_or was x 0)) (k.is x lx);
     }
 
 -- the places so far and the next one
-pub reaches_take : (t : TableValue) (hs xs members reach new row : List ℕ) (i : ℕ) → i < length members → IsRow t (get_or members i 0) row → length new ≡ length reach →
-    ((x : ℕ) → x < length row → get_or new x 0 ≡ min (2 * get_or row x 0 - get_or hs (get_or members i 0) 0) (get_or reach x 0)) → Reaches t hs (xs ++ take i members) reach → Reaches t hs (xs ++ take (i + 1) members) new
-reaches_take t hs xs members reach new row i low r size merged old =
-    subst (λ (ys : List ℕ). Reaches t hs ys new) (append_assoc xs (take i members) (get_or members i 0 ∷ []) ∙ ap (λ (ys : List ℕ). xs ++ ys) (sym (number_here members i low)))
-    (reaches_more t hs (xs ++ take i members) reach new row (get_or members i 0) r size merged old)
+pub takes_next : (t : TableValue) (hs members old was new row : List ℕ) (i : ℕ) → i < length members
+    → IsRow t (get_or members i 0) row
+    → ((x : ℕ) → x < length row → get_or new x 0 ≡ min (2 * get_or row x 0 - get_or hs (get_or members i 0) 0) (get_or was x 0))
+    → TakesIn t hs (take i members) old was → TakesIn t hs (take (i + 1) members) old new
+takes_next t hs members old was new row i low r merged k =
+    subst (λ (ys : List ℕ). TakesIn t hs ys old new) (sym (number_here members i low))
+    (takes_more t hs (take i members) old was new row (get_or members i 0) r merged k)
 
--- all the places
-pub reaches_done : (t : TableValue) (hs xs members reach : List ℕ) (i : ℕ) → length members ≤ i → Reaches t hs (xs ++ take i members) reach → Reaches t hs (xs ++ members) reach
-reaches_done t hs xs members reach i low r = subst (λ (ys : List ℕ). Reaches t hs (xs ++ ys) reach) (take_all i members low) r
+put_kept : (p : Bool) (x m : ℕ) (old reach : List ℕ) → eqb x m ≡ p → m < length reach
+    → (x ≢ m → get_or reach x 0 ≡ get_or old x 0) → get_or (set reach m (get_or old m 0)) x 0 ≡ get_or old x 0
+put_kept true x m old reach is low here =
+    let e : x ≡ m = eqb-true x m is in
+    subst (λ (y : ℕ). get_or (set reach m (get_or old m 0)) y 0 ≡ get_or old y 0) (sym e) (get_or-set_same reach m (get_or old m 0) 0 low)
+put_kept false x m old reach is low here =
+    let ne : x ≢ m = eqb-false x m is in
+    rw get_or-set_other (here ne)
+
+counts_next : (members : List ℕ) (i x : ℕ) → i < length members
+    → count x (take (i + 1) members) ≡ count x (take i members) + hit x (get_or members i 0)
+counts_next members i x low =
+    omega (
+      arith,
+      ap (λ (ys : List ℕ). count x ys) (number_here members i low),
+      count-append x (take i members) (get_or members i 0 ∷ []),
+    )
+
+-- the cell of one place more is put back
+pub put_next : (members old reach : List ℕ) (i : ℕ) → i < length members → get_or members i 0 < length reach
+    → ((x : ℕ) → 1 ≤ count x (take i members) → get_or reach x 0 ≡ get_or old x 0) → (x : ℕ) → 1 ≤ count x (take (i + 1) members)
+    → get_or (set reach (get_or members i 0) (get_or old (get_or members i 0) 0)) x 0 ≡ get_or old x 0
+put_next members old reach i low within kept x here =
+    put_kept (eqb x (get_or members i 0)) x (get_or members i 0) old reach refl within
+    (λ ne. kept x (omega (arith, here, counts_next members i x low, not_hit x (get_or members i 0) ne)))
+
+-- and no other
+pub put_others : (members reach first : List ℕ) (i v : ℕ) → i < length members
+    → ((x : ℕ) → count x (take i members) ≡ 0 → get_or reach x 0 ≡ get_or first x 0) → (x : ℕ)
+    → count x (take (i + 1) members) ≡ 0 → get_or (set reach (get_or members i 0) v) x 0 ≡ get_or first x 0
+put_others members reach first i v low others x none =
+    let m = get_or members i 0 in
+    let ne : x ≢ m = λ e. omega (arith, none, counts_next members i x low, hit_same x, ap (λ (y : ℕ). hit x y) e) in
+    rw get_or-set_other (others x (omega (arith, none, counts_next members i x low)))
+
+set_is : (t : TableValue) (hs xs : List ℕ) (x old mid now : ℕ) → now ≡ mid → (mid ≡ old) ⊎ IsLeft t hs xs x mid
+    → (now ≡ old) ⊎ IsLeft t hs xs x now
+set_is t hs xs x old mid now e (inl f) = inl (e ∙ f)
+set_is t hs xs x old mid now e (inr l) = inr (record { a = l.a; here = l.here; exact = e ∙ l.exact })
+
+-- all places of a set are taken in, and their own cells are put back
+pub takes_set : (t : TableValue) (hs xs old mid new : List ℕ) → length new ≡ length old → TakesIn t hs xs old mid
+    → ((x : ℕ) → 1 ≤ count x xs → get_or new x 0 ≡ get_or old x 0) → ((x : ℕ) → count x xs ≡ 0 → get_or new x 0 ≡ get_or mid x 0)
+    → TakesSet t hs xs old new
+takes_set t hs xs old mid new size k kept others = record {
+  size = size;
+  kept = kept;
+  less = λ x lx none. omega (arith, others x none, k.less x lx);
+  least = λ a x ha lx none. omega (arith, others x none, k.least a x ha lx);
+  is = λ x lx none. set_is t hs xs x (get_or old x 0) (get_or mid x 0) (get_or new x 0) (others x none) (k.is x lx);
+}
+
+root_left : (t : TableValue) (hs : List ℕ) (root : NestValue) (x old now : ℕ) → count x root.members ≡ 0 → old ≡ FAR
+    → (now ≡ old) ⊎ IsLeft t hs root.members x now → (now ≡ FAR) ⊎ IsReached t hs root [] x now
+root_left t hs root x old now e far (inl same) = inl (same ∙ far)
+root_left t hs root x old now e far (inr l) = inr (record { a = l.a; here = l.here; apart = omega (arith, e); exact = l.exact })
+
+root_is : (n : ℕ) (t : TableValue) (hs : List ℕ) (root : NestValue) (reach new : List ℕ) (x : ℕ) → count x root.members ≡ n
+    → x < t.places → get_or reach x 0 ≡ FAR → TakesSet t hs root.members reach new
+    → (get_or new x 0 ≡ FAR) ⊎ IsReached t hs root [] x (get_or new x 0)
+root_is (suc n) t hs root reach new x e lx far k = inl (k.kept x (omega (arith, e)) ∙ far)
+root_is zero t hs root reach new x e lx far k = root_left t hs root x (get_or reach x 0) (get_or new x 0) e far (k.is x lx e)
+
+-- the root alone
+pub root_reached : (t : TableValue) (hs : List ℕ) (root : NestValue) (reach new : List ℕ) → length reach ≡ t.places
+    → ((x : ℕ) → x < length reach → get_or reach x 0 ≡ FAR) → TakesSet t hs root.members reach new → Reaches t hs root [] new
+root_reached t hs root reach new size far k = record {
+  size = k.size ∙ size;
+  least = λ a x ha lx apart. k.least a x ha lx (omega (arith, ha, apart));
+  is = λ x lx. root_is (count x root.members) t hs root reach new x refl lx (far x (omega (arith, lx, size))) k;
+}
+
+-- outer sets that do not hold one of the places do not hold both
+pub around_first : (a b : ℕ) (base : List ℕ) (bs : List Branch) → count a (outer_members base bs) ≡ 0 → around a b bs ≡ 0
+around_first a b base [] none = refl
+around_first a b base (c ∷ cs) none =
+    let n = count-append a c.outer.members (outer_members base cs) in
+    omega (arith, around_first a b base cs (omega (arith, n, none)), n, none)
+
+set_least : (n m : ℕ) (t : TableValue) (hs : List ℕ) (root : NestValue) (bs : List Branch) (b : Branch) (reach new : List ℕ) (a x : ℕ)
+    → count x b.outer.members ≡ n → count a b.outer.members ≡ m → 1 ≤ count a (outer_members root.members bs) + m → x < t.places
+    → holding a x root bs + both a x b.outer ≡ 0 → Reaches t hs root bs reach → TakesSet t hs b.outer.members reach new
+    → get_or new x 0 ≤ left_by t hs a x
+set_least (suc n) m t hs root bs b reach new a x e f ha lx apart r k =
+    omega (
+      arith,
+      k.kept x (omega (arith, e)),
+      r.least a x (omega (arith, ha, e, f, apart)) lx (omega (arith, apart)),
+    )
+set_least zero (suc m) t hs root bs b reach new a x e f ha lx apart r k = k.least a x (omega (arith, f)) lx e
+set_least zero zero t hs root bs b reach new a x e f ha lx apart r k =
+    omega (arith, k.less x lx e, r.least a x (omega (arith, ha)) lx (omega (arith, apart)))
+
+-- one branch more
+old_reached : (t : TableValue) (hs : List ℕ) (root : NestValue) (bs : List Branch) (b : Branch) (x old now : ℕ)
+    → ((y : ℕ) → count y (outer_members root.members bs) + count y b.outer.members ≤ 1) → now ≡ old
+    → (old ≡ FAR) ⊎ IsReached t hs root bs x old → (now ≡ FAR) ⊎ IsReached t hs root (bs ++ b ∷ []) x now
+old_reached t hs root bs b x old now once e (inl far) = inl (e ∙ far)
+old_reached t hs root bs b x old now once e (inr r) = inr (record {
+  a = r.a;
+  here = omega (arith, r.here, outer_members_push r.a root.members bs b);
+  apart = omega (arith, r.apart, around_append r.a x bs (b ∷ []), once r.a, r.here);
+  exact = e ∙ r.exact;
+})
+
+new_reached : (t : TableValue) (hs : List ℕ) (root : NestValue) (bs : List Branch) (b : Branch) (x old now : ℕ)
+    → ((y : ℕ) → count y (outer_members root.members bs) + count y b.outer.members ≤ 1) → count x b.outer.members ≡ 0
+    → (old ≡ FAR) ⊎ IsReached t hs root bs x old → (now ≡ old) ⊎ IsLeft t hs b.outer.members x now
+    → (now ≡ FAR) ⊎ IsReached t hs root (bs ++ b ∷ []) x now
+new_reached t hs root bs b x old now once none was (inl same) = old_reached t hs root bs b x old now once same was
+new_reached t hs root bs b x old now once none was (inr l) =
+    let out : count l.a (outer_members root.members bs) ≡ 0 = omega (arith, once l.a, l.here) in
+    inr (record {
+      a = l.a;
+      here = omega (arith, l.here, outer_members_push l.a root.members bs b);
+      apart = omega (
+        arith,
+        around_append l.a x bs (b ∷ []),
+        around_first l.a x root.members bs out,
+        base_in l.a root.members bs,
+        out,
+        none,
+      );
+      exact = l.exact;
+    })
+
+set_case : (n : ℕ) (t : TableValue) (hs : List ℕ) (root : NestValue) (bs : List Branch) (b : Branch) (reach new : List ℕ) (x : ℕ)
+    → count x b.outer.members ≡ n → ((y : ℕ) → count y (outer_members root.members bs) + count y b.outer.members ≤ 1) → x < t.places
+    → Reaches t hs root bs reach → TakesSet t hs b.outer.members reach new
+    → (get_or new x 0 ≡ FAR) ⊎ IsReached t hs root (bs ++ b ∷ []) x (get_or new x 0)
+set_case (suc n) t hs root bs b reach new x e once lx r k =
+    old_reached t hs root bs b x (get_or reach x 0) (get_or new x 0) once (k.kept x (omega (arith, e))) (r.is x lx)
+set_case zero t hs root bs b reach new x e once lx r k =
+    new_reached t hs root bs b x (get_or reach x 0) (get_or new x 0) once e (r.is x lx) (k.is x lx e)
+
+-- one outer set more
+set_reached : (t : TableValue) (hs : List ℕ) (root : NestValue) (bs : List Branch) (b : Branch) (reach new : List ℕ)
+    → ((y : ℕ) → count y (outer_members root.members bs) + count y b.outer.members ≤ 1)
+    → Reaches t hs root bs reach → TakesSet t hs b.outer.members reach new → Reaches t hs root (bs ++ b ∷ []) new
+set_reached t hs root bs b reach new once r k = record {
+  size = k.size ∙ r.size;
+  least = λ a x ha lx apart. set_least (count x b.outer.members) (count a b.outer.members) t hs root bs b reach new a x refl refl
+      (omega (arith, ha, outer_members_push a root.members bs b)) lx (omega (arith, apart, around_append a x bs (b ∷ []))) r k;
+  is = λ x lx. set_case (count x b.outer.members) t hs root bs b reach new x refl once lx r k;
+}
+
+once_here : (root : NestValue) (tree : List Branch) (i : ℕ) (b : Branch) → ((y : ℕ) → count y (outer_members root.members tree) ≤ 1)
+    → i < length tree → b ≡ get_or tree i b
+    → (y : ℕ) → count y (outer_members root.members (take i tree)) + count y b.outer.members ≤ 1
+once_here root tree i b once low is y =
+    let s = split_here tree i b low is in
+    omega (
+      arith,
+      once y,
+      ap (λ (ks : List Branch). count y (outer_members root.members ks)) s,
+      outer-append y root.members (take i tree) (b ∷ drop (i + 1) tree),
+      count-append y b.outer.members (outer_members [] (drop (i + 1) tree)),
+    )
+
+-- the branches so far and the next one
+pub reaches_next : (t : TableValue) (hs : List ℕ) (root : NestValue) (tree : List Branch) (i : ℕ) (b : Branch) (reach new : List ℕ)
+    → CanReach t hs root tree → i < length tree → b ≡ get_or tree i b → Reaches t hs root (take i tree) reach
+    → TakesSet t hs b.outer.members reach new → Reaches t hs root (take (i + 1) tree) new
+reaches_next t hs root tree i b reach new can low is r k =
+    subst (λ (ks : List Branch). Reaches t hs root ks new) (sym (take_here tree i b low is))
+    (set_reached t hs root (take i tree) b reach new (once_here root tree i b can.once low is) r k)
+
+last_is : (before : List Branch) (b d : Branch) → get_or (before ++ b ∷ []) (length before) d ≡ b
+last_is [] b d = refl
+last_is (c ∷ before) b d = last_is before b d
+
+-- the newest branch
+pub reaches_newest : (t : TableValue) (s : Search) (at : ℕ) (c : Branch) (reach new : List ℕ)
+    → CanReach t s.heights.items s.root s.tree.items → at + 1 ≡ length s.tree.items → c ≡ get_or s.tree.items at c
+    → TakesSet t s.heights.items c.outer.members reach new → ReachesMore t s reach new
+reaches_newest t s at c reach new can last is k = record {
+  more = λ before b e r.
+      let size : at ≡ length before = omega (arith, last, ap (λ (ks : List Branch). length ks) e, length-append before (b ∷ [])) in
+      let same : c ≡ b = is ∙ ap (λ (ks : List Branch). get_or ks at c) e ∙ ap (λ (n : ℕ). get_or (before ++ b ∷ []) n c) size
+      ∙ last_is before b c in
+      let once : (y : ℕ) → count y (outer_members s.root.members before) + count y b.outer.members ≤ 1 = λ y. omega (
+        arith,
+        can.once y,
+        ap (λ (ks : List Branch). count y (outer_members s.root.members ks)) e,
+        outer_members_push y s.root.members before b,
+      ) in
+      subst (λ (ks : List Branch). Reaches t s.heights.items s.root ks new) (sym e)
+      (set_reached t s.heights.items s.root before b reach new once r
+      (subst (λ (d : Branch). TakesSet t s.heights.items d.outer.members reach new) same k));
+}
 
 below_row : (p b a x : ℕ) → b < a → x < p → b * p + x < a * p
 below_row p b a x less lx =
@@ -186,10 +287,6 @@ rows_case t old new a b x size cells p (inr more) low lx =
 pub rows_more : (t : TableValue) (old new : List ℕ) (a : ℕ) → length old ≡ a * t.places → ((b x : ℕ) → b < a → x < t.places → get_or old (b * t.places + x) 0 ≡ entry t b x) → PushesRow t a old new →
     (b x : ℕ) → b < a + 1 → x < t.places → get_or new (b * t.places + x) 0 ≡ entry t b x
 rows_more t old new a size cells p b x low lx = rows_case t old new a b x size cells p (cases_lt b a) low lx
-
--- no branch yet
-pub crosses_start : (t : TableValue) (hs : List ℕ) (root : NestValue) (best : Change) → Crosses t hs root [] best best
-crosses_start t hs root best = record { less = omega arith; wide = λ a b ha hb apart. absurd (omega (arith, ha, hb, apart)); is = inl refl }
 
 -- the places of an outer set are outer places
 pub outer_within : (x : ℕ) (base : List ℕ) (tree : List Branch) (i : ℕ) (b : Branch) → i < length tree → b ≡ get_or tree i b → count x b.outer.members ≤ count x (outer_members base tree)

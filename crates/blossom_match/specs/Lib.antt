@@ -19,6 +19,7 @@ pub mod Searches
 pub mod Bounds
 pub mod Widths
 pub mod Reaches
+pub mod Aims
 pub mod Phases
 pub mod Prices
 pub mod Heights

@@ -3,6 +3,7 @@ use Rattle.std.specs.Prelude.{◌≡◌, ℕ, ◌+◌, ◌<◌, List, [], length
 use Rattle.blossom_match.specs.Rings.{single_of}
 use Rattle.blossom_match.specs.Searches.{size_of, Advances, Ends, IsStanding}
 use Rattle.blossom_match.specs.Bounds.{CanSearch}
+use Rattle.blossom_match.specs.Reaches.{SearchReaches}
 use Rattle.blossom_match.specs.TableValue.{TableValue}
 use Rattle.blossom_match.specs.declared.couples.Couple.{Couple}
 use Rattle.blossom_match.specs.declared.search.Search.{Search}
@@ -39,3 +40,8 @@ abbrev pub Goes : TableValue → Search → Stepped → Type 0
 Goes t s (More r) = CanSearch t r × (size_of r < size_of s) × (r.free.items ≡ s.free.items)
 Goes t s (Done r) = Stands t r.couples.items r.free.items r.heights.items
     × (length r.free.items + 1 ≡ length s.free.items)
+
+-- what is left for each place after the step
+abbrev pub StepReaches : TableValue → Stepped → List ℕ → Type 0
+StepReaches t (More r) reach = SearchReaches t r reach
+StepReaches t (Done r) reach = length reach ≡ t.places

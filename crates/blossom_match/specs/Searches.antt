@@ -1,5 +1,5 @@
 -- What holds between two steps of the search.
-use Rattle.std.specs.Prelude.{◌≡◌, ◌≢◌, ℕ, ◌+◌, ◌*◌, ◌<◌, ◌≤◌, List, drop, length, nat_lt, slice_index, if◌then◌else◌}
+use Rattle.std.specs.Prelude.{◌≡◌, ◌≢◌, ℕ, ◌+◌, ◌*◌, ◌<◌, ◌≤◌, List, [], ◌∷◌, ◌++◌, drop, length, nat_lt, slice_index, if◌then◌else◌}
 use Rattle.blossom_match.specs.Lists.{Each}
 use Rattle.blossom_match.specs.Bands.{bands, count, height, load}
 use Rattle.blossom_match.specs.Couples.{couple_members, couple_bands, IsJoined}
@@ -9,6 +9,7 @@ use Rattle.blossom_match.specs.Lays.{FirstComesApart}
 use Rattle.blossom_match.specs.TableValue.{TableValue}
 use Rattle.blossom_match.specs.Tables.{entry}
 use Rattle.blossom_match.specs.declared.couples.Couple.{Couple}
+use Rattle.blossom_match.specs.declared.branches.Branch.{Branch}
 use Rattle.blossom_match.specs.declared.search.Search.{Search}
 use Rattle.blossom_match.specs.declared.search.Standing.{Standing}
 use Rattle.blossom_match.specs.declared.search.Step.{Step}
@@ -96,6 +97,12 @@ pub record Advances (s : Search) (step : Step) (r : Search) : Type 0 where
   pub fewer : size_of r < size_of s
   pub free : r.free.items ≡ s.free.items
   pub heights : r.heights.items ≡ s.heights.items
+
+-- a branch more, below the same root
+pub record HangsOn (s r : Search) : Type 0 where
+  pub branch : Branch
+  pub tree : r.tree.items ≡ s.tree.items ++ branch ∷ []
+  pub root : r.root ≡ s.root
 
 -- the step ends the search
 pub record Ends (s : Search) (step : Step) (r : Standing) : Type 0 where

@@ -1,20 +1,21 @@
-ghost use Rattle.std.specs.Prelude.{◌≡◌, ◌≤◌, ◌+◌, ◌*◌, ◌<◌, ◌++◌, ◌∷◌, [], ℕ, length, slice_index, IfOk};
+ghost use Rattle.std.specs.Prelude.{◌≡◌, ◌≤◌, ◌<◌, ◌∷◌, [], ℕ, length, slice_index};
 ghost use Rattle.blossom_match.specs.Bands.{count};
 ghost use Rattle.blossom_match.specs.Couples.{couple_members};
-ghost use Rattle.blossom_match.specs.Tables.{entry};
-ghost use Rattle.blossom_match.specs.Bounds.{step_of, Bounds, CanCross, CanOffer, CanOfferAll, CanSearch, Crosses, Found, HasOuters, Narrows, NarrowsAt, Scans};
+ghost use Rattle.blossom_match.specs.Trees.{outer_members};
+ghost use Rattle.blossom_match.specs.Tables.{IsTable};
+ghost use Rattle.blossom_match.specs.Bounds.{holding, step_of, Bounds, CanSearch, Narrows, NarrowsAt};
 ghost use Rattle.blossom_match.specs.Searches.{height_at};
-ghost use Rattle.blossom_match.specs.Reaches.{change_of, left_by, IsLeft, Reaches, RowsAre};
+ghost use Rattle.blossom_match.specs.Reaches.{left_by, CanReach, IsReached, SearchReaches};
+ghost use Rattle.blossom_match.specs.Aims.{change_of, Aims, AimsAt, CanLead, LeadsTo, Leaves, LeavesIn};
 ghost use Rattle.blossom_match.specs.declared.least.Kind.TheVariants as kind;
+ghost use Rattle.blossom_match.specs.declared.reach.TheConstants.{FAR};
 
 use crate::branches::Branch;
 use crate::couples::Couple;
 use crate::nest::{Link, Nest};
-use crate::reach::{reach_of, take_in};
+use crate::reach::FAR;
 use crate::search::{Search, Step};
 use crate::table::DistTable;
-use design_model::Memory;
-use std::alloc::Global;
 
 /// A change of widths, in halves of a step, and what can be done after it.
 #[derive(Clone, Copy, Drop)]
@@ -31,65 +32,37 @@ enum Kind {
     Shrink,
 }
 
+/// A place that a link leads to, and the change of widths after which the link is tight.
+#[derive(Clone, Copy, Drop)]
+struct Aim {
+    by: u32,
+    kind: Kind,
+    to: u32,
+}
+
 /// The least change of widths after which a step can be done.
-pub fn least(alloc: Global, t: &DistTable, rows: &[u32], s: &Search) -> Result<Change, Memory>
+pub fn least(t: &DistTable, reach: &[u32], s: &Search) -> Change
+    requires table { IsTable t.now }
     requires can { CanSearch t.now s.now }
-    requires rows { RowsAre t.now rows.now }
-    ensures { IfOk result (λ c. Bounds t.now (height_at s.now) s.now c) }
+    requires reaches { SearchReaches t.now s.now reach.now }
+    ensures { Bounds t.now (height_at s.now) s.now result }
 {
-    least_at(alloc, t, rows, &s.heights, s)
+    least_at(t, &s.heights, reach, s)
 }
 
-fn least_at(
-    alloc: Global,
-    t: &DistTable,
-    rows: &[u32],
-    heights: &[u32],
-    s: &Search,
-) -> Result<Change, Memory>
+fn least_at(t: &DistTable, heights: &[u32], reach: &[u32], s: &Search) -> Change
+    requires table { IsTable t.now }
     requires can { CanSearch t.now s.now }
-    requires rows { RowsAre t.now rows.now }
+    requires reaches { SearchReaches t.now s.now reach.now }
     requires heights { heights.now ≡ s.now.heights.items }
-    ensures { IfOk result (λ c. Bounds t.now (height_at s.now) s.now c) }
+    ensures { Bounds t.now (height_at s.now) s.now result }
 {
-    let first = first_change(t, heights, s.root.members(), &s.free);
-    let Crossing {
-        outers,
-        reach,
-        best,
-    } = scan_outers(alloc, t, rows, heights, &s.root, &s.tree, first)?;
-    let coupled = members_coupled(alloc, &s.rest)?;
-    let grown = scan(t, heights, &reach, &outers, &coupled, Kind::Grow, best);
-    let met = scan(t, heights, &reach, &outers, &s.free, Kind::Meet, grown);
-    Ok(scan_rings(&s.tree, met))
-}
-
-/// The room between two places, in halves of a step.
-fn slack(t: &DistTable, heights: &[u32], a: u32, b: u32) -> u32
-    requires len { length heights.now ≡ t.now.places }
-    requires can { CanOffer t.now heights.now kind.Meet a b }
-    ensures { slice_index heights.now a + slice_index heights.now b + result ≡ 2 * entry t.now a b }
-{
-    2 * t.get(a, b) - heights[a as usize] - heights[b as usize]
-}
-
-/// The change that makes the link from the first outer place to the first free place tight.
-fn first_change(t: &DistTable, heights: &[u32], outer: &[u32], free: &[u32]) -> Change
-    requires len { length heights.now ≡ t.now.places }
-    requires some_outer { 1 ≤ length outer.now }
-    requires some_free { 1 ≤ length free.now }
-    requires can { CanOfferAll t.now heights.now kind.Meet outer.now free.now }
-    ensures { Found t.now heights.now kind.Meet outer.now free.now result }
-{
-    let link = Link {
-        from: outer[0],
-        to: free[0],
-    };
-    let by = slack(t, heights, link.from, link.to);
-    Change {
-        by,
-        step: Step::Meet(link),
-    }
+    let first = first_aim(heights, reach, &s.free);
+    let met = aim_at(heights, reach, &s.free, Kind::Meet, first);
+    let grown = aim_at_couples(heights, reach, &s.rest, met);
+    let crossed = aim_at_outers(heights, reach, &s.root, &s.tree, grown);
+    let change = change_to(t, heights, reach, &s.root, &s.tree, crossed);
+    scan_rings(&s.tree, change)
 }
 
 /// The change of widths that uses up the room.
@@ -114,126 +87,148 @@ fn step_for(kind: Kind, link: Link) -> Step
     }
 }
 
-/// The lesser of a change and the least one from the places to one place.
-fn offer(
-    t: &DistTable,
-    heights: &[u32],
-    reach: &[u32],
-    xs: &[u32],
-    to: u32,
-    kind: Kind,
-    best: Change,
-) -> Change
-    requires len { length heights.now ≡ t.now.places }
-    requires can { (a : ℕ) → 1 ≤ count a xs.now → CanOffer t.now heights.now kind a to }
-    requires some { 1 ≤ length xs.now }
-    requires reaches { Reaches t.now heights.now xs.now reach.now }
-    ensures { Scans t.now heights.now kind xs.now (to ∷ []) best result }
+/// An aim at the first free place.
+fn first_aim(heights: &[u32], reach: &[u32], free: &[u32]) -> Aim
+    requires cells { length heights.now ≡ length reach.now }
+    requires some { 1 ≤ length free.now }
+    requires within { (b : ℕ) → 1 ≤ count b free.now → b < length reach.now }
+    requires near { (b : ℕ) → 1 ≤ count b free.now → slice_index reach.now b < FAR }
+    ensures { AimsAt heights.now reach.now kind.Meet free.now result }
 {
-    let by = change_for(kind, reach[to as usize] - heights[to as usize]);
+    let to = free[0];
+    Aim {
+        by: reach[to as usize].saturating_sub(heights[to as usize]),
+        kind: Kind::Meet,
+        to,
+    }
+}
+
+/// The lesser of an aim and one at the place.
+fn nearer(heights: &[u32], reach: &[u32], to: u32, kind: Kind, best: Aim) -> Aim
+    requires cells { length heights.now ≡ length reach.now }
+    requires within { to < length reach.now }
+    ensures { Aims heights.now reach.now kind (to ∷ []) best result }
+{
+    let room = reach[to as usize];
+    if room >= FAR {
+        return best;
+    }
+    let by = change_for(kind, room.saturating_sub(heights[to as usize]));
     if by < best.by {
-        let from = nearest(t, heights, xs, to, reach[to as usize]);
-        Change {
-            by,
-            step: step_for(kind, Link { from, to }),
-        }
+        Aim { by, kind, to }
     } else {
         best
     }
 }
 
-/// The place that leaves so much for another.
-fn nearest(t: &DistTable, heights: &[u32], xs: &[u32], to: u32, room: u32) -> u32
-    requires len { length heights.now ≡ t.now.places }
-    requires can { (a : ℕ) → 1 ≤ count a xs.now → CanOffer t.now heights.now kind.Meet a to }
-    requires left { IsLeft t.now heights.now xs.now to room }
-    ensures here { 1 ≤ count result xs.now }
+/// The lesser of an aim and the nearest of the places.
+fn aim_at(heights: &[u32], reach: &[u32], ys: &[u32], kind: Kind, best: Aim) -> Aim
+    requires cells { length heights.now ≡ length reach.now }
+    requires within { (b : ℕ) → 1 ≤ count b ys.now → b < length reach.now }
+    ensures { Aims heights.now reach.now kind ys.now best result }
+{
+    let mut least = best;
+    for b in ys {
+        least = nearer(heights, reach, *b, kind, least);
+    }
+    least
+}
+
+/// The lesser of an aim and the nearest place of a couple.
+fn aim_at_couples(heights: &[u32], reach: &[u32], couples: &[Couple], best: Aim) -> Aim
+    requires cells { length heights.now ≡ length reach.now }
+    requires within { (b : ℕ) → 1 ≤ count b (couple_members couples.now) → b < length reach.now }
+    ensures { Aims heights.now reach.now kind.Grow (couple_members couples.now) best result }
+{
+    let mut least = best;
+    for c in couples {
+        let one = aim_at(heights, reach, c.first.members(), Kind::Grow, least);
+        least = aim_at(heights, reach, c.second.members(), Kind::Grow, one);
+    }
+    least
+}
+
+/// The lesser of an aim and the nearest outer place.
+fn aim_at_outers(heights: &[u32], reach: &[u32], root: &Nest, tree: &[Branch], best: Aim) -> Aim
+    requires cells { length heights.now ≡ length reach.now }
+    requires within { (b : ℕ) → 1 ≤ count b (outer_members root.now.members tree.now)
+        → b < length reach.now }
+    ensures { Aims heights.now reach.now kind.Shrink (outer_members root.now.members tree.now)
+        best result }
+{
+    let mut least = aim_at(heights, reach, root.members(), Kind::Shrink, best);
+    for b in tree {
+        least = aim_at(heights, reach, b.outer.members(), Kind::Shrink, least);
+    }
+    least
+}
+
+/// The change of an aim, with the link from an outer place that leaves so much.
+fn change_to(
+    t: &DistTable,
+    heights: &[u32],
+    reach: &[u32],
+    root: &Nest,
+    tree: &[Branch],
+    aim: Aim,
+) -> Change
+    requires { CanLead t.now heights.now root.now tree.now reach.now aim }
+    ensures { LeadsTo t.now heights.now root.now tree.now reach.now aim result }
+{
+    let from = nearest(t, heights, root, tree, aim.to, reach[aim.to as usize]);
+    Change {
+        by: aim.by,
+        step: step_for(aim.kind, Link { from, to: aim.to }),
+    }
+}
+
+/// The place of another outer set that leaves so much.
+fn nearest(t: &DistTable, heights: &[u32], root: &Nest, tree: &[Branch], to: u32, room: u32) -> u32
+    requires can { CanReach t.now heights.now root.now tree.now }
+    requires within { to < t.now.places }
+    requires reached { IsReached t.now heights.now root.now tree.now to room }
+    ensures here { 1 ≤ count result (outer_members root.now.members tree.now) }
+    ensures apart { holding result to root.now tree.now ≡ 0 }
     ensures exact { room ≡ left_by t.now heights.now result to }
 {
-    for a in xs {
-        if 2 * t.get(*a, to) - heights[*a as usize] == room {
-            return *a;
+    if let Some(a) = leaving(t, heights, root, to, room) {
+        return a;
+    }
+    for b in tree {
+        if let Some(a) = leaving(t, heights, &b.outer, to, room) {
+            return a;
         }
     }
     unreachable!()
 }
 
-/// The lesser of a change and the least one between two of the places.
-fn scan(
-    t: &DistTable,
-    heights: &[u32],
-    reach: &[u32],
-    xs: &[u32],
-    ys: &[u32],
-    kind: Kind,
-    best: Change,
-) -> Change
-    requires len { length heights.now ≡ t.now.places }
-    requires can { CanOfferAll t.now heights.now kind xs.now ys.now }
-    requires some { 1 ≤ length xs.now }
-    requires reaches { Reaches t.now heights.now xs.now reach.now }
-    ensures { Scans t.now heights.now kind xs.now ys.now best result }
+/// A place of the set that leaves so much, if the set doesn't hold the other place too.
+fn leaving(t: &DistTable, heights: &[u32], set: &Nest, to: u32, room: u32) -> Option<u32>
+    requires cells { length heights.now ≡ t.now.places }
+    requires within { (a : ℕ) → 1 ≤ count a set.now.members → a < t.now.places }
+    requires to_in { to < t.now.places }
+    ensures { Leaves t.now heights.now set.now to room result }
 {
-    let mut least = best;
-    for b in ys {
-        least = offer(t, heights, reach, xs, *b, kind, least);
+    if set.holds(to) {
+        None
+    } else {
+        first_leaving(t, heights, set.members(), to, room)
     }
-    least
 }
 
-/// The places of all outer sets, the least that they leave, and the least change so far.
-#[derive(Drop)]
-struct Crossing {
-    outers: Vec<u32>,
-    reach: Vec<u32>,
-    best: Change,
-}
-
-/// The lesser of a change and the least one between two outer sets.
-fn scan_outers(
-    alloc: Global,
-    t: &DistTable,
-    rows: &[u32],
-    heights: &[u32],
-    root: &Nest,
-    tree: &[Branch],
-    best: Change,
-) -> Result<Crossing, Memory>
-    requires len { length heights.now ≡ t.now.places }
-    requires rows { RowsAre t.now rows.now }
-    requires can { CanCross t.now heights.now root.now tree.now }
-    ensures crosses { IfOk result (λ r. Crosses t.now heights.now root.now tree.now best r.best) }
-    ensures outers { IfOk result (λ r. HasOuters root.now tree.now r.outers.items) }
-    ensures some { IfOk result (λ r. 1 ≤ length r.outers.items) }
-    ensures reaches { IfOk result (λ r. Reaches t.now heights.now r.outers.items r.reach.items) }
+/// The first of the places that leaves so much.
+fn first_leaving(t: &DistTable, heights: &[u32], xs: &[u32], to: u32, room: u32) -> Option<u32>
+    requires cells { length heights.now ≡ t.now.places }
+    requires within { (a : ℕ) → 1 ≤ count a xs.now → a < t.now.places }
+    requires to_in { to < t.now.places }
+    ensures { LeavesIn t.now heights.now xs.now to room result }
 {
-    let top = root.members();
-    let mut outers = Vec::new(alloc);
-    outers.extend_from_slice(top)?;
-    let mut reach = reach_of(alloc, t, rows, heights, top)?;
-    let mut least = best;
-    for b in tree {
-        let members = b.outer.members();
-        least = scan(t, heights, &reach, &outers, members, Kind::Shrink, least);
-        outers.extend_from_slice(members)?;
-        take_in(t, rows, heights, members, &mut reach);
+    for a in xs {
+        if (2 * t.get(*a, to)).saturating_sub(heights[*a as usize]) == room {
+            return Some(*a);
+        }
     }
-    Ok(Crossing {
-        outers,
-        reach,
-        best: least,
-    })
-}
-
-fn members_coupled(alloc: Global, couples: &[Couple]) -> Result<Vec<u32>, Memory>
-    ensures { IfOk result (λ xs. xs.items ≡ couple_members couples.now) }
-{
-    let mut members = Vec::new(alloc);
-    for c in couples {
-        members.extend_from_slice(c.first.members())?;
-        members.extend_from_slice(c.second.members())?;
-    }
-    Ok(members)
+    None
 }
 
 /// The lesser of a change and the least width of an inner ring.

@@ -2,11 +2,12 @@ ghost use Rattle.std.specs.Prelude.{◌≡◌, ◌≤◌, ◌<◌, ◌+◌, ◌+
 ghost use Rattle.blossom_match.specs.Tables.{IsMetric};
 ghost use Rattle.blossom_match.specs.Bounds.{CanSearch};
 ghost use Rattle.blossom_match.specs.Searches.{CanStep};
-ghost use Rattle.blossom_match.specs.Reaches.{RowsAre};
-ghost use Rattle.blossom_match.specs.Phases.{Begins, Goes, Leads, Stands};
+ghost use Rattle.blossom_match.specs.Reaches.{RowsAre, SearchReaches};
+ghost use Rattle.blossom_match.specs.Phases.{Begins, Goes, Leads, Stands, StepReaches};
 
 use crate::least::least;
 use crate::nest::single;
+use crate::reach::{lower_reach, reach_anew, reach_more};
 use crate::search::{Search, Standing, Step, expand_at, grow_to, meet, shrink_by};
 use crate::table::DistTable;
 use crate::widening::widen;
@@ -27,17 +28,21 @@ pub fn pair_up(
     rows: &[u32],
     place: u32,
     from: Standing,
+    reach: &mut [u32],
 ) -> Result<Standing, Memory>
     requires metric { IsMetric t.now }
     requires rows { RowsAre t.now rows.now }
-    requires stands { Stands t.now from.couples.items (from.free.items ++ place ∷ []) from.heights.items }
+    requires size { length reach.old ≡ t.now.places }
+    requires stands { Stands t.now from.couples.items
+        (from.free.items ++ place ∷ []) from.heights.items }
     requires some { 1 ≤ length from.free.items }
     ensures stands { IfOk result (λ r. Stands t.now r.couples.items r.free.items r.heights.items) }
     ensures fewer { IfOk result (λ r. length r.free.items + 1 ≡ length from.free.items) }
 {
     let mut now = begin(alloc, place, from)?;
+    reach_anew(alloc, t, rows, &now, reach)?;
     'steps: loop {
-        match advance(alloc, t, rows, now)? {
+        match advance(alloc, t, rows, now, reach)? {
             Stepped::More(next) => now = next,
             Stepped::Done(standing) => return Ok(standing),
         }
@@ -66,21 +71,41 @@ pub fn begin(alloc: Global, place: u32, from: Standing) -> Result<Search, Memory
 }
 
 /// Changes the widths as little as allows a step, and takes it.
-fn advance(alloc: Global, t: &DistTable, rows: &[u32], s: Search) -> Result<Stepped, Memory>
+fn advance(
+    alloc: Global,
+    t: &DistTable,
+    rows: &[u32],
+    s: Search,
+    reach: &mut [u32],
+) -> Result<Stepped, Memory>
     requires metric { IsMetric t.now }
     requires rows { RowsAre t.now rows.now }
     requires search { CanSearch t.now s }
-    ensures { IfOk result (λ r. Goes t.now s r) }
+    requires reaches { SearchReaches t.now s reach.old }
+    ensures goes { IfOk result (λ r. Goes t.now s r) }
+    ensures reaches { IfOk result (λ r. StepReaches t.now r reach.new) }
 {
-    let change = least(alloc, t, rows, &s)?;
+    let change = least(t, reach, &s);
     let wide = widen(alloc, s, change)?;
-    let next = take_step(alloc, wide, change.step)?;
+    lower_reach(change.by, reach);
+    let next = take_step(alloc, t, rows, wide, change.step, reach)?;
     Ok(next)
 }
 
-fn take_step(alloc: Global, s: Search, step: Step) -> Result<Stepped, Memory>
-    requires { CanStep s step }
-    ensures { IfOk result (λ r. Leads s step r) }
+fn take_step(
+    alloc: Global,
+    t: &DistTable,
+    rows: &[u32],
+    s: Search,
+    step: Step,
+    reach: &mut [u32],
+) -> Result<Stepped, Memory>
+    requires step { CanStep s step }
+    requires rows { RowsAre t.now rows.now }
+    requires cells { length s.heights.items ≡ t.now.places }
+    requires reaches { SearchReaches t.now s reach.old }
+    ensures leads { IfOk result (λ r. Leads s step r) }
+    ensures reaches { IfOk result (λ r. StepReaches t.now r reach.new) }
 {
     match step {
         Step::Meet(link) => {
@@ -89,14 +114,17 @@ fn take_step(alloc: Global, s: Search, step: Step) -> Result<Stepped, Memory>
         }
         Step::Grow(link) => {
             let grown = grow_to(s, link)?;
+            reach_more(alloc, t, rows, &grown, reach)?;
             Ok(Stepped::More(grown))
         }
         Step::Shrink(link) => {
             let shrunk = shrink_by(alloc, s, link)?;
+            reach_anew(alloc, t, rows, &shrunk, reach)?;
             Ok(Stepped::More(shrunk))
         }
         Step::Expand(at) => {
             let expanded = expand_at(alloc, s, at)?;
+            reach_anew(alloc, t, rows, &expanded, reach)?;
             Ok(Stepped::More(expanded))
         }
     }

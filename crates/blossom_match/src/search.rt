@@ -1,6 +1,6 @@
 ghost use Rattle.std.specs.Prelude.{◌≡◌, ◌≤◌, ◌<◌, ◌+◌, ℕ, length, slice_index, IfOk};
 ghost use Rattle.blossom_match.specs.Bands.{count, hit};
-ghost use Rattle.blossom_match.specs.Searches.{Advances, CanStep, Ends};
+ghost use Rattle.blossom_match.specs.Searches.{Advances, CanStep, Ends, HangsOn};
 ghost use Rattle.blossom_match.specs.declared.search.Step.TheVariants as step;
 
 use crate::branches::{Branch, augment, grow};
@@ -44,7 +44,8 @@ pub enum Step {
 /// Hangs the couple that the link leads to into the tree.
 pub fn grow_to(s: Search, link: Link) -> Result<Search, Memory>
     requires { CanStep s (step.Grow link) }
-    ensures { IfOk result (λ r. Advances s (step.Grow link) r) }
+    ensures advances { IfOk result (λ r. Advances s (step.Grow link) r) }
+    ensures hangs { IfOk result (λ r. HangsOn s r) }
 {
     let Search {
         root,

@@ -13,7 +13,8 @@ use std::alloc::Global;
 /// Widens the outer sets and narrows the inner ones, so that the step of the change can be done.
 pub fn widen(alloc: Global, s: Search, change: Change) -> Result<Search, Memory>
     requires { CanWiden s change }
-    ensures { IfOk result (λ r. Widens s change r) }
+    ensures widens { IfOk result (λ r. Widens s change r) }
+    ensures changes { IfOk result (λ r. Changes change.by s r) }
 {
     let changed = change_widths(alloc, s, change.by)?;
     Ok(changed)

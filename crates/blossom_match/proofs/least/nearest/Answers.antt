@@ -1,15 +1,46 @@
-use Rattle.std.proofs.Common.{arith, get_or}
-use Rattle.blossom_match.proofs.RaisedLemmas.{count_at}
+use Rattle.std.proofs.Common.{arith}
+use Rattle.blossom_match.proofs.TreeLemmas.{base_in}
+use Rattle.blossom_match.proofs.ReachLemmas.{outer_within}
+use Rattle.blossom_match.proofs.AimLemmas.{below_next, below_root, outer_apart, root_apart}
 use Rattle.blossom_match.proofs.least.nearest.Goals as goal
 
-pub get-requires-clause-a_in : goal.get-requires-clause-a_in
-get-requires-clause-a_in c = (c.requires.can (get_or c.args.xs.now c.loop-a.a-index 0) (count_at c.args.xs.now c.loop-a.a-index c.loop-a-test.true)).a_in
+pub leaving-requires-clause-within : goal.leaving-requires-clause-within
+leaving-requires-clause-within c = λ a ha.
+    c.requires.can.within a (omega (arith, ha, base_in a c.args.root.now.members c.args.tree.now))
 
-pub bounds-heights-a : goal.bounds-heights-a
-bounds-heights-a c = omega (arith, c.requires.len, (c.requires.can (get_or c.args.xs.now c.loop-a.a-index 0) (count_at c.args.xs.now c.loop-a.a-index c.loop-a-test.true)).a_in)
+pub returns-in-Some-clause-here : goal.returns-in-Some-clause-here
+returns-in-Some-clause-here c =
+    omega (arith, c.in-Some.ensures.1.here, base_in c.in-Some.a c.args.root.now.members c.args.tree.now)
 
-pub overflow_sub-get : goal.overflow_sub-get
-overflow_sub-get c = omega (arith, c.get.ensures.value, (c.requires.can (get_or c.args.xs.now c.loop-a.a-index 0) (count_at c.args.xs.now c.loop-a.a-index c.loop-a-test.true)).room)
+pub returns-in-Some-clause-apart : goal.returns-in-Some-clause-apart
+returns-in-Some-clause-apart c =
+    root_apart c.in-Some.a c.args.to c.args.root.now c.args.tree.now c.requires.can.once c.in-Some.ensures.1.here c.in-Some.ensures.0
 
-pub returns-then-get-heights-clause-here : goal.returns-then-get-heights-clause-here
-returns-then-get-heights-clause-here c = count_at c.args.xs.now c.loop-a.a-index c.loop-a-test.true
+pub loop-b-init : goal.loop-b-init
+loop-b-init c =
+    below_root c.args.t.now c.args.heights.now c.args.root.now c.args.tree.now c.args.to c.args.room c.requires.reached c.in_default.ensures
+
+pub leaving-requires-in-loop-b-clause-within : goal.leaving-requires-in-loop-b-clause-within
+leaving-requires-in-loop-b-clause-within c = λ a ha.
+    c.requires.can.within a (omega (
+      arith,
+      ha,
+      outer_within a c.args.root.now.members c.args.tree.now c.loop-b.b-index c.b-item.result c.loop-b-test.true c.b-item.is,
+    ))
+
+pub returns-in-Some-leaving-clause-here : goal.returns-in-Some-leaving-clause-here
+returns-in-Some-leaving-clause-here c = omega (
+  arith,
+  c.in-Some-leaving.ensures.1.here,
+  outer_within c.in-Some-leaving.a c.args.root.now.members c.args.tree.now c.loop-b.b-index c.b-item.result c.loop-b-test.true c.b-item.is,
+)
+
+pub returns-in-Some-leaving-clause-apart : goal.returns-in-Some-leaving-clause-apart
+returns-in-Some-leaving-clause-apart c =
+    outer_apart c.in-Some-leaving.a c.args.to c.args.root.now c.args.tree.now c.loop-b.b-index c.b-item.result c.requires.can.once
+    c.loop-b-test.true c.b-item.is c.in-Some-leaving.ensures.1.here c.in-Some-leaving.ensures.0
+
+pub loop-b-preserved : goal.loop-b-preserved
+loop-b-preserved c =
+    below_next c.args.t.now c.args.heights.now c.args.tree.now c.loop-b.b-index c.b-item.result c.args.to c.args.room c.loop-b-test.true
+    c.b-item.is c.loop-b.invariant c.in_default-leaving.ensures

@@ -1,7 +1,7 @@
 use Rattle.std.proofs.Common.{drop}
-use Rattle.blossom_match.specs.Reaches.{IsLeft}
+use Rattle.blossom_match.proofs.AimLemmas.{IsBelow}
 use Rattle.blossom_match.proofs.least.nearest.Given as goal
 
--- a place that is left is the one
-abbrev pub invariant-loop-a : goal.invariant-loop-a
-invariant-loop-a l = IsLeft l.t l.heights (drop l.a-index l.xs) l.to l.room
+-- a place of the branches that are left leaves so much
+abbrev pub invariant-loop-b : goal.invariant-loop-b
+invariant-loop-b l = IsBelow l.t l.heights (drop l.b-index l.tree) l.to l.room

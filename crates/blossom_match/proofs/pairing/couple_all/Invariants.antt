@@ -7,6 +7,7 @@ abbrev pub invariant-loop-place : goal.invariant-loop-place
 invariant-loop-place l = record {
   stands : Stands l.t l.now.couples.items l.now.free.items l.now.heights.items;
   even : length l.now.free.items % 2 ≡ 0;
+  size : length l.reach.items ≡ l.t.places;
 }
 
 abbrev pub decreases-loop-place : goal.decreases-loop-place

@@ -1,11 +1,16 @@
 use Rattle.std.proofs.Common.{◌≡◌}
 use Rattle.blossom_match.specs.Bounds.{CanSearch}
+use Rattle.blossom_match.specs.Reaches.{SearchReaches}
 use Rattle.blossom_match.specs.Searches.{size_of}
 use Rattle.blossom_match.proofs.phase.pair_up.Given as goal
 
--- a search that is not over
+-- a search that is not over, and what its outer places leave
 abbrev pub invariant-steps : goal.invariant-steps
-invariant-steps l = record { search : CanSearch l.t l.now; free : l.now.free.items ≡ l.fn.from.free.items }
+invariant-steps l = record {
+  search : CanSearch l.t l.now;
+  free : l.now.free.items ≡ l.fn.from.free.items;
+  reaches : SearchReaches l.t l.now l.reach;
+}
 
 abbrev pub decreases-steps : goal.decreases-steps
 decreases-steps l = size_of l.now

@@ -10,5 +10,5 @@ change_widths-requires-clause-tree c = (can_widen c.args.s c.args.change c.requi
 pub change_widths-requires-clause-heights : goal.change_widths-requires-clause-heights
 change_widths-requires-clause-heights c = (can_widen c.args.s c.args.change c.requires).2
 
-pub returns : goal.returns
-returns c = widens c.args.s c.in_ok-changed.changed c.args.change c.in_ok-changed.ensures
+pub returns-clause-widens : goal.returns-clause-widens
+returns-clause-widens c = widens c.args.s c.in_ok-changed.changed c.args.change c.in_ok-changed.ensures

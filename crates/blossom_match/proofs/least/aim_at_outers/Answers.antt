@@ -1,0 +1,33 @@
+use Rattle.std.proofs.Common.{arith, List, ℕ, ap, subst}
+use Rattle.blossom_match.specs.Bands.{count}
+use Rattle.blossom_match.specs.Aims.{Aims}
+use Rattle.blossom_match.specs.declared.least.Kind.TheVariants as kind
+use Rattle.blossom_match.proofs.TreeLemmas.{base_in}
+use Rattle.blossom_match.proofs.ReachLemmas.{outer_within}
+use Rattle.blossom_match.proofs.AimLemmas.{aims_outer}
+use Rattle.blossom_match.proofs.least.aim_at_outers.Goals as goal
+
+pub aim_at-least-requires-clause-within : goal.aim_at-least-requires-clause-within
+aim_at-least-requires-clause-within c = λ b hb.
+    c.requires.within b (omega (
+      arith,
+      hb,
+      ap (λ (ks : List ℕ). count b ks) c.members.ensures,
+      base_in b c.args.root.now.members c.args.tree.now,
+    ))
+
+pub aim_at-least-requires-in-loop-b-clause-within : goal.aim_at-least-requires-in-loop-b-clause-within
+aim_at-least-requires-in-loop-b-clause-within c = λ b hb.
+    c.requires.within b (omega (
+      arith,
+      hb,
+      ap (λ (ks : List ℕ). count b ks) c.members-in-loop-b.ensures,
+      outer_within b c.args.root.now.members c.args.tree.now c.loop-b.b-index c.b-item.result c.loop-b-test.true c.b-item.is,
+    ))
+
+pub loop-b-preserved : goal.loop-b-preserved
+loop-b-preserved c =
+    aims_outer c.args.heights.now c.args.reach.now kind.Shrink c.args.root.now.members c.args.tree.now c.loop-b.b-index c.b-item.result
+    c.args.best c.loop-b.least c.aim_at-least-in-loop-b.result c.loop-b-test.true c.b-item.is c.loop-b.invariant
+    (subst (λ (ks : List ℕ). Aims c.args.heights.now c.args.reach.now kind.Shrink ks c.loop-b.least c.aim_at-least-in-loop-b.result)
+    c.members-in-loop-b.ensures c.aim_at-least-in-loop-b.ensures)

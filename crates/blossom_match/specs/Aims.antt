@@ -1,0 +1,85 @@
+-- The place to which a link becomes tight by the least change of widths.
+use Rattle.std.specs.Prelude.{◌≡◌, ℕ, ◌-◌, ◌/◌, ◌<◌, ◌≤◌, ◌⊎◌, List, Option, Some, None, slice_index}
+use Rattle.blossom_match.specs.Bands.{NestValue, count}
+use Rattle.blossom_match.specs.Couples.{couple_members}
+use Rattle.blossom_match.specs.Trees.{outer_members}
+use Rattle.blossom_match.specs.Bounds.{holding, step_of}
+use Rattle.blossom_match.specs.Reaches.{left_by, CanReach, IsLeft, Reaches}
+use Rattle.blossom_match.specs.Searches.{outers}
+use Rattle.blossom_match.specs.TableValue.{TableValue}
+use Rattle.blossom_match.specs.declared.branches.Branch.{Branch}
+use Rattle.blossom_match.specs.declared.search.Search.{Search}
+use Rattle.blossom_match.specs.declared.least.Aim.{Aim}
+use Rattle.blossom_match.specs.declared.least.Change.{Change}
+use Rattle.blossom_match.specs.declared.least.Kind.{Kind}
+use Rattle.blossom_match.specs.declared.least.Kind.TheVariants as kind
+use Rattle.blossom_match.specs.declared.reach.TheConstants.{FAR}
+
+-- the change of widths that uses up the room
+abbrev pub change_of : Kind → ℕ → ℕ
+change_of kind.Meet room = room
+change_of kind.Grow room = room
+change_of kind.Shrink room = room / 2
+
+-- the change that uses up what is left for the place above its height
+abbrev pub change_at : List ℕ → List ℕ → Kind → ℕ → ℕ
+change_at hs reach k b = change_of k (slice_index reach b - slice_index hs b)
+
+-- an aim at one of the places
+pub record AimsAt (hs reach : List ℕ) (k : Kind) (ys : List ℕ) (aim : Aim) : Type 0 where
+  pub kind : aim.kind ≡ k
+  pub there : 1 ≤ count aim.to ys
+  pub near : slice_index reach aim.to < FAR
+  pub by : aim.by ≡ change_at hs reach k aim.to
+
+-- the lesser of an aim and the nearest of the places
+pub record Aims (hs reach : List ℕ) (k : Kind) (ys : List ℕ) (old new : Aim) : Type 0 where
+  pub less : new.by ≤ old.by
+  pub wide : (b : ℕ) → 1 ≤ count b ys → slice_index reach b < FAR
+      → new.by ≤ change_at hs reach k b
+  pub is : (new ≡ old) ⊎ AimsAt hs reach k ys new
+
+-- outer places reach the aim
+pub record CanLead (t : TableValue) (hs : List ℕ) (root : NestValue) (tree : List Branch)
+    (reach : List ℕ) (aim : Aim) : Type 0 where
+  pub can : CanReach t hs root tree
+  pub reaches : Reaches t hs root tree reach
+  pub within : aim.to < t.places
+  pub near : slice_index reach aim.to < FAR
+
+-- the change whose step is a link from an outer place that leaves so much
+pub record LeadsTo (t : TableValue) (hs : List ℕ) (root : NestValue) (tree : List Branch)
+    (reach : List ℕ) (aim : Aim) (c : Change) : Type 0 where
+  pub from : ℕ
+  pub here : 1 ≤ count from (outer_members root.members tree)
+  pub apart : holding from aim.to root tree ≡ 0
+  pub exact : slice_index reach aim.to ≡ left_by t hs from aim.to
+  pub by : c.by ≡ aim.by
+  pub step : c.step ≡ step_of aim.kind (record { from = from; to = aim.to })
+
+-- the place is one of those and leaves so much for x
+pub record LeavesAt (t : TableValue) (hs xs : List ℕ) (x room a : ℕ) : Type 0 where
+  pub here : 1 ≤ count a xs
+  pub exact : room ≡ left_by t hs a x
+
+-- one of the places that leaves so much, where there is one
+abbrev pub LeavesIn : TableValue → List ℕ → List ℕ → ℕ → ℕ → Option ℕ → Type 0
+LeavesIn t hs xs x room (Some a) = LeavesAt t hs xs x room a
+LeavesIn t hs xs x room None = IsLeft t hs xs x room → ⊥
+
+-- one of the set's places that leaves so much, where there is one and the set doesn't hold x
+abbrev pub Leaves : TableValue → List ℕ → NestValue → ℕ → ℕ → Option ℕ → Type 0
+Leaves t hs s x room (Some a) = (count x s.members ≡ 0) × LeavesAt t hs s.members x room a
+Leaves t hs s x room None = count x s.members ≡ 0 → IsLeft t hs s.members x room → ⊥
+
+-- the places that a link of the kind leads to
+abbrev pub goals : Search → Kind → List ℕ
+goals s kind.Meet = s.free.items
+goals s kind.Grow = couple_members s.rest.items
+goals s kind.Shrink = outers s
+
+-- an aim at one of the places that its kind leads to
+pub record IsAimed (s : Search) (hs reach : List ℕ) (aim : Aim) : Type 0 where
+  pub there : 1 ≤ count aim.to (goals s aim.kind)
+  pub near : slice_index reach aim.to < FAR
+  pub by : aim.by ≡ change_at hs reach aim.kind aim.to
