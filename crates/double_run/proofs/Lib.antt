@@ -1,0 +1,8 @@
+mod LineLemmas
+mod EndLemmas
+mod MetLemmas
+mod CursorLemmas
+mod OutingLemmas
+mod HomeLemmas
+mod StepLemmas
+mod DoubleFacts

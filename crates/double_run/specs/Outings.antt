@@ -1,0 +1,144 @@
+-- A double walk in the making.
+use Rattle.std.specs.Prelude.{◌≡◌, ℕ, ◌+◌, ◌*◌, ◌/◌, ◌<◌, ◌==◌, ◌&&◌, ◌||◌, Bool, true, false, not, List, [], ◌∷◌, ◌++◌, Option, Some, Result, Ok, Err, length, get_or, slice_get, nat_lt, sum_by}
+use Rattle.design_model.specs.declared.memory.Memory.{Memory}
+use Rattle.line_graph.specs.declared.edge.Edge.{Edge}
+use Rattle.line_graph.specs.declared.pass.Pass.{Pass}
+use Rattle.line_graph.specs.PieceGraphs.{PieceValue, bit}
+use Rattle.line_graph.specs.Pieces.{first_line}
+use Rattle.line_graph.specs.PieceWalks.{BeginsWith, end_of, start_of, walk_on}
+use Rattle.double_run.specs.declared.legs.Leg.{Leg}
+use Rattle.double_run.specs.declared.outing.Outing.{Outing}
+use Rattle.double_run.specs.DoubleWalks.{times}
+use Rattle.double_run.specs.LineEnds.{AreReady}
+
+-- the pass along a leg
+abbrev pub pass_along : List ℕ → Leg → Pass
+pass_along lines leg = record { line = get_or lines leg.place 0; back = leg.back }
+
+-- the pass back along it
+abbrev pub pass_home : List ℕ → Leg → Pass
+pass_home lines leg = record { line = get_or lines leg.place 0; back = not leg.back }
+
+-- the way home: back along the last leg first
+abbrev pub way_home : List ℕ → List Leg → List Pass
+way_home lines [] = []
+way_home lines (leg ∷ out) = way_home lines out ++ pass_home lines leg ∷ []
+
+-- one of the two ends of the line is that junction
+abbrev pub touches : Edge → ℕ → Bool
+touches e j = e.a == j || e.b == j
+
+-- some line that is passed ends at the junction
+abbrev pub is_met : List Bool → List Edge → ℕ → Bool
+is_met [] edges j = false
+is_met (p ∷ passed) [] j = false
+is_met (p ∷ passed) (e ∷ edges) j = (p && touches e j) || is_met passed edges j
+
+-- all lines that end at the junction are passed
+abbrev pub is_spent : List Bool → List Edge → ℕ → Bool
+is_spent [] edges j = true
+is_spent (p ∷ passed) [] j = true
+is_spent (p ∷ passed) (e ∷ edges) j = (p || not (touches e j)) && is_spent passed edges j
+
+-- the line at a place
+abbrev pub edge_at : List Edge → ℕ → Edge
+edge_at edges place = get_or edges place (record { a = 0; b = 0; cost = 0 })
+
+-- one of the legs leads from that junction
+abbrev pub is_on_way : List Edge → List Leg → ℕ → Bool
+is_on_way edges [] j = false
+is_on_way edges (leg ∷ out) j = start_of (edge_at edges leg.place) leg.back == j || is_on_way edges out j
+
+-- each leg is one of so many lines
+abbrev pub are_there : ℕ → List Leg → Bool
+are_there n [] = true
+are_there n (leg ∷ out) = nat_lt leg.place n && are_there n out
+
+-- the leg is a line that isn't passed, and leads from that junction
+pub record LeadsFrom (edges : List Edge) (passed : List Bool) (at : ℕ) (leg : Leg) : Type 0 where
+  pub edge : Edge
+  pub there : slice_get edges leg.place ≡ Some edge
+  pub starts : start_of edge leg.back ≡ at
+  pub left : slice_get passed leg.place ≡ Some false
+
+-- the walk leads to `at`, and the way home from there to where it began; the two together pass the lines
+-- that are passed once in each direction, and no others; and each junction that was met is spent, or lies
+-- on the way home
+pub record Keeps (lines : List ℕ) (edges : List Edge) (walk : List Pass) (out : List Leg)
+    (passed : List Bool) (root at : ℕ) : Type 0 where
+  pub beside : length passed ≡ length edges
+  pub led : walk_on lines edges (Some root) walk ≡ Some at
+  pub home : walk_on lines edges (Some at) (way_home lines out) ≡ Some root
+  pub legs : are_there (length edges) out ≡ true
+  pub counted : (k : ℕ) (way : Bool) → k < length lines
+      → times (get_or lines k 0) way walk + times (get_or lines k 0) way (way_home lines out)
+      ≡ bit (get_or passed k false)
+  pub spent : (j : ℕ) → is_met passed edges j ≡ true → (at == j) ≡ false
+      → is_on_way edges out j ≡ false → is_spent passed edges j ≡ true
+
+-- where the first line begins
+abbrev pub root_of : List Edge → ℕ
+root_of [] = 0
+root_of (e ∷ edges) = e.a
+
+-- the same of an outing over a piece
+abbrev pub KeepsOuting : PieceValue → Outing → Type 0
+KeepsOuting p o = Keeps p.lines p.edges o.walk o.out.items o.passed.items (root_of p.edges) o.at
+
+-- its chains and its cursors
+abbrev pub IsReady : PieceValue → Outing → Type 0
+IsReady p o =
+    AreReady p.edges (length p.junctions) o.passed.items o.ends.last.items o.ends.before.items o.at
+
+-- both, and it began with the first line
+pub record IsOuting (p : PieceValue) (o : Outing) : Type 0 where
+  pub keeps : KeepsOuting p o
+  pub ready : IsReady p o
+  pub begins : BeginsWith (first_line p.lines) o.walk
+  pub first : get_or o.passed.items 0 false ≡ true
+
+-- how many lines aren't passed
+abbrev pub count_left : List Bool → ℕ
+count_left [] = 0
+count_left (p ∷ passed) = bit (not p) + count_left passed
+
+-- what falls with each step
+abbrev pub rank : Outing → ℕ
+rank o =
+    (2 * count_left o.passed.items + length o.out.items) + sum_by (λ n. n) o.ends.last.items
+
+-- the outing is kept, what it began with stays, and what was passed is passed
+pub record GoesOn (p : PieceValue) (old new : Outing) : Type 0 where
+  pub keeps : KeepsOuting p new
+  pub ready : IsReady p new
+  pub begins : BeginsWith (first_line p.lines) old.walk → BeginsWith (first_line p.lines) new.walk
+  pub first : get_or old.passed.items 0 false ≡ true → get_or new.passed.items 0 false ≡ true
+
+-- a step was made
+pub record IsStep (p : PieceValue) (old new : Outing) : Type 0 where
+  pub on : GoesOn p old new
+  pub less : rank new < rank old
+
+-- it went out along that leg
+pub record GoesOut (p : PieceValue) (old new : Outing) (leg : Leg) : Type 0 where
+  pub made : IsStep p old new
+  pub walk : new.walk ≡ old.walk ++ pass_along p.lines leg ∷ []
+  pub marked : get_or new.passed.items leg.place false ≡ true
+
+-- at the junction the end is left behind, whatever the piece, where its line is passed
+abbrev pub PassesOver : ℕ → Outing → Outing → Type 0
+PassesOver end old new = (p : PieceValue) → KeepsOuting p old → IsReady p old
+    → get_or old.ends.last.items old.at 0 ≡ end + 1
+    → get_or old.passed.items (end / 2) false ≡ true → IsStep p old new
+
+-- it is home, and nothing is left there
+pub record IsHome (p : PieceValue) (old new : Outing) : Type 0 where
+  pub on : GoesOn p old new
+  pub empty : new.out.items ≡ []
+  pub spent : is_spent new.passed.items p.edges new.at ≡ true
+
+-- whether a step was made
+abbrev pub Steps : PieceValue → Outing → Outing → Result Bool Memory → Type 0
+Steps p old new (Ok true) = IsStep p old new
+Steps p old new (Ok false) = IsHome p old new
+Steps p old new (Err e) = Unit {0}

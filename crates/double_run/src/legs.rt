@@ -1,0 +1,60 @@
+ghost use Rattle.std.specs.Prelude.{◌≡◌, ◌/◌, ◌<◌, length, not};
+ghost use Rattle.double_run.specs.Outings.{pass_along};
+ghost use Rattle.line_graph.specs.PieceGraphs.{is_odd};
+ghost use Rattle.line_graph.specs.PieceWalks.{end_of, start_of};
+
+use line_graph::{Edge, Pass};
+
+/// A line by its place among those of a piece, forwards or backwards.
+#[derive(Clone, Copy)]
+pub struct Leg {
+    pub place: u32,
+    pub back: bool,
+}
+
+impl Leg {
+    /// The same line the other way.
+    pub fn turned(self) -> Leg
+        ensures { result ≡ record { place = self.place; back = not self.back } }
+    {
+        Leg {
+            place: self.place,
+            back: !self.back,
+        }
+    }
+
+    /// The pass along it.
+    pub fn pass(self, lines: &[u32]) -> Pass
+        requires { self.place < length lines.now }
+        ensures { result ≡ pass_along lines.now self }
+    {
+        Pass {
+            line: lines[self.place as usize],
+            back: self.back,
+        }
+    }
+}
+
+/// The line with that end, from there.
+pub fn leg_from(end: u32) -> Leg
+    ensures { result ≡ record { place = end / 2; back = is_odd end } }
+{
+    Leg {
+        place: end / 2,
+        back: end % 2 == 1,
+    }
+}
+
+/// Where a line begins, passed that way.
+pub fn start_of_leg(edge: Edge, back: bool) -> u32
+    ensures { result ≡ start_of edge back }
+{
+    if back { edge.b } else { edge.a }
+}
+
+/// Where it ends.
+pub fn end_of_leg(edge: Edge, back: bool) -> u32
+    ensures { result ≡ end_of edge back }
+{
+    if back { edge.a } else { edge.b }
+}

@@ -1,0 +1,9 @@
+//! Walks that sew each line of a piece once in each direction, as reversible work is sewn.
+#![tactic(auto)]
+
+mod double_walk;
+mod legs;
+mod line_ends;
+mod outing;
+
+pub use double_walk::double;

@@ -1,0 +1,108 @@
+ghost use Rattle.std.specs.Prelude.{◌≡◌, ◌<◌, [], IfOk, OnOk, false, true, length};
+ghost use Rattle.double_run.specs.Outings.{GoesOut, IsOuting, IsReady, KeepsOuting, LeadsFrom, PassesOver, Steps, is_spent};
+ghost use Rattle.line_graph.specs.CutPieces.{graph_of};
+
+use crate::legs::{Leg, end_of_leg, leg_from, start_of_leg};
+use crate::line_ends::{LineEnds, chain, put_number};
+use design_model::Memory;
+use line_graph::{Piece, Walk};
+use std::alloc::Global;
+
+/// A double walk in the making: the walk so far, which leads to `at`; the legs that it went out and
+/// is to come back, the last of them last; and which lines it passed. `ends.last` goes back over the
+/// ends at each junction, past those whose lines are passed.
+#[derive(Drop)]
+pub struct Outing {
+    pub walk: Walk,
+    ends: LineEnds,
+    out: Vec<Leg>,
+    passed: Vec<bool>,
+    at: u32,
+}
+
+/// An outing that went out along the first line, forwards.
+pub fn set_out(alloc: Global, p: &Piece) -> Result<Outing, Memory>
+    ensures { IfOk result (IsOuting (graph_of p.now)) }
+{
+    let mut o = at_the_start(alloc, p)?;
+    let first = Leg {
+        place: 0,
+        back: false,
+    };
+    go_out(&mut o, p, first)?;
+    Ok(o)
+}
+
+/// Goes out along a line that isn't passed, or leaves an end behind, or comes back along the last
+/// line. Answers whether there was anything to do.
+pub fn step(o: &mut Outing, p: &Piece) -> Result<bool, Memory>
+    requires keeps { KeepsOuting (graph_of p.now) o.old }
+    requires ready { IsReady (graph_of p.now) o.old }
+    ensures { Steps (graph_of p.now) o.old o.new result }
+{
+    let number = o.ends.last[o.at as usize];
+    if number == 0 {
+        return come_back(o, p);
+    }
+    let leg = leg_from(number - 1);
+    if o.passed[leg.place as usize] {
+        pass_over(o, number - 1);
+        return Ok(true);
+    }
+    go_out(o, p, leg)?;
+    Ok(true)
+}
+
+/// An outing that passed nothing, where the first line begins.
+fn at_the_start(alloc: Global, p: &Piece) -> Result<Outing, Memory>
+    ensures keeps { IfOk result (KeepsOuting (graph_of p.now)) }
+    ensures ready { IfOk result (IsReady (graph_of p.now)) }
+    ensures first { IfOk result (λ o. LeadsFrom p.now.edges o.passed.items o.at (record { place = 0; back = false })) }
+    ensures blank { IfOk result (λ o. o.walk ≡ []) }
+{
+    Ok(Outing {
+        walk: Walk::new(alloc),
+        ends: chain(alloc, p.edges.as_slice(), p.junctions.len())?,
+        out: Vec::new(alloc),
+        passed: vec![in alloc; false; p.edges.len()]?,
+        at: p.edges.as_slice()[0].a,
+    })
+}
+
+/// Goes out along a line that leads from where the outing is.
+fn go_out(o: &mut Outing, p: &Piece, leg: Leg) -> Result<(), Memory>
+    requires keeps { KeepsOuting (graph_of p.now) o.old }
+    requires ready { IsReady (graph_of p.now) o.old }
+    requires leads { LeadsFrom p.now.edges o.old.passed.items o.old.at leg }
+    ensures { OnOk result (GoesOut (graph_of p.now) o.old o.new leg) }
+{
+    o.walk.push(leg.pass(p.lines.as_slice()))?;
+    o.out.push(leg)?;
+    o.passed[leg.place as usize] = true;
+    o.at = end_of_leg(p.edges.as_slice()[leg.place as usize], leg.back);
+    Ok(())
+}
+
+/// Leaves an end behind whose line is passed.
+fn pass_over(o: &mut Outing, end: u32)
+    requires junction { o.old.at < length o.old.ends.last.items }
+    requires end { end < length o.old.ends.before.items }
+    ensures { PassesOver end o.old o.new }
+{
+    put_number(&mut o.ends.last, o.at, o.ends.before[end as usize]);
+}
+
+/// Comes back along the last line that the outing went out, if there is one.
+fn come_back(o: &mut Outing, p: &Piece) -> Result<bool, Memory>
+    requires keeps { KeepsOuting (graph_of p.now) o.old }
+    requires ready { IsReady (graph_of p.now) o.old }
+    requires spent { is_spent o.old.passed.items p.now.edges o.old.at ≡ true }
+    ensures { Steps (graph_of p.now) o.old o.new result }
+{
+    let Some(leg) = o.out.pop() else {
+        return Ok(false);
+    };
+    o.walk.push(leg.turned().pass(p.lines.as_slice()))?;
+    o.at = start_of_leg(p.edges.as_slice()[leg.place as usize], leg.back);
+    Ok(true)
+}
