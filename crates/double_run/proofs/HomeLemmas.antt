@@ -1,20 +1,20 @@
 -- How an outing begins, and that its walk is double once it is home.
-use Rattle.std.proofs.Common.{◌≡◌, ◌≤◌, ◌<◌, ℕ, zero, suc, ◌+◌, ◌==◌, ◌&&◌, ◌||◌, Bool, true, false, nat_lt, List, [], ◌∷◌, ◌++◌, length, get_or, replicate, slice_get, Option, Some, None, All, arith, refl, sym, ap, ◌∙◌, subst}
+use Rattle.std.proofs.Common.{◌≡◌, ◌≤◌, ◌<◌, ℕ, zero, suc, ◌+◌, ◌*◌, ◌==◌, ◌&&◌, ◌||◌, Bool, true, false, nat_lt, List, [], ◌∷◌, ◌++◌, length, get_or, replicate, slice_get, Option, Some, None, All, arith, refl, sym, ap, ◌∙◌, subst}
 use Rattle.std.proofs.lemmas.Bool.{and_parts}
 use Rattle.std.proofs.lemmas.Bool.Decides.{nat_tests}
-use Rattle.std.proofs.lemmas.List.Elements.{All-from_get_or}
+use Rattle.std.proofs.lemmas.List.Elements.{All-from_get_or, All-get_or}
 use Rattle.std.proofs.lemmas.List.{length-replicate}
 use Rattle.line_graph.specs.declared.edge.Edge.{Edge}
 use Rattle.line_graph.specs.declared.pass.Pass.{Pass}
 use Rattle.line_graph.specs.KeptPieces.{KeepsPiece}
 use Rattle.line_graph.specs.PieceGraphs.{PieceValue, bit}
 use Rattle.line_graph.specs.Pieces.{first_line}
-use Rattle.line_graph.specs.PieceWalks.{BeginsWith, edge_of, edge_start, first_start, walk_on}
-use Rattle.double_run.specs.DoubleWalks.{GoesBothWays, IsDouble, times}
-use Rattle.double_run.specs.Outings.{Keeps, LeadsFrom, is_met, is_spent, root_of}
+use Rattle.line_graph.specs.PieceWalks.{BeginsWith, covers, first_start, fits, leads, passed, piece_cost, walk_cost, walk_on}
+use Rattle.double_run.specs.DoubleWalks.{GoesBothWays, IsDouble, same_way, times, unbound}
+use Rattle.double_run.specs.Outings.{Keeps, LeadsFrom, is_met, is_spent, passed_cost, root_of}
 use Rattle.double_run.proofs.EndLemmas.{ends_are_below}
-use Rattle.double_run.proofs.LineLemmas.{edge_found, same, some_same}
-use Rattle.double_run.proofs.MetLemmas.{passed_meets, spent_passes, touches_a, touches_b}
+use Rattle.double_run.proofs.LineLemmas.{edge_found, eq_self, same, some_same}
+use Rattle.double_run.proofs.MetLemmas.{cost_all, passed_meets, spent_passes, touches_a, touches_b}
 
 -- nothing is met where nothing is passed
 none_met : (n : ℕ) (edges : List Edge) (j : ℕ) → is_met (replicate n false) edges j ≡ false
@@ -27,6 +27,13 @@ none_passed zero k = refl
 none_passed (suc n) zero = refl
 none_passed (suc n) (suc k) = none_passed n k
 
+none_costs : (edges : List Edge) → passed_cost (replicate (length edges) false) edges ≡ 0
+none_costs [] = refl
+none_costs (e ∷ edges) = none_costs edges
+
+costs_none : (edges : List Edge) → 0 + 0 ≡ 2 * passed_cost (replicate (length edges) false) edges
+costs_none edges = rw (none_costs edges) refl
+
 -- an outing that passed nothing
 pub begins_kept : (lines : List ℕ) (edges : List Edge) (root : ℕ)
     → Keeps lines edges [] [] (replicate (length edges) false) root root
@@ -36,6 +43,7 @@ begins_kept lines edges root = record {
   home = refl;
   legs = refl;
   counted = λ k. λ way. λ below. ap bit (sym (none_passed (length edges) k));
+  sums = costs_none edges;
   spent = λ j. λ met. absurd (no_way j met);
 }
   where
@@ -78,34 +86,23 @@ equal_tests true t to from = sym (to refl)
 equal_tests false true to from = from refl
 equal_tests false false to from = refl
 
--- the walk of an outing that is home
-pub home_double : (p : PieceValue) (walk : List Pass) (passed : List Bool) (at : ℕ) → KeepsPiece p
-    → Keeps p.lines p.edges walk [] passed (root_of p.edges) at → is_spent passed p.edges at ≡ true
-    → BeginsWith (first_line p.lines) walk → get_or passed 0 false ≡ true
-    → IsDouble p walk
-home_double p walk passed at kept k stuck begins first = record {
-  closed = closes walk begins k.led;
-  each = All-from_get_or (GoesBothWays walk) p.lines 0 goes;
-  begins = begins;
-}
-  where
-    is_root : at ≡ root_of p.edges
-    is_root = some_same at (root_of p.edges) k.home
+-- a walk that begins with the first line starts at the root
+starts_first : (p : PieceValue) (walk : List Pass) → KeepsPiece p → BeginsWith (first_line p.lines) walk
+    → first_start p.lines p.edges walk ≡ Some (root_of p.edges)
+starts_first p [] kept begins = absurd begins
+starts_first p (x ∷ rest) kept begins =
+    let e = edge_there p.edges 0 (omega (arith, kept.some, kept.beside)) in
+    rw (begins, first_is p.lines, edge_found p.lines p.edges 0 e.0 kept.rising kept.some e.1)
+    (ap (λ (n : ℕ). Some n) (sym (root_is p.edges e.0 e.1)))
 
+-- an outing that is home passed all lines
+home_passed : (p : PieceValue) (walk : List Pass) (passed : List Bool) (at : ℕ) → KeepsPiece p
+    → Keeps p.lines p.edges walk [] passed (root_of p.edges) at → is_spent passed p.edges at ≡ true
+    → get_or passed 0 false ≡ true → (i : ℕ) → i < length p.edges → get_or passed i false ≡ true
+home_passed p walk passed at kept k stuck first = all_passed
+  where
     e0 : (e : Edge) × (slice_get p.edges 0 ≡ Some e)
     e0 = edge_there p.edges 0 (omega (arith, kept.some, kept.beside))
-
-    closes : (w : List Pass) → BeginsWith (first_line p.lines) w → walk_on p.lines p.edges (Some (root_of p.edges)) w ≡ Some at
-        → walk_on p.lines p.edges (first_start p.lines p.edges w) w ≡ first_start p.lines p.edges w
-    closes [] h led = absurd h
-    closes (x ∷ rest) h led =
-        rw (starts x h) (led ∙ ap (λ (n : ℕ). Some n) is_root)
-      where
-        starts : (x : Pass) → x ≡ record { line = first_line p.lines; back = false }
-            → edge_start (edge_of p.lines p.edges x.line) x.back ≡ Some (root_of p.edges)
-        starts x is =
-            rw (is, first_is p.lines, edge_found p.lines p.edges 0 e0.0 kept.rising kept.some e0.1)
-            (ap (λ (n : ℕ). Some n) (sym (root_is p.edges e0.0 e0.1)))
 
     spent : (j : ℕ) → is_met passed p.edges j ≡ true → is_spent passed p.edges j ≡ true
     spent j met = by_test (at == j) refl
@@ -131,9 +128,27 @@ home_double p walk passed at kept k stuck begins first = record {
         ∙ passed_meets passed p.edges 0 e0.0.a e0.0 first e0.1 (touches_a e0.0) in
         spent_passes passed p.edges i e.0.a e.0 k.beside e.1 (touches_a e.0) (spent e.0.a met)
 
+-- the walk of an outing that is home
+pub home_double : (p : PieceValue) (walk : List Pass) (passed : List Bool) (at : ℕ) → KeepsPiece p
+    → Keeps p.lines p.edges walk [] passed (root_of p.edges) at → is_spent passed p.edges at ≡ true
+    → BeginsWith (first_line p.lines) walk → get_or passed 0 false ≡ true
+    → IsDouble p walk
+home_double p walk passed at kept k stuck begins first = record {
+  closed = closes walk begins k.led;
+  each = All-from_get_or (GoesBothWays walk) p.lines 0 goes;
+  begins = begins;
+}
+  where
+    is_root : at ≡ root_of p.edges
+    is_root = some_same at (root_of p.edges) k.home
+
+    closes : (w : List Pass) → BeginsWith (first_line p.lines) w → walk_on p.lines p.edges (Some (root_of p.edges)) w ≡ Some at
+        → walk_on p.lines p.edges (first_start p.lines p.edges w) w ≡ first_start p.lines p.edges w
+    closes w h led = rw (starts_first p w kept h) (led ∙ ap (λ (n : ℕ). Some n) is_root)
+
     goes : (i : ℕ) → i < length p.lines → GoesBothWays walk (get_or p.lines i 0)
     goes i below =
-        let is : get_or passed i false ≡ true = all_passed i (omega (arith, below, kept.beside)) in
+        let is : get_or passed i false ≡ true = home_passed p walk passed at kept k stuck first i (omega (arith, below, kept.beside)) in
         record {
           forwards = bare _ (k.counted i false below ∙ ap bit is);
           backwards = bare _ (k.counted i true below ∙ ap bit is);
@@ -141,3 +156,47 @@ home_double p walk passed at kept k stuck begins first = record {
       where
         bare : (n : ℕ) → n + 0 ≡ 1 → n ≡ 1
         bare n is = omega arith
+
+-- which costs twice the piece
+pub home_cost : (p : PieceValue) (walk : List Pass) (passed : List Bool) (at : ℕ) → KeepsPiece p
+    → Keeps p.lines p.edges walk [] passed (root_of p.edges) at → is_spent passed p.edges at ≡ true
+    → get_or passed 0 false ≡ true → walk_cost p walk ≡ 2 * piece_cost p
+home_cost p walk passed at kept k stuck first =
+    bare _ _ (k.sums ∙ ap (λ (n : ℕ). 2 * n) (cost_all passed p.edges k.beside (home_passed p walk passed at kept k stuck first)))
+  where
+    bare : (m n : ℕ) → m + 0 ≡ n → m ≡ n
+    bare m n is = omega arith
+
+-- a line that is passed in a direction is passed
+is_passed : (line : ℕ) (walk : List Pass) → 1 ≤ times line false walk → passed line walk ≡ true
+is_passed line [] some = absurd (omega (arith, some))
+is_passed line (x ∷ walk) some = by_line (x.line == line) (same_way false x.back) (times line false walk) some (is_passed line walk)
+  where
+    by_line : (t way : Bool) (n : ℕ) → 1 ≤ bit (t && way) + n → (1 ≤ n → passed line walk ≡ true) → (t || passed line walk) ≡ true
+    by_line true way n some then = refl
+    by_line false way n some then = then (bare n some)
+      where
+        bare : (n : ℕ) → 1 ≤ 0 + n → 1 ≤ n
+        bare n some = omega (arith, some)
+
+-- so a double walk covers the piece
+all_covered : (lines : List ℕ) (walk : List Pass) → ((k : ℕ) → k < length lines → GoesBothWays walk (get_or lines k 0))
+    → covers lines walk ≡ true
+all_covered [] walk each = refl
+all_covered (line ∷ lines) walk each =
+    rw (is_passed line walk (one _ (each 0 (omega arith)).forwards))
+    (all_covered lines walk (λ k. λ below. each (suc k) (omega (arith, below))))
+  where
+    one : (n : ℕ) → n ≡ 1 → 1 ≤ n
+    one n is = omega (arith, is)
+
+-- and fits it
+pub double_fits : (p : PieceValue) (walk : List Pass) → KeepsPiece p → IsDouble p walk → fits (unbound p) walk ≡ true
+double_fits p walk kept double =
+    rw (closes, all_covered p.lines walk (λ k. λ below. All-get_or (GoesBothWays walk) p.lines k 0 below double.each)) refl
+  where
+    starts : first_start p.lines p.edges walk ≡ Some (root_of p.edges)
+    starts = starts_first p walk kept double.begins
+
+    closes : leads (unbound p) walk ≡ true
+    closes = rw (double.closed, starts) (eq_self (root_of p.edges))

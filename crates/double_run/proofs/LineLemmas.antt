@@ -5,7 +5,7 @@ use Rattle.std.proofs.lemmas.Bool.{and_parts}
 use Rattle.line_graph.specs.declared.edge.Edge.{Edge}
 use Rattle.line_graph.specs.declared.pass.Pass.{Pass}
 use Rattle.line_graph.specs.PieceGraphs.{bit}
-use Rattle.line_graph.specs.PieceWalks.{above, after_pass, edge_of, rises, walk_on}
+use Rattle.line_graph.specs.PieceWalks.{above, after_pass, cost_of, edge_of, of_edge, pass_sum, rises, walk_on}
 use Rattle.double_run.specs.DoubleWalks.{same_way, times}
 
 -- a number equals itself, and equal numbers are the same
@@ -94,6 +94,19 @@ times_push n way [] p = turned (bit (p.line == n && same_way way p.back))
     turned k = omega arith
 times_push n way (x ∷ xs) p =
     rw (times_push n way xs p) (joined (bit (x.line == n && same_way way x.back)) (times n way xs) (bit (p.line == n && same_way way p.back)))
+  where
+    joined : (x y z : ℕ) → x + (y + z) ≡ (x + y) + z
+    joined x y z = omega arith
+
+pub sum_push : (lines : List ℕ) (edges : List Edge) (xs : List Pass) (p : Pass)
+    → pass_sum lines edges cost_of (xs ++ p ∷ []) ≡ pass_sum lines edges cost_of xs + of_edge cost_of (edge_of lines edges p.line)
+sum_push lines edges [] p = turned (of_edge cost_of (edge_of lines edges p.line))
+  where
+    turned : (k : ℕ) → k + 0 ≡ 0 + k
+    turned k = omega arith
+sum_push lines edges (x ∷ xs) p =
+    rw (sum_push lines edges xs p)
+    (joined (of_edge cost_of (edge_of lines edges x.line)) (pass_sum lines edges cost_of xs) (of_edge cost_of (edge_of lines edges p.line)))
   where
     joined : (x y z : ℕ) → x + (y + z) ≡ (x + y) + z
     joined x y z = omega arith

@@ -3,9 +3,9 @@ use Rattle.std.proofs.Common.{◌≡◌, ◌<◌, ◌⊎◌, inl, inr, ℕ, zero
 use Rattle.std.proofs.lemmas.Bool.{and_parts}
 use Rattle.line_graph.specs.declared.edge.Edge.{Edge}
 use Rattle.line_graph.specs.PieceGraphs.{bit}
-use Rattle.line_graph.specs.PieceWalks.{start_of, end_of}
+use Rattle.line_graph.specs.PieceWalks.{cost_of, edge_sum, end_of, start_of}
 use Rattle.double_run.specs.declared.legs.Leg.{Leg}
-use Rattle.double_run.specs.Outings.{count_left, edge_at, is_met, is_on_way, is_spent, touches}
+use Rattle.double_run.specs.Outings.{count_left, edge_at, is_met, is_on_way, is_spent, passed_cost, touches}
 use Rattle.double_run.proofs.LineLemmas.{eq_self, some_same, suc_suc, suc_zero, zero_suc}
 
 -- a test that is one of two
@@ -108,6 +108,29 @@ less_left (p ∷ passed) (suc m) left = rw (less_left passed m left) (joined (bi
   where
     joined : (x y : ℕ) → x + (y + 1) ≡ (x + y) + 1
     joined x y = omega arith
+
+-- and what is passed costs as much more
+pub cost_more : (passed : List Bool) (edges : List Edge) (m : ℕ) (e : Edge) → slice_get passed m ≡ Some false → slice_get edges m ≡ Some e
+    → passed_cost (set passed m true) edges ≡ e.cost + passed_cost passed edges
+cost_more [] edges m e left there = absurd (cc)
+cost_more (p ∷ passed) [] m e left there = absurd (cc)
+cost_more (true ∷ passed) (x ∷ edges) zero e left there = absurd (cc)
+cost_more (false ∷ passed) (x ∷ edges) zero e left there = rw (some_same x e there) refl
+cost_more (true ∷ passed) (x ∷ edges) (suc m) e left there =
+    rw (cost_more passed edges m e left there) (turned x.cost e.cost (passed_cost passed edges))
+  where
+    turned : (x y z : ℕ) → x + (y + z) ≡ y + (x + z)
+    turned x y z = omega arith
+cost_more (false ∷ passed) (x ∷ edges) (suc m) e left there = cost_more passed edges m e left there
+
+-- where all are passed it costs what they cost
+pub cost_all : (passed : List Bool) (edges : List Edge) → length passed ≡ length edges
+    → ((k : ℕ) → k < length edges → get_or passed k false ≡ true) → passed_cost passed edges ≡ edge_sum cost_of edges
+cost_all [] [] beside all = refl
+cost_all [] (e ∷ edges) beside all = absurd (omega (arith, beside))
+cost_all (p ∷ passed) [] beside all = refl
+cost_all (p ∷ passed) (e ∷ edges) beside all =
+    rw (all 0 (omega arith), cost_all passed edges (omega (arith, beside)) (λ k. λ below. all (suc k) (omega (arith, below)))) refl
 
 -- a line at a spent junction is passed
 pub spent_passes : (passed : List Bool) (edges : List Edge) (k j : ℕ) (e : Edge) → length passed ≡ length edges

@@ -6,12 +6,12 @@ use Rattle.std.proofs.lemmas.Option.{slice_get_within}
 use Rattle.line_graph.specs.declared.edge.Edge.{Edge}
 use Rattle.line_graph.specs.declared.pass.Pass.{Pass}
 use Rattle.line_graph.specs.PieceGraphs.{bit}
-use Rattle.line_graph.specs.PieceWalks.{after_edge, after_pass, edge_of, end_of, rises, start_of, walk_on}
+use Rattle.line_graph.specs.PieceWalks.{after_edge, after_pass, cost_of, edge_of, end_of, of_edge, pass_sum, rises, start_of, walk_on}
 use Rattle.double_run.specs.declared.legs.Leg.{Leg}
 use Rattle.double_run.specs.DoubleWalks.{same_way, times}
-use Rattle.double_run.specs.Outings.{Keeps, are_there, count_left, is_met, is_on_way, is_spent, pass_along, pass_home, touches, way_home}
-use Rattle.double_run.proofs.LineLemmas.{both_ways, edge_found, eq_self, nowhere, one_line, same, times_push, walk_append}
-use Rattle.double_run.proofs.MetLemmas.{found_at, less_left, marks, met_before, neither, spent_on, touched, way_push}
+use Rattle.double_run.specs.Outings.{Keeps, are_there, count_left, is_met, is_on_way, is_spent, pass_along, pass_home, passed_cost, touches, way_home}
+use Rattle.double_run.proofs.LineLemmas.{both_ways, edge_found, eq_self, nowhere, one_line, same, sum_push, times_push, walk_append}
+use Rattle.double_run.proofs.MetLemmas.{cost_more, found_at, less_left, marks, met_before, neither, spent_on, touched, way_push}
 
 -- a leg more is the first on the way home
 pub home_push : (lines : List ℕ) (out : List Leg) (leg : Leg)
@@ -62,6 +62,8 @@ out_kept lines edges walk out passed root leg e up beside there left k = record 
   legs = there_push (length edges) out leg ∙ rw (k.legs, less_test leg.place (length edges) within) refl;
   counted = λ n. λ way. λ below.
       counts n way below (one_line lines leg.place n up (omega (arith, within, beside)) below) (k.counted n way below);
+  sums = rw (sum_push lines edges walk (pass_along lines leg), home_push lines out leg, cost_more passed edges leg.place e left there, found)
+      (costs e.cost (pass_sum lines edges cost_of walk) (pass_sum lines edges cost_of (way_home lines out)) (passed_cost passed edges) k.sums);
   spent = λ j. λ met. λ other. λ away.
       let parts = neither (is_on_way edges out j) _ (sym (way_push edges out leg j) ∙ away) in
       by_end j other (subst (λ (x : Edge). (start_of x leg.back == j) ≡ false) (found_at edges leg.place e there) parts.1)
@@ -74,6 +76,9 @@ out_kept lines edges walk out passed root leg e up beside there left k = record 
 
     found : edge_of lines edges (get_or lines leg.place 0) ≡ Some e
     found = edge_found lines edges leg.place e up (omega (arith, within, beside)) there
+
+    costs : (c w h s : ℕ) → w + h ≡ 2 * s → (w + c) + (c + h) ≡ 2 * (c + s)
+    costs c w h s sums = omega arith
 
     counts : (n : ℕ) (way : Bool) → n < length lines → (get_or lines leg.place 0 == get_or lines n 0) ≡ (leg.place == n)
         → times (get_or lines n 0) way walk + times (get_or lines n 0) way (way_home lines out) ≡ bit (get_or passed n false)
@@ -113,6 +118,10 @@ back_kept lines edges walk out passed root at leg e up beside there spent k = re
       rw (times_push (get_or lines n 0) way walk (pass_home lines leg))
       (moved _ _ _ _ (ap (λ (w : List Pass). times (get_or lines n 0) way walk + times (get_or lines n 0) way w) (sym (home_push lines out leg))
       ∙ k.counted n way below));
+  sums = rw (sum_push lines edges walk (pass_home lines leg))
+      (moved (pass_sum lines edges cost_of walk) (of_edge cost_of (edge_of lines edges (get_or lines leg.place 0)))
+      (pass_sum lines edges cost_of (way_home lines out)) (2 * passed_cost passed edges)
+      (ap (λ (w : List Pass). pass_sum lines edges cost_of walk + pass_sum lines edges cost_of w) (sym (home_push lines out leg)) ∙ k.sums));
   spent = λ j. λ met. λ other. λ away.
       by_test j (at == j) refl (k.spent j met)
       (way_push edges out leg j

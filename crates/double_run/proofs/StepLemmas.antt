@@ -7,7 +7,7 @@ use Rattle.line_graph.specs.declared.pass.Pass.{Pass}
 use Rattle.line_graph.specs.KeptPieces.{KeepsPiece, ends_below}
 use Rattle.line_graph.specs.PieceGraphs.{PieceValue}
 use Rattle.line_graph.specs.Pieces.{first_line}
-use Rattle.line_graph.specs.PieceWalks.{end_of, start_of}
+use Rattle.line_graph.specs.PieceWalks.{end_of, piece_cost, start_of, walk_cost}
 use Rattle.double_run.specs.declared.legs.Leg.{Leg}
 use Rattle.double_run.specs.declared.line_ends.LineEnds.{LineEnds}
 use Rattle.double_run.specs.declared.outing.Outing.{Outing}
@@ -16,7 +16,7 @@ use Rattle.double_run.specs.LineEnds.{AreBefore, AreLast, AreReady}
 use Rattle.double_run.specs.Outings.{GoesOut, IsHome, IsOuting, IsReady, IsStep, Keeps, KeepsOuting, LeadsFrom, are_there, count_left, edge_at, is_spent, pass_along, pass_home, root_of}
 use Rattle.double_run.proofs.CursorLemmas.{back_ready, begins_ready, marked_at, marked_stays, out_ready, over_less, over_ready}
 use Rattle.double_run.proofs.EndLemmas.{ends_are_below}
-use Rattle.double_run.proofs.HomeLemmas.{begins_kept, begins_on, edge_there, first_is, home_double, root_is}
+use Rattle.double_run.proofs.HomeLemmas.{begins_kept, begins_on, edge_there, first_is, home_cost, home_double, root_is}
 use Rattle.double_run.proofs.MetLemmas.{found_at}
 use Rattle.double_run.proofs.OutingLemmas.{back_kept, back_less, out_kept, out_less, there_push}
 
@@ -176,3 +176,9 @@ pub finished : (p : PieceValue) (old new : Outing) → KeepsPiece p → IsOuting
 finished p old new kept was home =
     home_double p new.walk new.passed.items new.at kept (rw home.empty at home.on.keeps) home.spent (home.on.begins was.begins)
     (home.on.first was.first)
+
+-- that costs twice the piece
+pub finished_cost : (p : PieceValue) (old new : Outing) → KeepsPiece p → IsOuting p old → IsHome p old new
+    → walk_cost p new.walk ≡ 2 * piece_cost p
+finished_cost p old new kept was home =
+    home_cost p new.walk new.passed.items new.at kept (rw home.empty at home.on.keeps) home.spent (home.on.first was.first)

@@ -1,7 +1,7 @@
 -- Walks that pass each line of a piece once in each direction, after J. Hopcroft and R. Tarjan, "Algorithm
 -- 447: Efficient algorithms for graph manipulation", Communications of the ACM 16 (1973): a search that
 -- goes out along a line comes back along it.
-use Rattle.std.specs.Prelude.{◌≡◌, ℕ, ◌+◌, ◌==◌, ◌&&◌, Bool, true, false, not, List, [], ◌∷◌, All}
+use Rattle.std.specs.Prelude.{◌≡◌, ℕ, ◌+◌, ◌==◌, ◌&&◌, Bool, true, false, not, List, [], ◌∷◌, None, All}
 use Rattle.line_graph.specs.declared.pass.Pass.{Pass}
 use Rattle.line_graph.specs.PieceGraphs.{PieceValue, bit}
 use Rattle.line_graph.specs.Pieces.{first_line}
@@ -29,3 +29,7 @@ pub record IsDouble (p : PieceValue) (walk : List Pass) : Type 0 where
       ≡ first_start p.lines p.edges walk
   pub each : All (GoesBothWays walk) p.lines
   pub begins : BeginsWith (first_line p.lines) walk
+
+-- the piece, of which no start and no end is said
+abbrev pub unbound : PieceValue → PieceValue
+unbound p = record p { start = None; end = None }

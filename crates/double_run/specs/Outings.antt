@@ -5,7 +5,7 @@ use Rattle.line_graph.specs.declared.edge.Edge.{Edge}
 use Rattle.line_graph.specs.declared.pass.Pass.{Pass}
 use Rattle.line_graph.specs.PieceGraphs.{PieceValue, bit}
 use Rattle.line_graph.specs.Pieces.{first_line}
-use Rattle.line_graph.specs.PieceWalks.{BeginsWith, end_of, start_of, walk_on}
+use Rattle.line_graph.specs.PieceWalks.{BeginsWith, cost_of, end_of, pass_sum, start_of, walk_on}
 use Rattle.double_run.specs.declared.legs.Leg.{Leg}
 use Rattle.double_run.specs.declared.outing.Outing.{Outing}
 use Rattle.double_run.specs.DoubleWalks.{times}
@@ -44,6 +44,13 @@ is_spent (p ∷ passed) (e ∷ edges) j = (p || not (touches e j)) && is_spent p
 abbrev pub edge_at : List Edge → ℕ → Edge
 edge_at edges place = get_or edges place (record { a = 0; b = 0; cost = 0 })
 
+-- what the lines cost that are passed, each once
+abbrev pub passed_cost : List Bool → List Edge → ℕ
+passed_cost [] edges = 0
+passed_cost (p ∷ passed) [] = 0
+passed_cost (true ∷ passed) (e ∷ edges) = e.cost + passed_cost passed edges
+passed_cost (false ∷ passed) (e ∷ edges) = passed_cost passed edges
+
 -- one of the legs leads from that junction
 abbrev pub is_on_way : List Edge → List Leg → ℕ → Bool
 is_on_way edges [] j = false
@@ -62,8 +69,8 @@ pub record LeadsFrom (edges : List Edge) (passed : List Bool) (at : ℕ) (leg : 
   pub left : slice_get passed leg.place ≡ Some false
 
 -- the walk leads to `at`, and the way home from there to where it began; the two together pass the lines
--- that are passed once in each direction, and no others; and each junction that was met is spent, or lies
--- on the way home
+-- that are passed once in each direction, and no others, and cost as much; and each junction that was met is
+-- spent, or lies on the way home
 pub record Keeps (lines : List ℕ) (edges : List Edge) (walk : List Pass) (out : List Leg)
     (passed : List Bool) (root at : ℕ) : Type 0 where
   pub beside : length passed ≡ length edges
@@ -73,6 +80,8 @@ pub record Keeps (lines : List ℕ) (edges : List Edge) (walk : List Pass) (out 
   pub counted : (k : ℕ) (way : Bool) → k < length lines
       → times (get_or lines k 0) way walk + times (get_or lines k 0) way (way_home lines out)
       ≡ bit (get_or passed k false)
+  pub sums : pass_sum lines edges cost_of walk + pass_sum lines edges cost_of (way_home lines out)
+      ≡ 2 * passed_cost passed edges
   pub spent : (j : ℕ) → is_met passed edges j ≡ true → (at == j) ≡ false
       → is_on_way edges out j ≡ false → is_spent passed edges j ≡ true
 
