@@ -1,14 +1,14 @@
 -- Each step of an outing keeps it.
-use Rattle.std.proofs.Common.{◌≡◌, ◌≤◌, ◌<◌, ◌⊎◌, inl, inr, ℕ, ◌+◌, ◌*◌, ◌==◌, ◌&&◌, ◌||◌, Bool, true, false, not, nat_lt, cond, List, [], ◌∷◌, ◌++◌, length, get_or, set, slice_get, Option, Some, None, arith, refl, sym, ap, ◌∙◌, subst, length-set, length-append}
+use Rattle.std.proofs.Common.{◌≡◌, ◌<◌, ◌⊎◌, inl, inr, ℕ, ◌+◌, ◌*◌, ◌==◌, ◌&&◌, Bool, true, false, not, nat_lt, cond, List, [], ◌∷◌, ◌++◌, length, get_or, set, slice_get, Option, Some, None, arith, refl, sym, ap, ◌∙◌, subst, length-set, length-append}
 use Rattle.std.proofs.lemmas.Bool.{and_parts}
 use Rattle.std.proofs.lemmas.Bool.Decides.{nat_tests}
 use Rattle.std.proofs.lemmas.Option.{slice_get_within}
 use Rattle.line_graph.specs.declared.edge.Edge.{Edge}
 use Rattle.line_graph.specs.declared.pass.Pass.{Pass}
 use Rattle.line_graph.specs.PieceGraphs.{bit}
-use Rattle.line_graph.specs.PieceWalks.{after_edge, after_pass, cost_of, edge_of, end_of, of_edge, pass_sum, rises, start_of, walk_on}
+use Rattle.line_graph.specs.PieceWalks.{after_edge, cost_of, edge_of, end_of, of_edge, pass_sum, rises, start_of, walk_on}
 use Rattle.double_run.specs.declared.legs.Leg.{Leg}
-use Rattle.double_run.specs.DoubleWalks.{same_way, times}
+use Rattle.double_run.specs.DoubleWalks.{times}
 use Rattle.double_run.specs.Outings.{Keeps, are_there, count_left, is_met, is_on_way, is_spent, pass_along, pass_home, passed_cost, touches, way_home}
 use Rattle.double_run.proofs.LineLemmas.{both_ways, edge_found, eq_self, nowhere, one_line, same, sum_push, times_push, walk_append}
 use Rattle.double_run.proofs.MetLemmas.{cost_more, found_at, less_left, marks, met_before, neither, spent_on, touched, way_push}

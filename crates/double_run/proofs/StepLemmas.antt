@@ -1,5 +1,5 @@
 -- The steps of an outing, and that it ends with a double walk.
-use Rattle.std.proofs.Common.{◌≡◌, ◌<◌, ℕ, zero, suc, ◌+◌, ◌*◌, ◌/◌, ◌&&◌, Bool, true, false, nat_lt, List, [], ◌∷◌, ◌++◌, length, get_or, set, slice_get, slice_index_or, replicate, sum_by, Option, Some, None, Vec, Global, arith, refl, sym, ap, ◌∙◌, subst}
+use Rattle.std.proofs.Common.{◌≡◌, ◌<◌, ℕ, ◌+◌, ◌*◌, ◌/◌, Bool, true, false, nat_lt, List, [], ◌∷◌, ◌++◌, length, get_or, set, slice_get, slice_index_or, replicate, sum_by, Some, Vec, Global, arith, refl, sym, ap, ◌∙◌, subst}
 use Rattle.std.proofs.lemmas.Bool.{and_parts}
 use Rattle.std.proofs.lemmas.Bool.Decides.{nat_tests}
 use Rattle.line_graph.specs.declared.edge.Edge.{Edge}
@@ -9,7 +9,6 @@ use Rattle.line_graph.specs.PieceGraphs.{PieceValue}
 use Rattle.line_graph.specs.Pieces.{first_line}
 use Rattle.line_graph.specs.PieceWalks.{end_of, piece_cost, start_of, walk_cost}
 use Rattle.double_run.specs.declared.legs.Leg.{Leg}
-use Rattle.double_run.specs.declared.line_ends.LineEnds.{LineEnds}
 use Rattle.double_run.specs.declared.outing.Outing.{Outing}
 use Rattle.double_run.specs.DoubleWalks.{IsDouble}
 use Rattle.double_run.specs.LineEnds.{AreBefore, AreLast, AreReady}

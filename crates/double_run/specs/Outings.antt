@@ -1,11 +1,11 @@
 -- A double walk in the making.
-use Rattle.std.specs.Prelude.{◌≡◌, ℕ, ◌+◌, ◌*◌, ◌/◌, ◌<◌, ◌==◌, ◌&&◌, ◌||◌, Bool, true, false, not, List, [], ◌∷◌, ◌++◌, Option, Some, Result, Ok, Err, length, get_or, slice_get, nat_lt, sum_by}
+use Rattle.std.specs.Prelude.{◌≡◌, ℕ, ◌+◌, ◌*◌, ◌/◌, ◌<◌, ◌==◌, ◌&&◌, ◌||◌, Bool, true, false, not, List, [], ◌∷◌, ◌++◌, Some, Result, Ok, Err, length, get_or, slice_get, nat_lt, sum_by}
 use Rattle.design_model.specs.declared.memory.Memory.{Memory}
 use Rattle.line_graph.specs.declared.edge.Edge.{Edge}
 use Rattle.line_graph.specs.declared.pass.Pass.{Pass}
 use Rattle.line_graph.specs.PieceGraphs.{PieceValue, bit}
 use Rattle.line_graph.specs.Pieces.{first_line}
-use Rattle.line_graph.specs.PieceWalks.{BeginsWith, cost_of, end_of, pass_sum, start_of, walk_on}
+use Rattle.line_graph.specs.PieceWalks.{BeginsWith, cost_of, pass_sum, start_of, walk_on}
 use Rattle.double_run.specs.declared.legs.Leg.{Leg}
 use Rattle.double_run.specs.declared.outing.Outing.{Outing}
 use Rattle.double_run.specs.DoubleWalks.{times}

@@ -5,5 +5,7 @@ mod double_walk;
 mod legs;
 mod line_ends;
 mod outing;
+#[cfg(test)]
+mod tests;
 
 pub use double_walk::double;
