@@ -7,7 +7,9 @@ mod MatchLemmas
 mod PassLemmas
 mod ProvedLemmas
 mod SewLemmas
+mod SewnPieces
 mod RouteLemmas
+mod DoubleLemmas
 mod ActOrderLemmas
 mod SameActs
 mod VerdictLemmas

@@ -11,6 +11,7 @@ pub mod PieceRoutes
 pub mod RoutedPieces
 -- read this one first
 pub mod Routes
+pub mod Doubles
 pub mod ActSteps
 -- and this one next: what is wrong with a certificate or a design
 pub mod ActOrder

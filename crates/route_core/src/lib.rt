@@ -4,6 +4,7 @@
 mod act_order;
 mod copies;
 mod distances;
+mod doubling;
 mod judging;
 mod piece_reasons;
 mod piece_route;
@@ -16,6 +17,7 @@ mod verdict;
 mod verdict_tests;
 mod walk_needles;
 
+pub use doubling::double_pieces;
 pub use judging::{judge, judge_pieces};
 pub use routed::Routed;
 pub use routing::{route, route_pieces};

@@ -1,0 +1,145 @@
+-- The double run of a drawing, from the double walks over its pieces.
+use Rattle.std.proofs.Common.{◌≡◌, ◌≢◌, ◌≤◌, ◌<◌, ◌^◌, ℕ, suc, ◌+◌, ◌*◌, true, List, [], ◌∷◌, ◌++◌, length, All, Contains, arith, refl, sym, ap, ◌∙◌, subst}
+use Rattle.std.proofs.lemmas.List.{append-nil, append_assoc}
+use Rattle.std.proofs.lemmas.List.Elements.{All-cons, All-contains, All-head, All-nil, All-tail}
+use Rattle.std.specs.List.{AllZip, concat}
+use Rattle.cut_certificate.specs.declared.certificate.PieceCert.{PieceCert}
+use Rattle.cut_certificate.specs.declared.cut.Cut.{Cut}
+use Rattle.cut_certificate.specs.Certificates.{CanBeSpelled}
+use Rattle.cut_certificate.specs.Packings.{IsPlainCut}
+use Rattle.double_run.specs.DoubleWalks.{IsDouble}
+use Rattle.line_graph.specs.declared.pass.Pass.{Pass}
+use Rattle.line_graph.specs.declared.piece.Piece.{Piece}
+use Rattle.line_graph.specs.CutPieces.{AreCutFrom, graph_of, lines_of_pieces}
+use Rattle.line_graph.specs.Drawings.{DrawingValue, KeepsDrawing}
+use Rattle.line_graph.specs.KeptPieces.{KeepsPiece}
+use Rattle.line_graph.specs.PieceGraphs.{PieceValue, piece_of}
+use Rattle.line_graph.specs.PieceWalks.{BeginsWith, piece_cost, walk_cost}
+use Rattle.line_graph.specs.Runs.{AreWritable, commands_after, runs_of, sewn_design}
+use Rattle.line_graph.specs.SewnWalks.{FittingWalksAreSewable, IsSewable, PiecesKeepLimits}
+use Rattle.line_graph.specs.Walks.{needles_of_walk}
+use Rattle.route_core.specs.declared.routed.Routed.{Routed}
+use Rattle.route_core.specs.Doubles.{AreDoubled, IsDoubleOver, IsDoubled, RunsDouble}
+use Rattle.route_core.specs.Routes.{walks_of}
+use Rattle.route_core.specs.SewingSteps.{AllDrawn}
+use Rattle.route_core.proofs.SewnPieces.{Sewn, able, behind, front}
+
+-- what doubles the pieces that are left has doubled all
+pub record LeftDoubles (pieces : List Piece) (certs : List PieceCert) (rest : List Piece) : Type 0 where
+  pub whole : (more : List PieceCert) → AreDoubled rest more → AreDoubled pieces (certs ++ more)
+
+pub doubles_on : (pieces left rest : List Piece) (certs next : List PieceCert) (piece : Piece) (cert : PieceCert) → left ≡ piece ∷ rest
+    → next ≡ certs ++ cert ∷ [] → RunsDouble (graph_of piece) cert → LeftDoubles pieces certs left
+    → LeftDoubles pieces next rest
+doubles_on pieces left rest certs next piece cert is put double l = record {
+  whole = λ more. λ doubled.
+      subst (AreDoubled pieces) (sym (ap (λ (cs : List PieceCert). cs ++ more) put ∙ append_assoc certs (cert ∷ []) more))
+      (l.whole (cert ∷ more) (subst (λ (ps : List Piece). AreDoubled ps (cert ∷ more)) (sym is) (double, doubled)));
+}
+
+pub doubled_all : (pieces left : List Piece) (certs : List PieceCert) → left ≡ [] → LeftDoubles pieces certs left
+    → AreDoubled pieces certs
+doubled_all pieces left certs is l =
+    subst (AreDoubled pieces) (append-nil certs) (l.whole [] (subst (λ (ps : List Piece). AreDoubled ps []) (sym is) tt))
+
+-- a double walk and no cuts can be spelled
+doubles_spelled : (d : DrawingValue) (lines : List ℕ) (cert : PieceCert) (first : ℕ) → KeepsDrawing d → All (λ line. line < length d.lines) lines
+    → IsSewable d lines cert.walk → BeginsWith first cert.walk → cert.cuts ≡ [] → CanBeSpelled cert
+doubles_spelled d lines cert first keeps below sewable begins none = record {
+  some = λ is. subst (BeginsWith first) is begins;
+  passes = few cert.walk sewable.there;
+  plain = subst (All IsPlainCut) (sym none) (All-nil IsPlainCut);
+  members = subst (All (λ (cut : Cut). All (λ j. j + 1 < 2 ^ 32) cut.members)) (sym none)
+      (All-nil (λ (cut : Cut). All (λ j. j + 1 < 2 ^ 32) cut.members));
+}
+  where
+    less : (n m : ℕ) → n < m → m ≤ 1024 → n + 1 < 2 ^ 32
+    less n m is most = omega arith
+
+    few : (walk : List Pass) → All (λ (pass : Pass). Contains lines pass.line) walk → All (λ (pass : Pass). pass.line + 1 < 2 ^ 32) walk
+    few [] there = All-nil (λ (pass : Pass). pass.line + 1 < 2 ^ 32)
+    few (q ∷ walk) there =
+        All-cons (λ (pass : Pass). pass.line + 1 < 2 ^ 32) q walk
+        (less q.line (length d.lines)
+        (All-contains (λ line. line < length d.lines) lines q.line below (All-head (λ (pass : Pass). Contains lines pass.line) q walk there))
+        keeps.line_count)
+        (few walk (All-tail (λ (pass : Pass). Contains lines pass.line) q walk there))
+
+-- all that is known of a piece and its double walk
+record Good (d : DrawingValue) (lines : List ℕ) (cert : PieceCert) : Type 0 where
+  doubled : IsDoubled d lines cert
+  sewn : Sewn d lines cert
+
+good : (d : DrawingValue) → KeepsDrawing d → FittingWalksAreSewable → (p : Piece) (cert : PieceCert)
+    → All (λ line. line < length d.lines) p.lines → graph_of p ≡ piece_of d p.lines → RunsDouble (graph_of p) cert → Good d p.lines cert
+good d keeps sews p cert below is run =
+    let double : RunsDouble (piece_of d p.lines) cert = subst (λ (g : PieceValue). RunsDouble g cert) is run in
+    let sewable = sews d p.lines cert.walk keeps below (subst KeepsPiece is p.kept) double.fitting in
+    record {
+      doubled = record {
+        double = double.double;
+        retraced = double.retraced;
+        cuts = double.cuts;
+        penetrations = sewable.penetrations ∙ ap (λ (n : ℕ). n + 1) double.cost;
+      };
+      sewn = record {
+        spelled = doubles_spelled d p.lines cert _ keeps below sewable double.double.begins double.cuts;
+        sewable = sewable;
+        below = below;
+        costs = same _ _ double.cost;
+      };
+    }
+  where
+    same : (m n : ℕ) → m ≡ n → m ≤ n
+    same m n is = omega arith
+
+all_good : (d : DrawingValue) → KeepsDrawing d → FittingWalksAreSewable → (pieces : List Piece) (certs : List PieceCert)
+    → All (λ line. line < length d.lines) (concat (lines_of_pieces pieces)) → All (λ (p : Piece). graph_of p ≡ piece_of d p.lines) pieces
+    → AreDoubled pieces certs → AllZip (Good d) (lines_of_pieces pieces) certs
+all_good d keeps sews [] [] below each doubled = tt
+all_good d keeps sews [] (c ∷ certs) below each doubled = absurd doubled
+all_good d keeps sews (p ∷ pieces) [] below each doubled = absurd doubled
+all_good d keeps sews (p ∷ pieces) (c ∷ certs) below each doubled = (
+  good d keeps sews p c (front (length d.lines) p.lines (concat (lines_of_pieces pieces)) below)
+      (All-head (λ (p : Piece). graph_of p ≡ piece_of d p.lines) p pieces each) doubled.0,
+  all_good d keeps sews pieces certs (behind (length d.lines) p.lines (concat (lines_of_pieces pieces)) below)
+      (All-tail (λ (p : Piece). graph_of p ≡ piece_of d p.lines) p pieces each) doubled.1,
+)
+
+doubled_of : (d : DrawingValue) (pieces : List (List ℕ)) (certs : List PieceCert) → AllZip (Good d) pieces certs
+    → AllZip (IsDoubled d) pieces certs
+doubled_of d [] [] all = tt
+doubled_of d [] (c ∷ certs) all = absurd all
+doubled_of d (p ∷ pieces) [] all = absurd all
+doubled_of d (p ∷ pieces) (c ∷ certs) all = (all.0.doubled, doubled_of d pieces certs all.1)
+
+sewn_of : (d : DrawingValue) (pieces : List (List ℕ)) (certs : List PieceCert) → AllZip (Good d) pieces certs
+    → AllZip (Sewn d) pieces certs
+sewn_of d [] [] all = tt
+sewn_of d [] (c ∷ certs) all = absurd all
+sewn_of d (p ∷ pieces) [] all = absurd all
+sewn_of d (p ∷ pieces) (c ∷ certs) all = (all.0.sewn, sewn_of d pieces certs all.1)
+
+-- what is needed to sew the double walks, and what is then known
+pub record DoubleReady (d : DrawingValue) (pieces : List Piece) (certs : List PieceCert) : Type 0 where
+  pub drawn : AllDrawn d certs
+  pub room : length (commands_after 0 (runs_of d (walks_of certs))) ≤ 1000000
+  pub over : (routed : Routed) → routed.cert.pieces ≡ certs → routed.design ≡ sewn_design d (walks_of certs)
+      → IsDoubleOver d (lines_of_pieces pieces) routed
+
+pub double_ready : (d : DrawingValue) → KeepsDrawing d → FittingWalksAreSewable → PiecesKeepLimits
+    → (pieces : List Piece) (certs : List PieceCert) → AreCutFrom d pieces → AreDoubled pieces certs → DoubleReady d pieces certs
+double_ready d keeps sews limits pieces certs cut doubled =
+    let all = all_good d keeps sews pieces certs cut.are.there cut.each doubled in
+    let is = able d keeps limits (lines_of_pieces pieces) certs cut.are (sewn_of d (lines_of_pieces pieces) certs all) in
+    record {
+      drawn = is.drawn;
+      room = is.room;
+      over = λ r. λ same. λ design. record {
+        pieces_are = cut.are;
+        each = subst (AllZip (IsDoubled d) (lines_of_pieces pieces)) (sym same) (doubled_of d (lines_of_pieces pieces) certs all);
+        spelled = subst (All CanBeSpelled) (sym same) is.spelled;
+        writable = subst (λ (cs : List PieceCert). AreWritable d.step (runs_of d (walks_of cs))) (sym same) is.writable;
+        design = design ∙ ap (λ (cs : List PieceCert). sewn_design d (walks_of cs)) (sym same);
+      };
+    }

@@ -1,0 +1,149 @@
+-- Walks over pieces that can be sewn, and what is needed to sew them all.
+use Rattle.std.proofs.Common.{◌≡◌, ◌≢◌, ◌≤◌, ◌<◌, ℕ, suc, ◌+◌, ◌-◌, ◌*◌, List, [], ◌∷◌, ◌++◌, length, map, replicate, All, Contains, sum_by, arith, refl, ap}
+use Rattle.std.proofs.lemmas.List.{length-append, length-map, length-replicate}
+use Rattle.std.proofs.lemmas.List.Elements.{All-cons, All-contains, All-head, All-nil, All-tail}
+use Rattle.std.proofs.lemmas.List.Sums.{sum_by-cons}
+use Rattle.std.specs.List.{AllZip}
+use Rattle.cut_certificate.specs.declared.certificate.PieceCert.{PieceCert}
+use Rattle.cut_certificate.specs.Certificates.{CanBeSpelled}
+use Rattle.design_model.specs.declared.command.Command.TheVariants.{Stitch, Stop, Trim}
+use Rattle.design_model.specs.declared.point.Point.{Point}
+use Rattle.line_graph.specs.declared.pass.Pass.{Pass}
+use Rattle.line_graph.specs.Drawings.{DrawingValue, KeepsDrawing}
+use Rattle.line_graph.specs.PieceGraphs.{piece_of}
+use Rattle.line_graph.specs.Pieces.{ArePieces}
+use Rattle.line_graph.specs.PieceWalks.{piece_cost, walk_cost}
+use Rattle.line_graph.specs.Runs.{AreNear, AreWritable, Run, commands_after, run_of, runs_of, stops_after}
+use Rattle.line_graph.specs.SewnWalks.{ArePiecesWithin, GoesAlong, IsSewable, PiecesKeepLimits}
+use Rattle.line_graph.specs.Walks.{needles_of_walk}
+use Rattle.route_core.specs.Routes.{walks_of}
+use Rattle.route_core.specs.SewingSteps.{AllDrawn, AreDrawn}
+
+-- the walk of a piece can be sewn and spelled, and costs no more than the lines twice
+pub record Sewn (d : DrawingValue) (lines : List ℕ) (cert : PieceCert) : Type 0 where
+  pub spelled : CanBeSpelled cert
+  pub sewable : IsSewable d lines cert.walk
+  pub below : All (λ line. line < length d.lines) lines
+  pub costs : walk_cost (piece_of d lines) cert.walk ≤ 2 * piece_cost (piece_of d lines)
+
+-- the lines of the first piece, and of those behind it
+pub front : (n : ℕ) (xs ys : List ℕ) → All (λ line. line < n) (xs ++ ys) → All (λ line. line < n) xs
+front n [] ys all = All-nil (λ line. line < n)
+front n (x ∷ xs) ys all =
+    All-cons (λ line. line < n) x xs (All-head (λ line. line < n) x (xs ++ ys) all)
+    (front n xs ys (All-tail (λ line. line < n) x (xs ++ ys) all))
+
+pub behind : (n : ℕ) (xs ys : List ℕ) → All (λ line. line < n) (xs ++ ys) → All (λ line. line < n) ys
+behind n [] ys all = all
+behind n (x ∷ xs) ys all = behind n xs ys (All-tail (λ line. line < n) x (xs ++ ys) all)
+
+spelled_of : (d : DrawingValue) (pieces : List (List ℕ)) (certs : List PieceCert) → AllZip (Sewn d) pieces certs → All CanBeSpelled certs
+spelled_of d [] [] all = All-nil CanBeSpelled
+spelled_of d [] (c ∷ certs) all = absurd all
+spelled_of d (p ∷ pieces) [] all = absurd all
+spelled_of d (p ∷ pieces) (c ∷ certs) all = All-cons CanBeSpelled c certs all.0.spelled (spelled_of d pieces certs all.1)
+
+along_of : (d : DrawingValue) (pieces : List (List ℕ)) (certs : List PieceCert) → AllZip (Sewn d) pieces certs
+    → AllZip GoesAlong pieces (walks_of certs)
+along_of d [] [] all = tt
+along_of d [] (c ∷ certs) all = absurd all
+along_of d (p ∷ pieces) [] all = absurd all
+along_of d (p ∷ pieces) (c ∷ certs) all =
+    (record { some = some c.walk all.0.spelled.some; there = all.0.sewable.there }, along_of d pieces certs all.1)
+  where
+    some : (walk : List Pass) → walk ≢ [] → 1 ≤ length walk
+    some [] filled = absurd (filled refl)
+    some (p ∷ walk) filled = omega arith
+
+near_of : (d : DrawingValue) (pieces : List (List ℕ)) (certs : List PieceCert) → AllZip (Sewn d) pieces certs
+    → All (λ (run : Run). AreNear d.step run.needles) (runs_of d (walks_of certs))
+near_of d [] [] all = All-nil (λ (run : Run). AreNear d.step run.needles)
+near_of d [] (c ∷ certs) all = absurd all
+near_of d (p ∷ pieces) [] all = absurd all
+near_of d (p ∷ pieces) (c ∷ certs) all =
+    All-cons (λ (run : Run). AreNear d.step run.needles) (run_of d c.walk) (runs_of d (walks_of certs)) all.0.sewable.near
+    (near_of d pieces certs all.1)
+
+drawn_of : (d : DrawingValue) (pieces : List (List ℕ)) (certs : List PieceCert) → AllZip (Sewn d) pieces certs → AllDrawn d certs
+drawn_of d [] [] all = All-nil (λ (piece : PieceCert). AreDrawn d piece.walk)
+drawn_of d [] (c ∷ certs) all = absurd all
+drawn_of d (p ∷ pieces) [] all = absurd all
+drawn_of d (p ∷ pieces) (c ∷ certs) all =
+    All-cons (λ (piece : PieceCert). AreDrawn d piece.walk) c certs (drawn c.walk all.0.sewable.there) (drawn_of d pieces certs all.1)
+  where
+    drawn : (walk : List Pass) → All (λ (pass : Pass). Contains p pass.line) walk → AreDrawn d walk
+    drawn [] there = All-nil (λ (pass : Pass). pass.line < length d.lines)
+    drawn (q ∷ walk) there =
+        All-cons (λ (pass : Pass). pass.line < length d.lines) q walk
+        (All-contains (λ line. line < length d.lines) p q.line all.0.below (All-head (λ (pass : Pass). Contains p pass.line) q walk there))
+        (drawn walk (All-tail (λ (pass : Pass). Contains p pass.line) q walk there))
+
+-- the needles are at most twice the cost of the lines, and one for each piece
+needles_few : (d : DrawingValue) (pieces : List (List ℕ)) (certs : List PieceCert) → AllZip (Sewn d) pieces certs
+    → sum_by (λ (run : Run). length run.needles) (runs_of d (walks_of certs))
+    ≤ 2 * sum_by (λ lines. piece_cost (piece_of d lines)) pieces + length pieces
+needles_few d [] [] all = omega arith
+needles_few d [] (c ∷ certs) all = absurd all
+needles_few d (p ∷ pieces) [] all = absurd all
+needles_few d (p ∷ pieces) (c ∷ certs) all =
+    added (length (needles_of_walk d c.walk)) (walk_cost (piece_of d p) c.walk) (piece_cost (piece_of d p))
+    (sum_by (λ (run : Run). length run.needles) (runs_of d (walks_of certs))) (sum_by (λ lines. piece_cost (piece_of d lines)) pieces)
+    (length pieces)
+    (sum_by (λ (run : Run). length run.needles) (runs_of d (walks_of (c ∷ certs))))
+    (sum_by (λ lines. piece_cost (piece_of d lines)) (p ∷ pieces))
+    all.0.sewable.penetrations all.0.costs (needles_few d pieces certs all.1)
+    (sum_by-cons (λ (run : Run). length run.needles) (run_of d c.walk) (runs_of d (walks_of certs)))
+    (sum_by-cons (λ lines. piece_cost (piece_of d lines)) p pieces)
+  where
+    added : (n w c s t k u v : ℕ) → n ≡ w + 1 → w ≤ 2 * c → s ≤ 2 * t + k → u ≡ n + s → v ≡ c + t → u ≤ 2 * v + suc k
+    added n w c s t k u v a b d e f = omega arith
+
+runs_count : (d : DrawingValue) (pieces : List (List ℕ)) (certs : List PieceCert) → AllZip (Sewn d) pieces certs
+    → length (runs_of d (walks_of certs)) ≡ length pieces
+runs_count d [] [] all = refl
+runs_count d [] (c ∷ certs) all = absurd all
+runs_count d (p ∷ pieces) [] all = absurd all
+runs_count d (p ∷ pieces) (c ∷ certs) all = ap (λ (n : ℕ). suc n) (runs_count d pieces certs all.1)
+
+writable : (d : DrawingValue) → KeepsDrawing d → (pieces : List (List ℕ)) (certs : List PieceCert) → ArePiecesWithin d pieces
+    → AllZip (Sewn d) pieces certs
+    → AreWritable d.step (runs_of d (walks_of certs))
+writable d keeps pieces certs within all = record {
+  near = near_of d pieces certs all;
+  runs_to = omega (arith, runs_count d pieces certs all, within.count);
+  needles_to = omega (arith, needles_few d pieces certs all, within.cost, within.count);
+  stops_to = omega (arith, within.stops (walks_of certs) (along_of d pieces certs all), keeps.blocks_to);
+}
+
+-- the commands of runs are their stops, their needles and a trim for each
+commands_count : (block : ℕ) (runs : List Run)
+    → length (commands_after block runs) ≡ stops_after block runs + (sum_by (λ (run : Run). length run.needles) runs + length runs)
+commands_count block [] = omega arith
+commands_count block (run ∷ rest) =
+    omega (
+      arith,
+      commands_count run.block rest,
+      length-append (replicate (run.block - block) Stop) (map (λ p. Stitch p) run.needles ++ Trim ∷ commands_after run.block rest),
+      length-append (map (λ (p : Point). Stitch p) run.needles) (Trim ∷ commands_after run.block rest),
+      length-map run.needles (λ (p : Point). Stitch p),
+      length-replicate (run.block - block) Stop,
+      sum_by-cons (λ (run : Run). length run.needles) run rest,
+    )
+
+-- what is needed to sew the certificates, and what is then known
+pub record Able (d : DrawingValue) (certs : List PieceCert) : Type 0 where
+  pub drawn : AllDrawn d certs
+  pub room : length (commands_after 0 (runs_of d (walks_of certs))) ≤ 1000000
+  pub spelled : All CanBeSpelled certs
+  pub writable : AreWritable d.step (runs_of d (walks_of certs))
+
+pub able : (d : DrawingValue) → KeepsDrawing d → PiecesKeepLimits → (pieces : List (List ℕ)) (certs : List PieceCert) → ArePieces d pieces
+    → AllZip (Sewn d) pieces certs → Able d certs
+able d keeps limits pieces certs are all =
+    let is : AreWritable d.step (runs_of d (walks_of certs)) = writable d keeps pieces certs (limits d pieces keeps are) all in
+    record {
+      drawn = drawn_of d pieces certs all;
+      room = omega (arith, commands_count 0 (runs_of d (walks_of certs)), is.stops_to, is.needles_to, is.runs_to);
+      spelled = spelled_of d pieces certs all;
+      writable = is;
+    }

@@ -1,0 +1,46 @@
+-- The double run of a drawing: for each piece a walk that passes each line once in each direction.
+-- Costs count steps.
+use Rattle.std.specs.Prelude.{◌≡◌, ℕ, ◌+◌, ◌*◌, true, List, [], length, All}
+use Rattle.std.specs.List.{AllZip}
+use Rattle.cut_certificate.specs.declared.certificate.PieceCert.{PieceCert}
+use Rattle.cut_certificate.specs.Certificates.{CanBeSpelled}
+use Rattle.double_run.specs.DoubleWalks.{IsDouble, unbound}
+use Rattle.line_graph.specs.declared.piece.Piece.{Piece}
+use Rattle.line_graph.specs.CutPieces.{graph_of}
+use Rattle.line_graph.specs.Drawings.{DrawingValue}
+use Rattle.line_graph.specs.PieceGraphs.{PieceValue, piece_of}
+use Rattle.line_graph.specs.Pieces.{ArePieces}
+use Rattle.line_graph.specs.PieceWalks.{fits, piece_cost, walk_cost}
+use Rattle.line_graph.specs.Runs.{AreWritable, runs_of, sewn_design}
+use Rattle.line_graph.specs.Walks.{needles_of_walk}
+use Rattle.route_core.specs.declared.routed.Routed.{Routed}
+use Rattle.route_core.specs.Routes.{walks_of}
+
+-- the certificate has a double walk over the piece of these lines, which retraces what the lines
+-- cost, and no cuts; the needle goes down once more often than the walk costs steps
+pub record IsDoubled (d : DrawingValue) (lines : List ℕ) (cert : PieceCert) : Type 0 where
+  pub double : IsDouble (piece_of d lines) cert.walk
+  pub retraced : cert.retraced ≡ piece_cost (piece_of d lines)
+  pub cuts : cert.cuts ≡ []
+  pub penetrations : length (needles_of_walk d cert.walk) ≡ 2 * piece_cost (piece_of d lines) + 1
+
+-- the double run over the pieces of a drawing: double walks over each of them in order, and the
+-- design that sews them, which every format can write whose limit the drawing's step keeps
+pub record IsDoubleOver (d : DrawingValue) (pieces : List (List ℕ)) (routed : Routed) : Type 0 where
+  pub pieces_are : ArePieces d pieces
+  pub each : AllZip (IsDoubled d) pieces routed.cert.pieces
+  pub spelled : All CanBeSpelled routed.cert.pieces
+  pub writable : AreWritable d.step (runs_of d (walks_of routed.cert.pieces))
+  pub design : routed.design ≡ sewn_design d (walks_of routed.cert.pieces)
+
+-- of the inside: the same of a piece alone
+pub record RunsDouble (p : PieceValue) (cert : PieceCert) : Type 0 where
+  pub double : IsDouble p cert.walk
+  pub fitting : fits (unbound p) cert.walk ≡ true
+  pub cost : walk_cost p cert.walk ≡ 2 * piece_cost p
+  pub retraced : cert.retraced ≡ piece_cost p
+  pub cuts : cert.cuts ≡ []
+
+-- each of the certificates has a double walk over its piece
+abbrev pub AreDoubled : List Piece → List PieceCert → Type 0
+AreDoubled pieces certs = AllZip (λ (p : Piece) (cert : PieceCert). RunsDouble (graph_of p) cert) pieces certs

@@ -1,0 +1,53 @@
+ghost use Rattle.std.specs.Prelude.{IfOk};
+ghost use Rattle.line_graph.specs.CutPieces.{AreCutFrom, graph_of, lines_of_pieces};
+ghost use Rattle.route_core.specs.Doubles.{AreDoubled, IsDoubleOver, RunsDouble};
+
+use crate::routed::Routed;
+use crate::sewing::sew;
+use crate::slices::first_lent;
+use cut_certificate::{Cert, Cuts, PieceCert, PieceCerts};
+use design_model::Memory;
+use double_run::double;
+use line_graph::{Drawing, Piece, fitting_walks_are_sewable, pieces_keep_limits};
+use std::alloc::Global;
+
+/// The double run of a drawing whose pieces are at hand: for each a walk that passes each line once
+/// forwards and once backwards, with no cuts, and the design that sews these walks.
+pub fn double_pieces(alloc: Global, d: &Drawing, pieces: &[Piece]) -> Result<Routed, Memory>
+    requires { AreCutFrom d.now pieces.now }
+    ensures { IfOk result (IsDoubleOver d.now (lines_of_pieces pieces.now)) }
+{
+    // The clauses of `step` bring the drawing's limits.
+    let _step = d.step();
+    fitting_walks_are_sewable();
+    pieces_keep_limits();
+    let cert = Cert {
+        pieces: double_certs(alloc, pieces)?,
+    };
+    let design = sew(alloc, d, &cert)?;
+    Ok(Routed { design, cert })
+}
+
+/// A double walk over each of the pieces, in order.
+fn double_certs(alloc: Global, pieces: &[Piece]) -> Result<PieceCerts, Memory>
+    ensures { IfOk result (AreDoubled pieces.now) }
+{
+    let mut certs = PieceCerts::new(alloc);
+    let mut rest = pieces;
+    while let Some((piece, after)) = first_lent(rest) {
+        certs.push(double_cert(alloc, piece)?)?;
+        rest = after;
+    }
+    Ok(certs)
+}
+
+/// A double walk over a piece, which retraces each of its lines.
+fn double_cert(alloc: Global, p: &Piece) -> Result<PieceCert, Memory>
+    ensures { IfOk result (RunsDouble (graph_of p.now)) }
+{
+    Ok(PieceCert {
+        retraced: p.cost(),
+        walk: double(alloc, p)?,
+        cuts: Cuts::new(alloc),
+    })
+}
