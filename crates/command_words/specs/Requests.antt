@@ -20,6 +20,7 @@ pub data Asked : Type 0 where
   hoop : (file : List ℕ) → (width height : ℕ) → Asked
   sample : (number : ℕ) → (drawing : List ℕ) → Asked
   migrate : (input output : List ℕ) → Asked
+  double : (drawing out cert : List ℕ) → Asked
 
 -- what a request of the program asks; the words of an edit that spell none ask for none
 abbrev pub asked_by : Request → Asked
@@ -32,6 +33,7 @@ asked_by (request.Edit names edits) = edit names.input.now names.output.now
 asked_by (request.Hoop file width height) = hoop file.now width height
 asked_by (request.Sample number drawing) = sample number drawing.now
 asked_by (request.Migrate input output) = migrate input.now output.now
+asked_by (request.Double names) = double names.drawing.now names.out.now names.cert.now
 
 -- the route of three words that are names
 abbrev pub asked_route : List (List ℕ) → Option Asked
@@ -100,6 +102,12 @@ asked_migrate (input ∷ output ∷ []) =
     if is_name input && is_name output then Some (migrate input output) else None
 asked_migrate _ = None
 
+-- the double run of three words that are names
+abbrev pub asked_double : List (List ℕ) → Option Asked
+asked_double (drawing ∷ out ∷ cert ∷ []) = if is_name drawing && is_name out && is_name cert
+    then Some (double drawing out cert) else None
+asked_double _ = None
+
 -- the request that a command's word and the words after it spell
 abbrev pub asked_as : List ℕ → List (List ℕ) → Option Asked
 asked_as command words =
@@ -111,7 +119,8 @@ asked_as command words =
     else (if bytes_eq command (codes "hoop") then asked_hoop words
     else (if bytes_eq command (codes "sample") then asked_sample words
     else (if bytes_eq command (codes "migrate") then asked_migrate words
-    else None)))))))
+    else (if bytes_eq command (codes "double") then asked_double words
+    else None))))))))
 
 -- the request that the words spell, where they spell one
 abbrev pub asked_of : List (List ℕ) → Option Asked
@@ -127,7 +136,7 @@ pub record BothAreNames (names : Names) : Type 0 where
 abbrev pub SpellEdits : List (List ℕ) → Type 0
 SpellEdits words = IsSome (edits_spelled words)
 
--- the three words of a route are names
+-- the three words of a route or of a double run are names
 pub record AreNames (names : RouteNames) : Type 0 where
   pub drawing : IsName names.drawing.now
   pub out : IsName names.out.now
@@ -150,3 +159,4 @@ IsSound (request.Edit names edits) =
 IsSound (request.Hoop file width height) = IsName file.now
 IsSound (request.Sample number drawing) = (1 ≤ number) × (number ≤ MAX_SAMPLE) × IsName drawing.now
 IsSound (request.Migrate input output) = IsName input.now × IsName output.now
+IsSound (request.Double names) = AreNames names

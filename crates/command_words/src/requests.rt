@@ -34,6 +34,8 @@ pub enum Request<'a> {
         input: &'a str,
         output: &'a str,
     },
+    /// Sew each line of a drawing once in each direction.
+    Double(RouteNames<'a>),
 }
 
 /// The files of a route: the drawing that is read, the design and the certificate that are written.

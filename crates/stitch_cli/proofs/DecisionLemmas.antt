@@ -25,11 +25,12 @@ use Rattle.stitch_cli.specs.declared.status.Status.{Status}
 use Rattle.stitch_cli.specs.declared.status.Status.TheVariants as status
 use Rattle.stitch_cli.specs.Checks.{IsDisproved, IsProved, check_cert, check_design, check_drawing}
 use Rattle.stitch_cli.specs.Commands.{plan_of}
+use Rattle.stitch_cli.specs.DoubleRuns.{double_above, double_read}
 use Rattle.stitch_cli.specs.Endings.{Ends, Halts, OrderEnds, all, but_report, halted, made, status_of, up_to}
 use Rattle.stitch_cli.specs.Hoops.{hoop_fitted, hoop_read}
 use Rattle.stitch_cli.specs.Migrations.{migrate_read}
 use Rattle.stitch_cli.specs.OrderNames.{CheckOrder, HoopOrder, MigrateOrder, RewriteOrder, RouteOrder, ShowOrder}
-use Rattle.stitch_cli.specs.Orders.{Order, checking, hooping, migrating, rewriting, routing, sampling, showing}
+use Rattle.stitch_cli.specs.Orders.{Order, checking, doubling, hooping, migrating, rewriting, routing, sampling, showing}
 use Rattle.stitch_cli.specs.Plans.{ComesTo, IsAccepted, IsInput, IsTooLong, Makes, Misses, Plan, Refuses, accepts, decides, reads, refuses}
 use Rattle.stitch_cli.specs.Products.{ProductValue}
 use Rattle.stitch_cli.specs.Refusals.{RefusalValue, refusal_of}
@@ -126,6 +127,14 @@ rewrite_exact : (order : RewriteOrder) (read : Result Loaded ReadFault) → IsEx
 rewrite_exact order (Ok loaded) = λ product why made refused. rewritten_not_both order loaded product why made refused
 rewrite_exact order (Err fault) = tt
 
+double_exact : (order : RouteOrder) (read : Result DrawingValue DrawFault) → IsExact (double_read order read)
+double_exact order (Ok d) = above (nat_lt order.format.limit d.step)
+  where
+    above : (b : Bool) → IsExact (double_above order d b)
+    above true = tt
+    above false = tt
+double_exact order (Err fault) = tt
+
 migrate_exact : (order : MigrateOrder) (read : Result DrawingValue DrawFault) → IsExact (migrate_read order read)
 migrate_exact order (Ok d) = tt
 migrate_exact order (Err fault) = tt
@@ -149,6 +158,7 @@ order_exact one (routing order) = λ bytes. route_exact order (drawing_of bytes)
 order_exact one (checking order) = λ bytes. check_exact one order (drawing_of bytes)
 order_exact one (sampling order) = tt
 order_exact one (migrating order) = λ bytes. migrate_exact order (drawing_as2 bytes)
+order_exact one (doubling order) = λ bytes. double_exact order (drawing_of bytes)
 order_exact one (rewriting order) = λ bytes. rewrite_exact order (order.source.reads bytes)
 order_exact one (showing order) = λ bytes. show_exact order (order.format.reads bytes)
 order_exact one (hooping order) = λ bytes. hoop_exact order (order.format.reads bytes)

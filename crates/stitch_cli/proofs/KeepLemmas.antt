@@ -18,11 +18,12 @@ use Rattle.stitch_cli.specs.declared.halt.Halt.TheVariants as halt
 use Rattle.stitch_cli.specs.declared.status.Status.{Status}
 use Rattle.stitch_cli.specs.Checks.{check_cert, check_design, check_drawing}
 use Rattle.stitch_cli.specs.Commands.{plan_of}
+use Rattle.stitch_cli.specs.DoubleRuns.{double_above, double_read}
 use Rattle.stitch_cli.specs.Endings.{Delivers, Ends, Halts, all, but_report, halted, made, up_to}
 use Rattle.stitch_cli.specs.Hoops.{hoop_fitted, hoop_read}
 use Rattle.stitch_cli.specs.Migrations.{migrate_read}
 use Rattle.stitch_cli.specs.OrderNames.{CheckOrder, HoopOrder, MigrateOrder, RewriteOrder, RouteOrder, ShowOrder}
-use Rattle.stitch_cli.specs.Orders.{Order, checking, hooping, migrating, outputs_of, rewriting, routing, sampling, showing}
+use Rattle.stitch_cli.specs.Orders.{Order, checking, doubling, hooping, migrating, outputs_of, rewriting, routing, sampling, showing}
 use Rattle.stitch_cli.specs.Plans.{Makes, Plan}
 use Rattle.stitch_cli.specs.Products.{ChangesAmong, IsNoneOf, ProductValue, names_of}
 use Rattle.stitch_cli.specs.Rewrites.{rewrite_read}
@@ -61,6 +62,15 @@ rewrite_outputs : (order : RewriteOrder) (files : Option Files) (product : Produ
 rewrite_outputs order files product (Ok loaded) makes = ap (λ (p : ProductValue). names_of p.outputs) makes.made
 rewrite_outputs order files product (Err fault) never = absurd never
 
+double_outputs : (order : RouteOrder) (files : Option Files) (product : ProductValue) (read : Result DrawingValue DrawFault)
+    → Makes (double_read order read) files product → names_of product.outputs ≡ order.cert ∷ order.out ∷ []
+double_outputs order files product (Ok d) makes = above (nat_lt order.format.limit d.step) makes
+  where
+    above : (b : Bool) → Makes (double_above order d b) files product → names_of product.outputs ≡ order.cert ∷ order.out ∷ []
+    above true never = absurd never
+    above false makes = ap (λ (p : ProductValue). names_of p.outputs) makes.made
+double_outputs order files product (Err fault) never = absurd never
+
 migrate_outputs : (order : MigrateOrder) (files : Option Files) (product : ProductValue) (read : Result DrawingValue DrawFault)
     → Makes (migrate_read order read) files product → names_of product.outputs ≡ order.output ∷ []
 migrate_outputs order files product (Ok d) makes = ap (λ (p : ProductValue). names_of p.outputs) makes.made
@@ -87,6 +97,7 @@ makes_outputs (routing order) files product (bytes, input, makes) = route_output
 makes_outputs (checking order) files product (bytes, input, makes) = check_outputs order files product (drawing_of bytes) makes
 makes_outputs (sampling order) files product is = ap (λ (p : ProductValue). names_of p.outputs) is.made
 makes_outputs (migrating order) files product (bytes, input, makes) = migrate_outputs order files product (drawing_as2 bytes) makes
+makes_outputs (doubling order) files product (bytes, input, makes) = double_outputs order files product (drawing_of bytes) makes
 makes_outputs (rewriting order) files product (bytes, input, makes) =
     rewrite_outputs order files product (order.source.reads bytes) makes
 makes_outputs (showing order) files product (bytes, input, makes) = show_outputs order files product (order.format.reads bytes) makes

@@ -10,10 +10,12 @@ mod RewriteLemmas
 mod SewnDesigns
 mod ReportLemmas
 mod RouteLemmas
+mod DoubleLemmas
 mod SampleLemmas
 mod OrderFacts
 mod ShowFacts
 mod RouteFacts
+mod DoubleFacts
 mod TextFacts
 mod ReasonFacts
 mod SampleFacts

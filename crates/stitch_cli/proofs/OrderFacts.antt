@@ -8,7 +8,7 @@ use Rattle.design_model.specs.Designs.{DesignValue, empty_design}
 use Rattle.format_traits.specs.Meanings.{Meaning}
 use Rattle.stitch_cli.specs.declared.changing.ChangeFault.TheVariants as reason
 use Rattle.stitch_cli.specs.ChangedDesigns.{shifted_unless, threaded}
-use Rattle.stitch_cli.specs.Orders.{checking, hooping, migrating, order_of, outputs_of, rewriting, routing, sampling, showing}
+use Rattle.stitch_cli.specs.Orders.{checking, doubling, hooping, migrating, order_of, outputs_of, rewriting, routing, sampling, showing}
 
 -- a format with another ending
 abbrev ending_as : Meaning → List ℕ → Meaning
@@ -58,6 +58,25 @@ known_migrate m = refl
 
 pub known_migration_onto_itself : (m : Meaning) → order_of (dst_and_exp m) (codes "migrate" ∷ codes "a.rw" ∷ codes "a.rw" ∷ []) ≡ None
 known_migration_onto_itself m = refl
+
+-- a double run has the conditions of a route, and writes as it does
+pub known_double : (m : Meaning) → order_of (dst_and_exp m) (codes "double" ∷ codes "a" ∷ codes "b.exp" ∷ codes "c" ∷ [])
+    ≡ Some (doubling (record {
+      drawing = codes "a";
+      out = codes "b.exp";
+      cert = codes "c";
+      format = ending_as m (codes "exp");
+    }))
+known_double m = refl
+
+pub known_double_onto_drawing : (m : Meaning)
+    → order_of (dst_and_exp m) (codes "double" ∷ codes "a" ∷ codes "b.dst" ∷ codes "a" ∷ []) ≡ None
+known_double_onto_drawing m = refl
+
+pub known_double_outputs : (m : Meaning)
+    → outputs_of (doubling (record { drawing = codes "a"; out = codes "b"; cert = codes "c"; format = m }))
+    ≡ codes "c" ∷ codes "b" ∷ []
+known_double_outputs m = refl
 
 -- a conversion reads by the format of the first name and writes by that of the second
 pub known_convert : (m : Meaning)

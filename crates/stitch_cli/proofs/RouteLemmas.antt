@@ -38,7 +38,7 @@ walks_count d (one ∷ lines) [] best = absurd best
 walks_count d (one ∷ lines) (cert ∷ certs) best =
     let later = walks_count d lines certs best.1 in omega (arith, later)
 
-lines_count : (pieces : List Piece) → length (lines_of_pieces pieces) ≡ length pieces
+pub lines_count : (pieces : List Piece) → length (lines_of_pieces pieces) ≡ length pieces
 lines_count [] = refl
 lines_count (p ∷ pieces) = let later = lines_count pieces in omega (arith, later)
 

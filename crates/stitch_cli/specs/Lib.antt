@@ -11,6 +11,7 @@ pub mod OrderNames
 pub mod Orders
 pub mod Reasons
 pub mod Reports
+pub mod DoubleReports
 pub mod UsageText
 pub mod Texts
 -- read these first: what each command does, and what each status of the program means
@@ -18,6 +19,7 @@ pub mod Routes
 pub mod Checks
 pub mod Samples
 pub mod Migrations
+pub mod DoubleRuns
 pub mod Shows
 pub mod Hoops
 pub mod Rewrites

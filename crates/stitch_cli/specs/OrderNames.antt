@@ -7,7 +7,7 @@ use Rattle.command_words.specs.Changes.{Change}
 use Rattle.command_words.specs.Requests.{check, hoop, route, sample}
 use Rattle.format_traits.specs.Meanings.{Meaning}
 
--- the files that a route names, and what the format of its output means
+-- the files that a route or a double run names, and what the format of its output means
 pub record RouteOrder : Type 0 where
   pub drawing : List ℕ
   pub out : List ℕ
@@ -52,7 +52,7 @@ pub record HoopOrder : Type 0 where
   pub width : ℕ
   pub height : ℕ
 
--- the order of a route by its names and by what its format means
+-- the order of a route or of a double run by its names and by what its format means
 abbrev pub route_order : RouteNames → Meaning → RouteOrder
 route_order names format = record {
   drawing = names.drawing.now;

@@ -2,7 +2,7 @@
 use Rattle.std.specs.Prelude.{ℕ, Bool, ◌&&◌, not, List, [], ◌∷◌, Option, Some, None, bytes_eq, slice_get, if◌then◌else◌}
 use Rattle.std.specs.Option.{option_and_then}
 use Rattle.command_words.specs.Changes.{Change}
-use Rattle.command_words.specs.Requests.{Asked, asked_of, check, convert, edit, hoop, migrate, route, sample, show}
+use Rattle.command_words.specs.Requests.{Asked, asked_of, check, convert, double, edit, hoop, migrate, route, sample, show}
 use Rattle.command_words.specs.Words.{refits}
 use Rattle.format_traits.specs.Meanings.{Meaning}
 use Rattle.format_traits.specs.Endings.{found_in}
@@ -22,6 +22,7 @@ pub data Order : Type 0 where
   checking : CheckOrder → Order
   sampling : SampleOrder → Order
   migrating : MigrateOrder → Order
+  doubling : RouteOrder → Order
   rewriting : RewriteOrder → Order
   showing : ShowOrder → Order
   hooping : HoopOrder → Order
@@ -31,6 +32,13 @@ abbrev pub routing_to : (drawing out cert : List ℕ) → Option Meaning → Opt
 routing_to drawing out cert None = None
 routing_to drawing out cert (Some format) = if are_apart drawing out cert
     then Some (routing (record { drawing = drawing; out = out; cert = cert; format = format }))
+    else None
+
+-- the double run of these names to that format, where there is one
+abbrev pub doubling_to : (drawing out cert : List ℕ) → Option Meaning → Option Order
+doubling_to drawing out cert None = None
+doubling_to drawing out cert (Some format) = if are_apart drawing out cert
+    then Some (doubling (record { drawing = drawing; out = out; cert = cert; format = format }))
     else None
 
 -- the check of these files by that format, where there is one
@@ -79,6 +87,8 @@ completed formats (Some (check drawing file cert)) =
     checking_by drawing file cert (format_of formats file)
 completed formats (Some (sample number drawing)) = Some (sampling (sample_order number drawing))
 completed formats (Some (migrate input output)) = migrating_to input output
+completed formats (Some (double drawing out cert)) =
+    doubling_to drawing out cert (format_of formats out)
 completed formats (Some (convert input output splits cuts)) =
     rewriting_by input output (refits splits cuts) (format_of formats input)
     (format_of formats output)
@@ -98,6 +108,7 @@ outputs_of (routing order) = order.cert ∷ order.out ∷ []
 outputs_of (checking order) = []
 outputs_of (sampling order) = order.drawing ∷ []
 outputs_of (migrating order) = order.output ∷ []
+outputs_of (doubling order) = order.cert ∷ order.out ∷ []
 outputs_of (rewriting order) = order.output ∷ []
 outputs_of (showing order) = []
 outputs_of (hooping order) = []

@@ -3,11 +3,12 @@ ghost use Rattle.std.specs.Bool.{OnTrue};
 ghost use Rattle.command_words.specs.Requests.{AreCheckNames, AreNames, BothAreNames};
 ghost use Rattle.outside_io.specs.Files.{IsName};
 ghost use Rattle.stitch_cli.specs.Endings.{Answers};
-ghost use Rattle.stitch_cli.specs.Orders.{are_apart as names_are_apart, checking_by, format_of, hooping_by, migrating_to, order_of, rewriting_by, routing_to, showing_by};
+ghost use Rattle.stitch_cli.specs.Orders.{are_apart as names_are_apart, checking_by, doubling_to, format_of, hooping_by, migrating_to, order_of, rewriting_by, routing_to, showing_by};
 ghost use Rattle.stitch_cli.specs.RewriteSteps.{AreSound, changes_by};
 
 use crate::changing::Changes;
 use crate::checking::check;
+use crate::doubling::double;
 use crate::halt::Halt;
 use crate::hooping::hoop;
 use crate::migrating::migrate;
@@ -57,6 +58,7 @@ pub(crate) fn make<'a, S: Store>(
         ) => make_hoop(alloc, file, width, height, formats, store),
         Some(Request::Sample { number, drawing }) => sample(alloc, number, drawing),
         Some(Request::Migrate { input, output }) => make_migration(alloc, input, output, store),
+        Some(Request::Double(names)) => make_double(alloc, names, formats, store),
         None => Err(Halt::Unasked),
     }
 }
@@ -175,6 +177,26 @@ fn make_migration<'a, S: Store>(
         return Err(Halt::Unasked);
     }
     migrate(alloc, input, output, store)
+}
+
+fn make_double<'a, S: Store>(
+    alloc: Global,
+    names: RouteNames<'a>,
+    formats: &'a [Box<dyn Format>],
+    store: &mut S,
+) -> Result<Product<'a>, Halt<'a>>
+    requires { AreNames names }
+    ensures { Answers (doubling_to names.entry.drawing.now names.entry.out.now names.entry.cert.now
+        (format_of (map (λ f. meaning f) formats.now) names.entry.out.now))
+        (S.sight store.old) (S.sight store.new) result }
+{
+    if !are_apart(names) {
+        return Err(Halt::Unasked);
+    }
+    match format_for(formats, names.out) {
+        Some(format) => double(alloc, names, format, store),
+        None => Err(Halt::Unasked),
+    }
 }
 
 /// The first format whose ending the name has.

@@ -7,6 +7,8 @@ mod checking;
 mod commands;
 mod delivery;
 mod design_reports;
+mod double_reports;
+mod doubling;
 mod halt;
 mod hooping;
 mod messages;

@@ -103,7 +103,8 @@ fn print_report(alloc: Global, pieces: &[PieceReport]) -> Result<Bytes, Memory>
     Ok(text)
 }
 
-fn piece_place(alloc: Global, report: PieceReport) -> Result<String, Memory>
+/// Where a piece stands, and how many lines it has.
+pub(crate) fn piece_place(alloc: Global, report: PieceReport) -> Result<String, Memory>
     ensures { IfOk result (λ text. string_bytes text ≡ piece_place_text report) }
 {
     let block = report.block;
@@ -124,7 +125,8 @@ fn piece_cost(alloc: Global, report: PieceReport) -> Result<String, Memory>
     Ok(text)
 }
 
-fn totals_line(alloc: Global, pieces: usize, penetrations: u32) -> Result<String, Memory>
+/// The line of the sums.
+pub(crate) fn totals_line(alloc: Global, pieces: usize, penetrations: u32) -> Result<String, Memory>
     ensures { IfOk result (λ text. string_bytes text ≡ totals_text pieces penetrations) }
 {
     let text = format!(in alloc; "pieces {pieces} penetrations {penetrations}\n")?;

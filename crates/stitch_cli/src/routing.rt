@@ -124,8 +124,8 @@ fn routed<'a>(
     Ok(product)
 }
 
-/// The file of a route's design.
-fn encoded(
+/// The file of a design that sews the walks of a certificate.
+pub(crate) fn encoded(
     alloc: Global,
     format: &Box<dyn Format>,
     drawing: &Drawing,
