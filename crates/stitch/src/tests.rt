@@ -32,6 +32,7 @@ macro_rules! refused {
 }
 
 mod checks;
+mod doubles;
 mod files;
 mod limits;
 mod outside;

@@ -10,6 +10,7 @@ const USAGE: &str = "usage: stitch route DRAWING OUT CERT
        stitch hoop FILE WIDTH HEIGHT
        stitch sample N DRAWING
        stitch migrate DRAWING OUT
+       stitch double DRAWING OUT CERT
 ";
 
 /// A step whose words ask for nothing.
@@ -47,6 +48,8 @@ const UNASKED: &[Row] = &[Row {
         unasked!(&["sample", "0", "a.rw"]),
         unasked!(&["migrate", "a.rw", "a.rw"]),
         unasked!(&["migrate", "a.rw"]),
+        unasked!(&["double", "a.rw", "b.dst", "b.dst"]),
+        unasked!(&["double", "a.rw", "b.jef", "c"]),
     ],
 }];
 
