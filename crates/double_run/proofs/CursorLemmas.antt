@@ -6,7 +6,8 @@ use Rattle.std.proofs.lemmas.Bool.Decides.{nat_tests}
 use Rattle.std.proofs.lemmas.List.Sums.{sum_by-set}
 use Rattle.line_graph.specs.declared.edge.Edge.{Edge}
 use Rattle.line_graph.specs.PieceGraphs.{is_odd}
-use Rattle.double_run.specs.LineEnds.{AreBefore, AreLast, AreReady, IsCursor, IsLast, junction_at}
+use Rattle.double_run.specs.Cursors.{AreReady, IsCursor}
+use Rattle.euler_tour.specs.LineEnds.{AreBefore, AreLast, IsLast, junction_at}
 use Rattle.double_run.specs.Outings.{LeadsFrom, is_spent, touches}
 use Rattle.double_run.proofs.EndLemmas.{end_a, end_b, end_within, half, half_more, started}
 use Rattle.double_run.proofs.LineLemmas.{same}

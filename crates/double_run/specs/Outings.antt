@@ -9,7 +9,7 @@ use Rattle.line_graph.specs.PieceWalks.{BeginsWith, cost_of, pass_sum, start_of,
 use Rattle.double_run.specs.declared.legs.Leg.{Leg}
 use Rattle.double_run.specs.declared.outing.Outing.{Outing}
 use Rattle.double_run.specs.DoubleWalks.{times}
-use Rattle.double_run.specs.LineEnds.{AreReady}
+use Rattle.double_run.specs.Cursors.{AreReady}
 
 -- the pass along a leg
 abbrev pub pass_along : List ℕ → Leg → Pass

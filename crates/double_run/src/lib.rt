@@ -3,7 +3,6 @@
 
 mod double_walk;
 mod legs;
-mod line_ends;
 mod outing;
 #[cfg(test)]
 mod tests;

@@ -3,8 +3,8 @@ ghost use Rattle.double_run.specs.Outings.{GoesOut, IsOuting, IsReady, KeepsOuti
 ghost use Rattle.line_graph.specs.CutPieces.{graph_of};
 
 use crate::legs::{Leg, end_of_leg, leg_from, start_of_leg};
-use crate::line_ends::{LineEnds, chain, put_number};
 use design_model::Memory;
+use euler_tour::{LineEnds, chain, put_number};
 use line_graph::{Piece, Walk};
 use std::alloc::Global;
 

@@ -1,6 +1,7 @@
 -- read this one first
 pub mod Tours
--- of the inside: the ends of lines, lines that are left, and a tour in the making
+-- the ends of lines, for any walk that is made
 pub mod LineEnds
+-- of the inside: lines that are left, and a tour in the making
 pub mod LeftLines
 pub mod Trips

@@ -1,4 +1,5 @@
-//! Walks that pass each line of a piece a given number of times.
+//! Walks that pass each line of a piece a given number of times, and the chains of line ends that
+//! they go along.
 #![tactic(auto)]
 
 mod closed_walk;
@@ -9,3 +10,4 @@ mod tests;
 mod trip;
 
 pub use closed_walk::tour;
+pub use line_ends::{LineEnds, chain, put_number};

@@ -1,5 +1,5 @@
 -- The double run of a drawing, from the double walks over its pieces.
-use Rattle.std.proofs.Common.{◌≡◌, ◌≢◌, ◌≤◌, ◌<◌, ◌^◌, ℕ, suc, ◌+◌, ◌*◌, true, List, [], ◌∷◌, ◌++◌, length, All, Contains, arith, refl, sym, ap, ◌∙◌, subst}
+use Rattle.std.proofs.Common.{◌≡◌, ◌≤◌, ◌<◌, ◌^◌, ℕ, ◌+◌, List, [], ◌∷◌, ◌++◌, length, All, Contains, arith, sym, ap, ◌∙◌, subst}
 use Rattle.std.proofs.lemmas.List.{append-nil, append_assoc}
 use Rattle.std.proofs.lemmas.List.Elements.{All-cons, All-contains, All-head, All-nil, All-tail}
 use Rattle.std.specs.List.{AllZip, concat}
@@ -7,17 +7,15 @@ use Rattle.cut_certificate.specs.declared.certificate.PieceCert.{PieceCert}
 use Rattle.cut_certificate.specs.declared.cut.Cut.{Cut}
 use Rattle.cut_certificate.specs.Certificates.{CanBeSpelled}
 use Rattle.cut_certificate.specs.Packings.{IsPlainCut}
-use Rattle.double_run.specs.DoubleWalks.{IsDouble}
 use Rattle.line_graph.specs.declared.pass.Pass.{Pass}
 use Rattle.line_graph.specs.declared.piece.Piece.{Piece}
 use Rattle.line_graph.specs.CutPieces.{AreCutFrom, graph_of, lines_of_pieces}
 use Rattle.line_graph.specs.Drawings.{DrawingValue, KeepsDrawing}
 use Rattle.line_graph.specs.KeptPieces.{KeepsPiece}
 use Rattle.line_graph.specs.PieceGraphs.{PieceValue, piece_of}
-use Rattle.line_graph.specs.PieceWalks.{BeginsWith, piece_cost, walk_cost}
+use Rattle.line_graph.specs.PieceWalks.{BeginsWith}
 use Rattle.line_graph.specs.Runs.{AreWritable, commands_after, runs_of, sewn_design}
 use Rattle.line_graph.specs.SewnWalks.{FittingWalksAreSewable, IsSewable, PiecesKeepLimits}
-use Rattle.line_graph.specs.Walks.{needles_of_walk}
 use Rattle.route_core.specs.declared.routed.Routed.{Routed}
 use Rattle.route_core.specs.Doubles.{AreDoubled, IsDoubleOver, IsDoubled, RunsDouble}
 use Rattle.route_core.specs.Routes.{walks_of}

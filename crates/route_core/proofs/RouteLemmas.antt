@@ -1,25 +1,20 @@
 -- The route of a drawing, from the certificates of its pieces.
-use Rattle.std.proofs.Common.{◌≡◌, ◌≢◌, ◌≤◌, ◌<◌, ℕ, suc, ◌+◌, ◌-◌, ◌*◌, List, [], ◌∷◌, ◌++◌, length, map, replicate, All, Contains, sum_by, arith, refl, sym, ◌∙◌, ap, subst}
-use Rattle.std.proofs.lemmas.List.{append-nil, append_assoc, length-append, length-map, length-replicate}
-use Rattle.std.proofs.lemmas.List.Elements.{All-cons, All-contains, All-head, All-nil, All-tail}
-use Rattle.std.proofs.lemmas.List.Sums.{sum_by-cons}
+use Rattle.std.proofs.Common.{◌≡◌, ◌≤◌, ◌<◌, ℕ, ◌+◌, ◌*◌, List, [], ◌∷◌, ◌++◌, length, All, arith, sym, ◌∙◌, ap, subst}
+use Rattle.std.proofs.lemmas.List.{append-nil, append_assoc}
+use Rattle.std.proofs.lemmas.List.Elements.{All-head, All-tail}
 use Rattle.std.specs.List.{AllZip, concat}
 use Rattle.cut_certificate.specs.declared.certificate.PieceCert.{PieceCert}
 use Rattle.cut_certificate.specs.Bounds.{KeepsTotal}
 use Rattle.cut_certificate.specs.Certificates.{CanBeSpelled}
 use Rattle.cut_certificate.specs.Cuts.{total_of}
-use Rattle.design_model.specs.declared.command.Command.TheVariants.{Stitch, Stop, Trim}
-use Rattle.design_model.specs.declared.point.Point.{Point}
-use Rattle.line_graph.specs.declared.pass.Pass.{Pass}
 use Rattle.line_graph.specs.declared.piece.Piece.{Piece}
 use Rattle.line_graph.specs.CutPieces.{AreCutFrom, graph_of, lines_of_pieces}
 use Rattle.line_graph.specs.Drawings.{DrawingValue, KeepsDrawing}
 use Rattle.line_graph.specs.KeptPieces.{KeepsPiece}
 use Rattle.line_graph.specs.PieceGraphs.{PieceValue, piece_of}
 use Rattle.line_graph.specs.PieceWalks.{piece_cost, walk_cost}
-use Rattle.line_graph.specs.Runs.{AreNear, AreWritable, Run, commands_after, run_of, runs_of, sewn_design, stops_after}
-use Rattle.line_graph.specs.SewnWalks.{ArePiecesWithin, FittingWalksAreSewable, GoesAlong, IsSewable, PiecesKeepLimits}
-use Rattle.line_graph.specs.Walks.{needles_of_walk}
+use Rattle.line_graph.specs.Runs.{AreWritable, commands_after, runs_of, sewn_design}
+use Rattle.line_graph.specs.SewnWalks.{FittingWalksAreSewable, PiecesKeepLimits}
 use Rattle.route_core.specs.declared.routed.Routed.{Routed}
 use Rattle.route_core.specs.PieceRoutes.{Proves}
 use Rattle.route_core.specs.RoutedPieces.{AreRouted, IsRouted}

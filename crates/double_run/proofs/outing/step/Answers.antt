@@ -1,6 +1,6 @@
 use Rattle.std.proofs.Common.{ℕ, ◌∙◌, false, true, subst}
 use Rattle.line_graph.specs.CutPieces.{graph_of}
-use Rattle.double_run.specs.LineEnds.{IsCursor}
+use Rattle.double_run.specs.Cursors.{IsCursor}
 use Rattle.double_run.proofs.CursorLemmas.{cursor_end, cursor_leads, cursor_none, cursor_place, is_passed, read_cursor, read_passed}
 use Rattle.double_run.proofs.outing.step.Goals as goal
 

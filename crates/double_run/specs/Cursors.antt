@@ -1,0 +1,20 @@
+-- Cursors that go back over the ends of lines at each junction, past those whose lines are passed.
+use Rattle.std.specs.Prelude.{◌≡◌, ℕ, ◌+◌, ◌*◌, ◌/◌, ◌<◌, ◌≤◌, Bool, true, false, List, Some, length, get_or}
+use Rattle.euler_tour.specs.LineEnds.{AreBefore, junction_at}
+use Rattle.line_graph.specs.declared.edge.Edge.{Edge}
+
+-- that number's end is at the junction, and each line with an end behind it there is passed
+pub record IsCursor (edges : List Edge) (passed : List Bool) (j number : ℕ) : Type 0 where
+  pub within : number ≤ 2 * length edges
+  pub there : (end : ℕ) → number ≡ end + 1 → junction_at edges end ≡ Some j
+  pub over : (end : ℕ) → number ≤ end → junction_at edges end ≡ Some j
+      → get_or passed (end / 2) false ≡ true
+
+-- chains of the ends of the edges, cursors that are ends of theirs, and a junction
+pub record AreReady (edges : List Edge) (count : ℕ) (passed : List Bool) (last before : List ℕ)
+    (at : ℕ) : Type 0 where
+  pub last_beside : length last ≡ count
+  pub before_beside : length before ≡ 2 * length edges
+  pub below : at < count
+  pub linked : AreBefore edges before
+  pub cursors : (j : ℕ) → j < count → IsCursor edges passed j (get_or last j 0)
