@@ -32,7 +32,10 @@ const DOUBLED: &[Row] = &[
                     ),
                 ],
             ),
-            refused!(OF_DST, "stitch: no: piece 1: cuts give 0 halves, needed 8\n"),
+            refused!(
+                OF_DST,
+                "stitch: no: piece 1: cuts give 0 halves, needed 8\n"
+            ),
         ],
     },
     // Four junctions, each joined with each.
@@ -69,7 +72,10 @@ const DOUBLED: &[Row] = &[
         )],
     },
     Row {
-        before: &[("a.rw", Holds::Bytes(b"redwork 1\nstep 122\ncolor 1\nline 0 0 9 0\n"))],
+        before: &[(
+            "a.rw",
+            Holds::Bytes(b"redwork 1\nstep 122\ncolor 1\nline 0 0 9 0\n"),
+        )],
         steps: &[refused!(
             BOTH_WAYS,
             "stitch: a.rw: step 122 is above 121, the limit of dst\n"

@@ -1,4 +1,3 @@
-use Rattle.std.proofs.Common.{subst, sym, ◌∙◌}
 use Rattle.stitch_cli.proofs.ReportLemmas.{blocks_few}
 use Rattle.stitch_cli.proofs.DoubleLemmas.{double_makes, doubled_plain, doubles_few, needles_few}
 use Rattle.stitch_cli.proofs.doubling.doubled.Goals as goal
