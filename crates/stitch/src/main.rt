@@ -13,6 +13,7 @@ use std::alloc::AllocError;
 use std::process::ExitCode;
 use std::{env, io};
 use stitch_cli::{Status, out_of_memory, run};
+use stitch_text::List;
 
 fn main(rt: HostRuntime) -> ExitCode {
     ExitCode::from(status_of(&rt) as u8)
@@ -47,6 +48,7 @@ fn start(rt: &HostRuntime, words: &[String]) -> Result<Status, AllocError> {
     formats.push(Box::new(alloc, Exp)?)?;
     formats.push(Box::new(alloc, Pec)?)?;
     formats.push(Box::new(alloc, Pes)?)?;
+    formats.push(Box::new(alloc, List::new())?)?;
     let mut store = DirStore::new(alloc, rt);
     let mut out = StdSink::new(rt.stdout());
     let mut err = StdSink::new(rt.stderr());

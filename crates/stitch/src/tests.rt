@@ -35,6 +35,7 @@ mod checks;
 mod doubles;
 mod files;
 mod limits;
+mod lists;
 mod outside;
 mod prefixes;
 mod rewrites;

@@ -8,6 +8,7 @@ use std::alloc::Global;
 use std::process::Abort;
 use std::test::Fail;
 use stitch_cli::{Status, run};
+use stitch_text::List;
 
 /// What a file holds.
 #[derive(Clone, Copy, Debug)]
@@ -42,8 +43,8 @@ pub struct Row {
 }
 
 /// The names that have room for what commands write.
-const WRITTEN: [&str; 8] = [
-    "b.dst", "b.exp", "b.pec", "b.pes", "b.cert", "c.exp", "c.pes", "s.rw",
+const WRITTEN: [&str; 10] = [
+    "b.dst", "b.exp", "b.pec", "b.pes", "b.cert", "c.exp", "c.pes", "s.rw", "b.lst", "c.dst",
 ];
 
 /// Runs the rows.
@@ -116,8 +117,8 @@ fn take(rt: &impl Abort, alloc: Global, step: &Step, store: &mut MemStore) -> Re
 }
 
 /// How long the files are that commands write.
-fn sizes(store: &MemStore) -> [Option<usize>; 8] {
-    let mut sizes = [None; 8];
+fn sizes(store: &MemStore) -> [Option<usize>; 10] {
+    let mut sizes = [None; 10];
     for (size, name) in sizes.iter_mut().zip(WRITTEN) {
         *size = store.file(name).map(|file| file.len());
     }
@@ -139,7 +140,7 @@ fn is_held(store: &MemStore, name: &str, holds: Holds) -> bool {
     }
 }
 
-/// The status of the program over its four formats.
+/// The status of the program over its five formats.
 pub fn answer(
     alloc: Global,
     words: &[&str],
@@ -156,5 +157,6 @@ pub fn answer(
     formats.push(Box::new(alloc, Exp)?)?;
     formats.push(Box::new(alloc, Pec)?)?;
     formats.push(Box::new(alloc, Pes)?)?;
+    formats.push(Box::new(alloc, List::new())?)?;
     Ok(run(alloc, &owned, &formats, store, out, err))
 }

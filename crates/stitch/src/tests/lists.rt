@@ -1,0 +1,83 @@
+use super::rows::{Holds, Row, play};
+use std::test::Fail;
+use stitch_cli::Status;
+
+/// Designs as lists, lists as designs, and texts that are none.
+const LISTS: &[Row] = &[
+    Row {
+        before: &[(
+            "a.rw",
+            Holds::Bytes(b"redwork 1\nstep 30\ncolor 5\nline 0 0 30 0 30 30 0 30 0 0\n"),
+        )],
+        steps: &[
+            done!(
+                &["route", "a.rw", "b.dst", "b.cert"],
+                "block 1 piece 1 lines 1 cost 4 retraced 0 penetrations 5\npieces 1 penetrations 5\n",
+                &[],
+            ),
+            done!(
+                &["route", "a.rw", "b.lst", "b.cert"],
+                "block 1 piece 1 lines 1 cost 4 retraced 0 penetrations 5\npieces 1 penetrations 5\n",
+                &[(
+                    "b.lst",
+                    Holds::Bytes(
+                        b"stitch-list 1\nlabel []\nblock 5\nneedle 0 0\nneedle 30 0\nneedle 30 30\nneedle 0 30\nneedle 0 0\ntrim\nend\n",
+                    ),
+                )],
+            ),
+            done!(&["check", "a.rw", "b.lst", "b.cert"], "yes\n", &[]),
+            done!(
+                &["convert", "b.lst", "c.dst"],
+                "needles 5 trims 1 stops 0\n",
+                &[("c.dst", Holds::Same("b.dst"))],
+            ),
+        ],
+    },
+    // A float in four jumps is one line.
+    Row {
+        before: &[(
+            "a.exp",
+            Holds::Bytes(&[
+                0x00, 0x00, 0x80, 0x04, 0x64, 0x00, 0x80, 0x04, 0x64, 0x00, 0x80, 0x04, 0x64, 0x00,
+                0x80, 0x04, 0x64, 0x00, 0x00, 0x00,
+            ]),
+        )],
+        steps: &[done!(
+            &["convert", "a.exp", "b.lst"],
+            "needles 2 trims 0 stops 0\n",
+            &[(
+                "b.lst",
+                Holds::Bytes(
+                    b"stitch-list 1\nlabel []\nblock 1\nneedle 0 0\nfloat 400 0\nend\n",
+                ),
+            )],
+        )],
+    },
+    Row {
+        before: &[
+            (
+                "a.lst",
+                Holds::Bytes(b"stitch-list 1\nlabel []\nblock 5\ntrim\nend\n"),
+            ),
+            (
+                "short.lst",
+                Holds::Bytes(b"stitch-list 1\nlabel []\nblock 5\n"),
+            ),
+        ],
+        steps: &[
+            refused!(
+                &["show", "a.lst"],
+                "stitch: a.lst: byte 31: control code not known\n"
+            ),
+            refused!(
+                &["convert", "short.lst", "b.dst"],
+                "stitch: short.lst: byte 31: file too short\n"
+            ),
+        ],
+    },
+];
+
+#[test]
+fn a_list_is_written_read_and_refused(rt: HostRuntime) -> Result<(), Fail> {
+    play(&rt, rt.alloc(), LISTS)
+}
