@@ -1,5 +1,5 @@
 -- The double run of a drawing, from the double walks over its pieces.
-use Rattle.std.proofs.Common.{◌≡◌, ◌≤◌, ◌<◌, ◌^◌, ℕ, ◌+◌, List, [], ◌∷◌, ◌++◌, length, All, Contains, arith, sym, ap, ◌∙◌, subst}
+use Rattle.std.proofs.Common.{◌≡◌, ◌≤◌, ◌<◌, ◌^◌, ℕ, ◌+◌, List, [], ◌∷◌, ◌++◌, length, All, Contains, arith, refl, true, sym, ap, ◌∙◌, subst}
 use Rattle.std.proofs.lemmas.List.{append-nil, append_assoc}
 use Rattle.std.proofs.lemmas.List.Elements.{All-cons, All-contains, All-head, All-nil, All-tail}
 use Rattle.std.specs.List.{AllZip, concat}
@@ -7,13 +7,14 @@ use Rattle.cut_certificate.specs.declared.certificate.PieceCert.{PieceCert}
 use Rattle.cut_certificate.specs.declared.cut.Cut.{Cut}
 use Rattle.cut_certificate.specs.Certificates.{CanBeSpelled}
 use Rattle.cut_certificate.specs.Packings.{IsPlainCut}
+use Rattle.double_run.specs.DoubleWalks.{unbound}
 use Rattle.line_graph.specs.declared.pass.Pass.{Pass}
 use Rattle.line_graph.specs.declared.piece.Piece.{Piece}
 use Rattle.line_graph.specs.CutPieces.{AreCutFrom, graph_of, lines_of_pieces}
 use Rattle.line_graph.specs.Drawings.{DrawingValue, KeepsDrawing}
 use Rattle.line_graph.specs.KeptPieces.{KeepsPiece}
 use Rattle.line_graph.specs.PieceGraphs.{PieceValue, piece_of}
-use Rattle.line_graph.specs.PieceWalks.{BeginsWith}
+use Rattle.line_graph.specs.PieceWalks.{BeginsWith, fits}
 use Rattle.line_graph.specs.Runs.{AreWritable, commands_after, runs_of, sewn_design}
 use Rattle.line_graph.specs.SewnWalks.{FittingWalksAreSewable, IsSewable, PiecesKeepLimits}
 use Rattle.route_core.specs.declared.routed.Routed.{Routed}
@@ -63,6 +64,55 @@ doubles_spelled d lines cert first keeps below sewable begins none = record {
         keeps.line_count)
         (few walk (All-tail (λ (pass : Pass). Contains lines pass.line) q walk there))
 
+-- the drawing without starts and ends, whose pieces have neither
+abbrev unended : DrawingValue → DrawingValue
+unended d = record d { starts = []; ends = [] }
+
+unended_keeps : (d : DrawingValue) → KeepsDrawing d → KeepsDrawing (unended d)
+unended_keeps d keeps = record {
+  label = keeps.label;
+  one_word = keeps.one_word;
+  step_from = keeps.step_from;
+  step_to = keeps.step_to;
+  blocks_from = keeps.blocks_from;
+  blocks_to = keeps.blocks_to;
+  threads = keeps.threads;
+  used = keeps.used;
+  there = keeps.there;
+  ordered = keeps.ordered;
+  lines = keeps.lines;
+  line_count = keeps.line_count;
+  point_count = keeps.point_count;
+  cost = keeps.cost;
+}
+
+unended_kept : (d : DrawingValue) (lines : List ℕ) → KeepsPiece (piece_of d lines) → KeepsPiece (piece_of (unended d) lines)
+unended_kept d lines kept = record {
+  some = kept.some;
+  few = kept.few;
+  beside = kept.beside;
+  rising = kept.rising;
+  lines_below = kept.lines_below;
+  different = kept.different;
+  junctions_few = kept.junctions_few;
+  ends = kept.ends;
+  met = kept.met;
+  joined = kept.joined;
+  counted = kept.counted;
+  costs = kept.costs;
+  cost_few = kept.cost_few;
+  start_below = refl;
+  end_below = refl;
+}
+
+-- a walk that fits a piece without them can be sewn
+sewable_so : (d : DrawingValue) (lines : List ℕ) (walk : List Pass) → KeepsDrawing d → FittingWalksAreSewable
+    → All (λ line. line < length d.lines) lines → KeepsPiece (piece_of d lines) → fits (unbound (piece_of d lines)) walk ≡ true
+    → IsSewable d lines walk
+sewable_so d lines walk keeps sews below kept fit =
+    let s = sews (unended d) lines walk (unended_keeps d keeps) below (unended_kept d lines kept) fit in
+    record { there = s.there; penetrations = s.penetrations; near = s.near }
+
 -- all that is known of a piece and its double walk
 record Good (d : DrawingValue) (lines : List ℕ) (cert : PieceCert) : Type 0 where
   doubled : IsDoubled d lines cert
@@ -72,7 +122,7 @@ good : (d : DrawingValue) → KeepsDrawing d → FittingWalksAreSewable → (p :
     → All (λ line. line < length d.lines) p.lines → graph_of p ≡ piece_of d p.lines → RunsDouble (graph_of p) cert → Good d p.lines cert
 good d keeps sews p cert below is run =
     let double : RunsDouble (piece_of d p.lines) cert = subst (λ (g : PieceValue). RunsDouble g cert) is run in
-    let sewable = sews d p.lines cert.walk keeps below (subst KeepsPiece is p.kept) double.fitting in
+    let sewable = sewable_so d p.lines cert.walk keeps sews below (subst KeepsPiece is p.kept) double.fitting in
     record {
       doubled = record {
         double = double.double;
