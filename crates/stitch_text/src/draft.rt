@@ -56,9 +56,7 @@ impl Draft {
             Some(ListLine::End) | None => Err(ReadFault::Control { at }),
         }
     }
-}
 
-impl Draft {
     /// Adds a stop, and the thread of the block after it.
     fn take_block(&mut self, at: u64, thread: u8) -> Result<(), ReadFault>
         requires { IsSound self.old }
