@@ -5,7 +5,8 @@ use Rattle.line_graph.specs.declared.edge.Edge.{Edge}
 use Rattle.line_graph.specs.PieceGraphs.{bit}
 use Rattle.line_graph.specs.PieceWalks.{cost_of, edge_sum, end_of, start_of}
 use Rattle.double_run.specs.declared.legs.Leg.{Leg}
-use Rattle.double_run.specs.Outings.{count_left, edge_at, is_met, is_on_way, is_spent, passed_cost, touches}
+use Rattle.double_run.specs.OutingSteps.{count_left}
+use Rattle.double_run.specs.Outings.{edge_at, is_met, is_on_way, is_spent, passed_cost, touches}
 use Rattle.double_run.proofs.LineLemmas.{eq_self, some_same, suc_suc, suc_zero, zero_suc}
 
 -- a test that is one of two

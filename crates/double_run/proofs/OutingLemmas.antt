@@ -9,7 +9,8 @@ use Rattle.line_graph.specs.PieceGraphs.{bit}
 use Rattle.line_graph.specs.PieceWalks.{after_edge, cost_of, edge_of, end_of, of_edge, pass_sum, rises, start_of, walk_on}
 use Rattle.double_run.specs.declared.legs.Leg.{Leg}
 use Rattle.double_run.specs.DoubleWalks.{times}
-use Rattle.double_run.specs.Outings.{Keeps, are_there, count_left, is_met, is_on_way, is_spent, pass_along, pass_home, passed_cost, touches, way_home}
+use Rattle.double_run.specs.OutingSteps.{count_left}
+use Rattle.double_run.specs.Outings.{Keeps, are_there, is_met, is_on_way, is_spent, pass_along, pass_home, passed_cost, touches, way_home}
 use Rattle.double_run.proofs.LineLemmas.{both_ways, edge_found, eq_self, nowhere, one_line, same, sum_push, times_push, walk_append}
 use Rattle.double_run.proofs.MetLemmas.{cost_more, found_at, less_left, marks, met_before, neither, spent_on, touched, way_push}
 
@@ -63,7 +64,8 @@ out_kept lines edges walk out passed root leg e up beside there left k = record 
   counted = λ n. λ way. λ below.
       counts n way below (one_line lines leg.place n up (omega (arith, within, beside)) below) (k.counted n way below);
   sums = rw (sum_push lines edges walk (pass_along lines leg), home_push lines out leg, cost_more passed edges leg.place e left there, found)
-      (costs e.cost (pass_sum lines edges cost_of walk) (pass_sum lines edges cost_of (way_home lines out)) (passed_cost passed edges) k.sums);
+      (costs e.cost (pass_sum lines edges cost_of walk) (pass_sum lines edges cost_of (way_home lines out)) (passed_cost passed edges)
+      k.sums);
   spent = λ j. λ met. λ other. λ away.
       let parts = neither (is_on_way edges out j) _ (sym (way_push edges out leg j) ∙ away) in
       by_end j other (subst (λ (x : Edge). (start_of x leg.back == j) ≡ false) (found_at edges leg.place e there) parts.1)
@@ -116,7 +118,8 @@ back_kept lines edges walk out passed root at leg e up beside there spent k = re
   legs = (and_parts (are_there (length edges) out) _ (sym (there_push (length edges) out leg) ∙ k.legs)).0;
   counted = λ n. λ way. λ below.
       rw (times_push (get_or lines n 0) way walk (pass_home lines leg))
-      (moved _ _ _ _ (ap (λ (w : List Pass). times (get_or lines n 0) way walk + times (get_or lines n 0) way w) (sym (home_push lines out leg))
+      (moved _ _ _ _
+      (ap (λ (w : List Pass). times (get_or lines n 0) way walk + times (get_or lines n 0) way w) (sym (home_push lines out leg))
       ∙ k.counted n way below));
   sums = rw (sum_push lines edges walk (pass_home lines leg))
       (moved (pass_sum lines edges cost_of walk) (of_edge cost_of (edge_of lines edges (get_or lines leg.place 0)))

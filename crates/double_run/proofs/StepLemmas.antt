@@ -13,7 +13,8 @@ use Rattle.double_run.specs.declared.outing.Outing.{Outing}
 use Rattle.double_run.specs.DoubleWalks.{IsDouble}
 use Rattle.double_run.specs.Cursors.{AreReady}
 use Rattle.euler_tour.specs.LineEnds.{AreBefore, AreLast}
-use Rattle.double_run.specs.Outings.{GoesOut, IsHome, IsOuting, IsReady, IsStep, Keeps, KeepsOuting, LeadsFrom, are_there, count_left, edge_at, is_spent, pass_along, pass_home, root_of}
+use Rattle.double_run.specs.Outings.{IsOuting, IsReady, Keeps, KeepsOuting, LeadsFrom, are_there, edge_at, is_spent, pass_along, pass_home, root_of}
+use Rattle.double_run.specs.OutingSteps.{GoesOut, IsHome, IsStep, count_left}
 use Rattle.double_run.proofs.CursorLemmas.{back_ready, begins_ready, marked_at, marked_stays, out_ready, over_less, over_ready}
 use Rattle.double_run.proofs.EndLemmas.{ends_are_below}
 use Rattle.double_run.proofs.HomeLemmas.{begins_kept, begins_on, edge_there, first_is, home_cost, home_double, root_is}

@@ -1,6 +1,5 @@
 -- A double walk in the making.
-use Rattle.std.specs.Prelude.{◌≡◌, ℕ, ◌+◌, ◌*◌, ◌/◌, ◌<◌, ◌==◌, ◌&&◌, ◌||◌, Bool, true, false, not, List, [], ◌∷◌, ◌++◌, Some, Result, Ok, Err, length, get_or, slice_get, nat_lt, sum_by}
-use Rattle.design_model.specs.declared.memory.Memory.{Memory}
+use Rattle.std.specs.Prelude.{◌≡◌, ℕ, ◌+◌, ◌*◌, ◌<◌, ◌==◌, ◌&&◌, ◌||◌, Bool, true, false, not, List, [], ◌∷◌, ◌++◌, Some, length, get_or, slice_get, nat_lt}
 use Rattle.line_graph.specs.declared.edge.Edge.{Edge}
 use Rattle.line_graph.specs.declared.pass.Pass.{Pass}
 use Rattle.line_graph.specs.PieceGraphs.{PieceValue, bit}
@@ -54,7 +53,8 @@ passed_cost (false ∷ passed) (e ∷ edges) = passed_cost passed edges
 -- one of the legs leads from that junction
 abbrev pub is_on_way : List Edge → List Leg → ℕ → Bool
 is_on_way edges [] j = false
-is_on_way edges (leg ∷ out) j = start_of (edge_at edges leg.place) leg.back == j || is_on_way edges out j
+is_on_way edges (leg ∷ out) j = start_of (edge_at edges leg.place) leg.back == j
+    || is_on_way edges out j
 
 -- each leg is one of so many lines
 abbrev pub are_there : ℕ → List Leg → Bool
@@ -68,9 +68,9 @@ pub record LeadsFrom (edges : List Edge) (passed : List Bool) (at : ℕ) (leg : 
   pub starts : start_of edge leg.back ≡ at
   pub left : slice_get passed leg.place ≡ Some false
 
--- the walk leads to `at`, and the way home from there to where it began; the two together pass the lines
--- that are passed once in each direction, and no others, and cost as much; and each junction that was met is
--- spent, or lies on the way home
+-- the walk leads to `at`, and the way home from there to where it began; the two together pass the
+-- lines that are passed once in each direction, and no others, and cost twice what these do; and
+-- each junction that was met is spent, or lies on the way home
 pub record Keeps (lines : List ℕ) (edges : List Edge) (walk : List Pass) (out : List Leg)
     (passed : List Bool) (root at : ℕ) : Type 0 where
   pub beside : length passed ≡ length edges
@@ -105,49 +105,3 @@ pub record IsOuting (p : PieceValue) (o : Outing) : Type 0 where
   pub ready : IsReady p o
   pub begins : BeginsWith (first_line p.lines) o.walk
   pub first : get_or o.passed.items 0 false ≡ true
-
--- how many lines aren't passed
-abbrev pub count_left : List Bool → ℕ
-count_left [] = 0
-count_left (p ∷ passed) = bit (not p) + count_left passed
-
--- what falls with each step
-abbrev pub rank : Outing → ℕ
-rank o =
-    (2 * count_left o.passed.items + length o.out.items) + sum_by (λ n. n) o.ends.last.items
-
--- the outing is kept, what it began with stays, and what was passed is passed
-pub record GoesOn (p : PieceValue) (old new : Outing) : Type 0 where
-  pub keeps : KeepsOuting p new
-  pub ready : IsReady p new
-  pub begins : BeginsWith (first_line p.lines) old.walk → BeginsWith (first_line p.lines) new.walk
-  pub first : get_or old.passed.items 0 false ≡ true → get_or new.passed.items 0 false ≡ true
-
--- a step was made
-pub record IsStep (p : PieceValue) (old new : Outing) : Type 0 where
-  pub on : GoesOn p old new
-  pub less : rank new < rank old
-
--- it went out along that leg
-pub record GoesOut (p : PieceValue) (old new : Outing) (leg : Leg) : Type 0 where
-  pub made : IsStep p old new
-  pub walk : new.walk ≡ old.walk ++ pass_along p.lines leg ∷ []
-  pub marked : get_or new.passed.items leg.place false ≡ true
-
--- at the junction the end is left behind, whatever the piece, where its line is passed
-abbrev pub PassesOver : ℕ → Outing → Outing → Type 0
-PassesOver end old new = (p : PieceValue) → KeepsOuting p old → IsReady p old
-    → get_or old.ends.last.items old.at 0 ≡ end + 1
-    → get_or old.passed.items (end / 2) false ≡ true → IsStep p old new
-
--- it is home, and nothing is left there
-pub record IsHome (p : PieceValue) (old new : Outing) : Type 0 where
-  pub on : GoesOn p old new
-  pub empty : new.out.items ≡ []
-  pub spent : is_spent new.passed.items p.edges new.at ≡ true
-
--- whether a step was made
-abbrev pub Steps : PieceValue → Outing → Outing → Result Bool Memory → Type 0
-Steps p old new (Ok true) = IsStep p old new
-Steps p old new (Ok false) = IsHome p old new
-Steps p old new (Err e) = Unit {0}

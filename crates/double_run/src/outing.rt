@@ -1,5 +1,6 @@
 ghost use Rattle.std.specs.Prelude.{◌≡◌, ◌<◌, [], IfOk, OnOk, false, true, length};
-ghost use Rattle.double_run.specs.Outings.{GoesOut, IsOuting, IsReady, KeepsOuting, LeadsFrom, PassesOver, Steps, is_spent};
+ghost use Rattle.double_run.specs.Outings.{IsOuting, IsReady, KeepsOuting, LeadsFrom, is_spent};
+ghost use Rattle.double_run.specs.OutingSteps.{GoesOut, PassesOver, Steps};
 ghost use Rattle.line_graph.specs.CutPieces.{graph_of};
 
 use crate::legs::{Leg, end_of_leg, leg_from, start_of_leg};

@@ -42,7 +42,8 @@ doubled_all pieces left certs is l =
     subst (AreDoubled pieces) (append-nil certs) (l.whole [] (subst (λ (ps : List Piece). AreDoubled ps []) (sym is) tt))
 
 -- a double walk and no cuts can be spelled
-doubles_spelled : (d : DrawingValue) (lines : List ℕ) (cert : PieceCert) (first : ℕ) → KeepsDrawing d → All (λ line. line < length d.lines) lines
+doubles_spelled : (d : DrawingValue) (lines : List ℕ) (cert : PieceCert) (first : ℕ) → KeepsDrawing d
+    → All (λ line. line < length d.lines) lines
     → IsSewable d lines cert.walk → BeginsWith first cert.walk → cert.cuts ≡ [] → CanBeSpelled cert
 doubles_spelled d lines cert first keeps below sewable begins none = record {
   some = λ is. subst (BeginsWith first) is begins;

@@ -43,4 +43,5 @@ pub record RunsDouble (p : PieceValue) (cert : PieceCert) : Type 0 where
 
 -- each of the certificates has a double walk over its piece
 abbrev pub AreDoubled : List Piece → List PieceCert → Type 0
-AreDoubled pieces certs = AllZip (λ (p : Piece) (cert : PieceCert). RunsDouble (graph_of p) cert) pieces certs
+AreDoubled pieces certs =
+    AllZip (λ (p : Piece) (cert : PieceCert). RunsDouble (graph_of p) cert) pieces certs

@@ -17,8 +17,8 @@ use Rattle.stitch_cli.specs.Products.{ProductValue, two_outputs}
 use Rattle.stitch_cli.specs.Refusals.{step_too_long, undrawn}
 use Rattle.stitch_cli.specs.Routes.{SewsIn, piece_reports}
 
--- a drawing is sewn by double walks over its pieces: its design, its certificate, which has no cuts,
--- and its report
+-- a drawing is sewn by double walks over its pieces: its design, its certificate, which has no
+-- cuts, and its report
 pub record IsDoubleRun (format : Meaning) (d : DrawingValue)
     (bytes cert report : List ℕ) : Type 0 where
   pub pieces : List (List ℕ)

@@ -1,5 +1,6 @@
 use Rattle.line_graph.specs.CutPieces.{graph_of}
-use Rattle.double_run.specs.Outings.{IsOuting, rank}
+use Rattle.double_run.specs.OutingSteps.{rank}
+use Rattle.double_run.specs.Outings.{IsOuting}
 use Rattle.double_run.proofs.double_walk.double.Given as goal
 
 -- the outing is one over the piece
