@@ -153,7 +153,7 @@ pub below_next : (t : TableValue) (hs : List ℕ) (tree : List Branch) (i : ℕ)
     → IsBelow t hs (drop (i + 1) tree) x room
 below_next t hs tree i b x room low is r none = next_case (count r.a b.outer.members) t hs tree i b x room low is r refl none
 
-nothing_left : (a : ℕ) (tree : List Branch) (i : ℕ) → length tree ≤ i → count a (outer_members [] (drop i tree)) ≡ 0
+pub nothing_left : (a : ℕ) (tree : List Branch) (i : ℕ) → length tree ≤ i → count a (outer_members [] (drop i tree)) ≡ 0
 nothing_left a tree i done = ap (λ (ks : List Branch). count a (outer_members [] ks)) (drop_all i tree done)
 
 pub below_none : (t : TableValue) (hs : List ℕ) (tree : List Branch) (i x room : ℕ) → length tree ≤ i

@@ -25,6 +25,7 @@ pub mod AimLemmas
 pub mod BoundLemmas
 pub mod WidthLemmas
 pub mod LoweredLemmas
+pub mod RingReachLemmas
 pub mod EndLemmas
 pub mod WideningLemmas
 pub mod PriceLemmas

@@ -21,7 +21,7 @@ not_case : (b : Bool) (x y : ℕ) → eqb x y ≡ b → (x ≡ y → ⊥) → co
 not_case true x y e ne = absurd (ne (eqb-true x y e))
 not_case false x y e ne = omega arith
 
-not_hit : (x y : ℕ) → (x ≡ y → ⊥) → hit x y ≤ 0
+pub not_hit : (x y : ℕ) → (x ≡ y → ⊥) → hit x y ≤ 0
 not_hit x y ne = not_case (eqb x y) x y refl ne
 
 -- the place that leaves so much is one of those after
@@ -89,7 +89,7 @@ put_kept false x m old reach is low here =
     let ne : x ≢ m = eqb-false x m is in
     rw get_or-set_other (here ne)
 
-counts_next : (members : List ℕ) (i x : ℕ) → i < length members
+pub counts_next : (members : List ℕ) (i x : ℕ) → i < length members
     → count x (take (i + 1) members) ≡ count x (take i members) + hit x (get_or members i 0)
 counts_next members i x low =
     omega (

@@ -1,5 +1,5 @@
 -- The loop that closes a ring.
-use Rattle.std.proofs.Common.{◌≡◌, ℕ, ◌+◌, ◌%◌, ◌≤◌, List, [], ◌∷◌, ◌++◌, length, reverse, arith, refl, sym, ap, subst, ◌∙◌, length-append}
+use Rattle.std.proofs.Common.{◌≡◌, ℕ, ◌+◌, ◌%◌, ◌≤◌, ◌⊎◌, inl, inr, List, [], ◌∷◌, ◌++◌, length, reverse, arith, refl, sym, ap, subst, ◌∙◌, length-append}
 use Rattle.std.proofs.lemmas.List.{append-nil, reverse-append}
 use Rattle.blossom_match.specs.Lists.{Each}
 use Rattle.blossom_match.specs.Bands.{Adds, Band, NestValue, Kept, bands, count}
@@ -42,12 +42,42 @@ bands_more F add chain p q =
       adds_none F add,
     )
 
+around-append : (a b : ℕ) (xs ys : List Branch) → around a b (xs ++ ys) ≡ around a b xs + around a b ys
+around-append a b [] ys = omega arith
+around-append a b (c ∷ xs) ys = omega (arith, around-append a b xs ys)
+
 around_push : (a b : ℕ) (bs : List Branch) (c : Branch) → around a b (bs ++ c ∷ []) ≡ around a b bs + both a b c.outer
 around_push a b [] c = omega arith
 around_push a b (k ∷ bs) c = omega (arith, around_push a b bs c)
 
 pub tight_back : (d : ℕ → ℕ → ℕ) (h : ℕ → ℕ) (l : Link) → IsSymmetric d → IsTight d h l → IsTight d h (back_of l)
 tight_back d h l sy t = omega (arith, sy l.from l.to, t)
+
+-- the chain with an inner and an outer set before it
+longer_left : (x : ℕ) (inner outer : NestValue) (chain : List Part)
+    → count x (inner.members ++ (outer.members ++ members_in chain))
+    ≡ count x inner.members + count x outer.members + count x (members_in chain)
+longer_left x inner outer chain =
+    omega (arith, count-append x inner.members (outer.members ++ members_in chain), count-append x outer.members (members_in chain))
+
+here_case : (link way : Link) (outer : NestValue) (n : ℕ) → 1 ≤ count way.from outer.members → (way.from ≡ link.from) ⊎ (1 ≤ n)
+    → 1 ≤ count link.from outer.members + n
+here_case link way outer n here (inl e) = omega (arith, here, ap (λ (x : ℕ). count x outer.members) e)
+here_case link way outer n here (inr some) = omega (arith, some)
+
+here_left : (link way : Link) (b : Branch) (chain : List Part) → 1 ≤ count way.from b.outer.members
+    → (way.from ≡ link.from) ⊎ (1 ≤ count link.from (members_in chain))
+    → 1 ≤ count link.from (b.inner.members ++ (b.outer.members ++ members_in chain))
+here_left link way b chain here was =
+    omega (
+      arith,
+      longer_left link.from b.inner b.outer chain,
+      here_case link way b.outer (count link.from (members_in chain)) here was,
+    )
+
+here_right : (link way : Link) (n m : ℕ) → n ≤ m → (way.from ≡ link.from) ⊎ (1 ≤ n) → (way.from ≡ link.from) ⊎ (1 ≤ m)
+here_right link way n m less (inl e) = inl e
+here_right link way n m less (inr some) = inr (omega (arith, some, less))
 
 pub chaining_left : (link : Link) (root : NestValue) (tree left bs : List Branch) (b : Branch) (chain next : List Part)
     (aside : List Branch) (way : Link) (to : ℕ) →
@@ -67,6 +97,7 @@ chaining_left link root tree left bs b chain next aside way to c e here away ci 
           root.members bs b,
     ) in
     let longer = part_of b.inner b.pair ∷ part_of b.outer way ∷ chain in
+    let in_left = λ (x : ℕ). longer_left x b.inner b.outer chain in
     subst (λ (ks : List Part). Chaining link root tree bs ks aside b.up to) (sym f) (record {
       grown = l.grown;
       leads = (l.up_to, l.pair_from, (l.pair_to, one, c.leads));
@@ -75,6 +106,10 @@ chaining_left link root tree left bs b chain next aside way to c e here away ci 
       even = omega (arith, c.even);
       begun = λ none. absurd (omega arith);
       apart = omega (arith, c.apart, around_push link.from link.to bs b);
+      here = inr (here_left link way b chain here c.here);
+      others = λ x none. omega (arith, none, c.others x (omega (arith, none, in_left x)), in_left x, outer_members_push x [] bs b);
+      holds = λ a x none. omega (arith, none, c.holds a x (omega (arith, none, in_left x)), in_left x, around_push a x bs b);
+      more = λ x. omega (arith, c.more x, in_left x, outer_members_push x [] bs b);
       kept = (ci, (co, c.kept));
       hung = grown_more (members_in chain ++ outer_members root.members (bs ++ b ∷ [])) (members_in longer ++ outer_members root.members bs)
           (reverse aside)
@@ -140,6 +175,11 @@ chaining_right link root tree left bs b chain next aside way to c e away here ci
       even = omega (arith, c.even, size);
       begun = λ none. absurd (omega (arith, size));
       apart = omega (arith, c.apart, around_push link.from link.to bs b);
+      here = here_right link way (count link.from (members_in chain)) (count link.from (members_in longer))
+          (omega (arith, more link.from)) c.here;
+      others = λ x none. omega (arith, none, more x, c.others x (omega (arith, none, more x)), outer_members_push x [] bs b);
+      holds = λ a x none. omega (arith, none, more x, c.holds a x (omega (arith, none, more x)), around_push a x bs b);
+      more = λ x. omega (arith, c.more x, more x, outer_members_push x [] bs b);
       kept = each-append (λ (k : Part). Kept k.nest) (chain ++ p ∷ []) (q ∷ [])
           (each-append (λ (k : Part). Kept k.nest) chain (p ∷ []) c.kept (co, tt)) (ci, tt);
       hung = grown_more (members_in chain ++ outer_members root.members (bs ++ b ∷ [])) (members_in longer ++ outer_members root.members bs)
@@ -185,6 +225,20 @@ chaining_aside link root tree left bs b chain aside next way to c e away off f =
       even = c.even;
       begun = c.begun;
       apart = omega (arith, c.apart, around_push link.from link.to bs b);
+      here = c.here;
+      others = λ x none. rw rev (omega (
+        arith,
+        c.others x none,
+        outer_members_push x [] bs b,
+        count-append x b.outer.members (outer_members [] (reverse aside)),
+      ));
+      holds = λ a x none. rw rev (omega (arith, c.holds a x none, around_push a x bs b));
+      more = λ x. rw rev (omega (
+        arith,
+        c.more x,
+        outer_members_push x [] bs b,
+        count-append x b.outer.members (outer_members [] (reverse aside)),
+      ));
       kept = c.kept;
       hung = subst (λ (ks : List Branch). IsGrown base ks) (sym rev) (
         omega (arith, l.above, count-append b.up.from (members_in chain) (outer_members root.members bs)),
@@ -321,6 +375,7 @@ pub closed_inside : (link : Link) (root ring : NestValue) (tree left bs mid new 
     → Kept b.outer → ring ≡ ring_value b.outer way chain →
     mid ≡ bs ++ with_outer b ring ∷ [] → new ≡ mid ++ reverse aside → Shrinks link root root tree new
 closed_inside link root ring tree left bs mid new b chain aside way to sh c e cl kb closes m n =
+    let here_ : 1 ≤ count way.from b.outer.members = omega (arith, cl.from) in
     let c = subst (λ (ks : List Branch). Chaining link root tree ks chain aside way to) e c in
     let l = last_of root.members bs b c.grown in
     let parts = part_of b.outer way ∷ chain in
@@ -331,6 +386,15 @@ closed_inside link root ring tree left bs mid new b chain aside way to sh c e cl
     let o2 = λ (x : ℕ). outer_members_push x root.members bs b2 in
     let i = λ (x : ℕ). inner_members_push x bs b in
     let i2 = λ (x : ℕ). inner_members_push x bs b2 in
+    let far : (x : ℕ) → both link.from x root + around link.from x ((bs ++ b2 ∷ []) ++ reverse aside) ≡ 0 → count x ring.members ≡ 0 =
+    λ x none. omega (
+      arith,
+      none,
+      around-append link.from x (bs ++ b2 ∷ []) (reverse aside),
+      around_push link.from x bs b2,
+      r link.from,
+      here_case link way b.outer (count link.from (members_in chain)) here_ c.here,
+    ) in
     let sizes = λ (ks : List Band). length ks in
     let made : IsGrown root.members (bs ++ b2 ∷ []) = grown-append root.members bs (b2 ∷ []) l.grown
     (l.above, l.up_to, l.pair_from, omega (arith, l.pair_to, r b.pair.to, o b.pair.to, c.once b.pair.to, c.places b.pair.to), tt) in
@@ -351,6 +415,42 @@ closed_inside link root ring tree left bs mid new b chain aside way to sh c e cl
         i2 x,
         r x,
         c.places x,
+      );
+      others = λ x none.
+          let out = far x none in
+          omega (
+            arith,
+            out,
+            r x,
+            outer-append x root.members (bs ++ b2 ∷ []) (reverse aside),
+            o x,
+            o2 x,
+            outer_members_push x [] bs b,
+            outer-append x root.members [] bs,
+            outer-append x root.members [] tree,
+            c.others x (omega (arith, out, r x)),
+          );
+      holds = λ a x none.
+          let out = far x none in
+          omega (
+            arith,
+            out,
+            r x,
+            around-append a x (bs ++ b2 ∷ []) (reverse aside),
+            around_push a x bs b,
+            around_push a x bs b2,
+            c.holds a x (omega (arith, out, r x)),
+          );
+      more = λ x. omega (
+        arith,
+        r x,
+        outer-append x root.members (bs ++ b2 ∷ []) (reverse aside),
+        o x,
+        o2 x,
+        outer_members_push x [] bs b,
+        outer-append x root.members [] bs,
+        outer-append x root.members [] tree,
+        c.more x,
       );
       ring = members_in parts;
       sums = λ F add. omega (
@@ -395,10 +495,35 @@ at_the_root : (link : Link) (root ring : NestValue) (tree new : List Branch) (ch
 at_the_root link root ring tree new chain aside way to sh c cl kr closes n =
     let q = λ (x : ℕ). count-append x root.members (members_in chain) in
     let r = λ (x : ℕ). ap (λ (s : NestValue). count x s.members) closes ∙ q x in
+    let far : (x : ℕ) → both link.from x ring + around link.from x (reverse aside) ≡ 0 → count x ring.members ≡ 0 =
+    λ x none. omega (
+      arith,
+      none,
+      r link.from,
+      here_case link way root (count link.from (members_in chain)) (omega (arith, cl.from)) c.here,
+    ) in
     subst (λ (ks : List Branch). Shrinks link root ring tree ks) (sym n) (record {
       grown = grown_more (members_in chain ++ root.members) ring.members (reverse aside)
           (λ x. omega (arith, r x, count-append x (members_in chain) root.members)) c.hung;
       places = λ x. omega (arith, outer-append x ring.members [] (reverse aside), r x, c.places x);
+      others = λ x none.
+          let out = far x none in
+          omega (
+            arith,
+            out,
+            r x,
+            outer-append x ring.members [] (reverse aside),
+            outer-append x root.members [] tree,
+            c.others x (omega (arith, out, r x)),
+          );
+      holds = λ a x none. let out = far x none in omega (arith, out, r x, c.holds a x (omega (arith, out, r x)));
+      more = λ x. omega (
+        arith,
+        r x,
+        outer-append x ring.members [] (reverse aside),
+        outer-append x root.members [] tree,
+        c.more x,
+      );
       ring = members_in (part_of root way ∷ chain);
       sums = λ F add. omega (arith, c.sums F add, adds_none F add, ring_sums F add root way chain ring closes);
       fewer = omega (arith, c.fewer, cl.some);
@@ -438,6 +563,10 @@ chaining_start link root tree chain aside s e f =
       even = omega arith;
       begun = λ none. (refl, refl);
       apart = s.apart;
+      here = inl refl;
+      others = λ x none. omega arith;
+      holds = λ a x none. omega arith;
+      more = λ x. omega arith;
       kept = tt;
       hung = tt;
       once = s.once;

@@ -20,6 +20,7 @@ pub mod Bounds
 pub mod Widths
 pub mod Reaches
 pub mod Aims
+pub mod RingReaches
 pub mod Phases
 pub mod Prices
 pub mod Heights

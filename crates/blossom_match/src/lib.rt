@@ -16,6 +16,7 @@ mod phase;
 mod prices;
 mod reach;
 mod ring;
+mod ring_reach;
 mod search;
 mod shrinking;
 mod table;

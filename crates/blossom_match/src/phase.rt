@@ -1,13 +1,15 @@
 ghost use Rattle.std.specs.Prelude.{◌≡◌, ◌≤◌, ◌<◌, ◌+◌, ◌++◌, ◌∷◌, [], length, IfOk};
 ghost use Rattle.blossom_match.specs.Tables.{IsMetric};
 ghost use Rattle.blossom_match.specs.Bounds.{CanSearch};
-ghost use Rattle.blossom_match.specs.Searches.{CanStep};
+ghost use Rattle.blossom_match.specs.Searches.{Advances, CanStep};
 ghost use Rattle.blossom_match.specs.Reaches.{RowsAre, SearchReaches};
+ghost use Rattle.blossom_match.specs.declared.search.Step.TheVariants as step;
 ghost use Rattle.blossom_match.specs.Phases.{Begins, Goes, Leads, Stands, StepReaches};
 
 use crate::least::least;
-use crate::nest::single;
+use crate::nest::{Link, single};
 use crate::reach::{lower_reach, reach_anew, reach_more};
+use crate::ring_reach::{outer_marks, reach_closed};
 use crate::search::{Search, Standing, Step, expand_at, grow_to, meet, shrink_by};
 use crate::table::DistTable;
 use crate::widening::widen;
@@ -118,8 +120,7 @@ fn take_step(
             Ok(Stepped::More(grown))
         }
         Step::Shrink(link) => {
-            let shrunk = shrink_by(alloc, s, link)?;
-            reach_anew(alloc, t, rows, &shrunk, reach)?;
+            let shrunk = shrink_on(alloc, t, rows, s, link, reach)?;
             Ok(Stepped::More(shrunk))
         }
         Step::Expand(at) => {
@@ -128,4 +129,26 @@ fn take_step(
             Ok(Stepped::More(expanded))
         }
     }
+}
+
+/// Makes the ring that the link closes one outer set, and keeps what the outer places leave.
+fn shrink_on(
+    alloc: Global,
+    t: &DistTable,
+    rows: &[u32],
+    s: Search,
+    link: Link,
+    reach: &mut [u32],
+) -> Result<Search, Memory>
+    requires step { CanStep s (step.Shrink link) }
+    requires rows { RowsAre t.now rows.now }
+    requires cells { length s.heights.items ≡ t.now.places }
+    requires reaches { SearchReaches t.now s reach.old }
+    ensures advances { IfOk result (λ r. Advances s (step.Shrink link) r) }
+    ensures reaches { IfOk result (λ r. SearchReaches t.now r reach.new) }
+{
+    let marks = outer_marks(alloc, t, &s)?;
+    let shrunk = shrink_by(alloc, s, link)?;
+    reach_closed(alloc, t, rows, &shrunk, link.from, &marks, reach)?;
+    Ok(shrunk)
 }

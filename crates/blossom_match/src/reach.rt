@@ -37,7 +37,8 @@ fn push_row(t: &DistTable, a: u32, rows: &mut Vec<u32>) -> Result<(), Memory>
 
 /// A cell for each place.
 pub fn cells_for(alloc: Global, t: &DistTable) -> Result<Vec<u32>, Memory>
-    ensures { IfOk result (λ cells. length cells.items ≡ t.now.places) }
+    ensures size { IfOk result (λ cells. length cells.items ≡ t.now.places) }
+    ensures far { IfOk result (λ cells. (x : ℕ) → x < t.now.places → slice_index cells.items x ≡ FAR) }
 {
     let cells = vec![in alloc; FAR; t.places() as usize]?;
     Ok(cells)
@@ -67,7 +68,7 @@ fn merge(row: &[u32], height: u32, reach: &mut [u32])
 }
 
 /// Takes the places into the least that is left.
-fn take_in(t: &DistTable, rows: &[u32], heights: &[u32], members: &[u32], reach: &mut [u32])
+pub fn take_in(t: &DistTable, rows: &[u32], heights: &[u32], members: &[u32], reach: &mut [u32])
     requires rows { RowsAre t.now rows.now }
     requires cells { length heights.now ≡ t.now.places }
     requires within { (a : ℕ) → 1 ≤ count a members.now → a < t.now.places }
@@ -81,7 +82,7 @@ fn take_in(t: &DistTable, rows: &[u32], heights: &[u32], members: &[u32], reach:
 }
 
 /// Gives the cells of the places what they had.
-fn put_back(members: &[u32], old: &[u32], reach: &mut [u32])
+pub fn put_back(members: &[u32], old: &[u32], reach: &mut [u32])
     requires size { length reach.old ≡ length old.now }
     requires within { (a : ℕ) → 1 ≤ count a members.now → a < length old.now }
     ensures kept { (x : ℕ) → 1 ≤ count x members.now

@@ -1,6 +1,6 @@
 ghost use Rattle.std.specs.Prelude.{◌≡◌, ◌≤◌, ◌<◌, ◌+◌, ℕ, length, slice_index, IfOk};
 ghost use Rattle.blossom_match.specs.Bands.{count, hit};
-ghost use Rattle.blossom_match.specs.Searches.{Advances, CanStep, Ends, HangsOn};
+ghost use Rattle.blossom_match.specs.Searches.{Advances, CanStep, ClosesAt, Ends, HangsOn};
 ghost use Rattle.blossom_match.specs.declared.search.Step.TheVariants as step;
 
 use crate::branches::{Branch, augment, grow};
@@ -70,7 +70,8 @@ pub fn grow_to(s: Search, link: Link) -> Result<Search, Memory>
 /// Makes the ring that the link closes one outer set.
 pub fn shrink_by(alloc: Global, s: Search, link: Link) -> Result<Search, Memory>
     requires { CanStep s (step.Shrink link) }
-    ensures { IfOk result (λ r. Advances s (step.Shrink link) r) }
+    ensures advances { IfOk result (λ r. Advances s (step.Shrink link) r) }
+    ensures closes { IfOk result (λ r. ClosesAt link.from s r) }
 {
     let Search {
         root,

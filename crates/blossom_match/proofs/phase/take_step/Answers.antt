@@ -12,10 +12,5 @@ reach_more-requires-clause-can c =
 
 pub reach_anew-requires-clause-can : goal.reach_anew-requires-clause-can
 reach_anew-requires-clause-can c =
-    can_reach c.args.t.now c.args.s c.in_ok-shrunk-in-Shrink.shrunk (step.Shrink c.in-Shrink.link)
-    (subst (λ (st : Step). CanStep c.args.s st) c.in-Shrink.is c.requires.step) c.requires.cells c.in_ok-shrunk-in-Shrink.ensures
-
-pub reach_anew-requires-in-Expand-clause-can : goal.reach_anew-requires-in-Expand-clause-can
-reach_anew-requires-in-Expand-clause-can c =
     can_reach c.args.t.now c.args.s c.in_ok-expanded-in-Expand.expanded (step.Expand c.in-Expand.at)
     (subst (λ (st : Step). CanStep c.args.s st) c.in-Expand.is c.requires.step) c.requires.cells c.in_ok-expanded-in-Expand.ensures
