@@ -17,7 +17,8 @@ use Rattle.blossom_match.proofs.ListLemmas.{drop_here}
 use Rattle.blossom_match.proofs.SumLemmas.{count-append}
 use Rattle.blossom_match.proofs.CoupleLemmas.{couple_here}
 use Rattle.blossom_match.proofs.RaisedLemmas.{outer_places}
-use Rattle.blossom_match.proofs.ScanLemmas.{around_append, number_here, split_here, take_here}
+use Rattle.blossom_match.proofs.ScanLemmas.{number_here, split_here, take_here}
+use Rattle.blossom_match.proofs.ChainLemmas.{around_append}
 use Rattle.blossom_match.proofs.TreeLemmas.{base_in, couple_members-append, couple_members_push, outer-append, outer_members_push}
 use Rattle.blossom_match.proofs.ReachLemmas.{around_first}
 
@@ -92,7 +93,8 @@ pub aims_outer : (hs reach : List ℕ) (k : Kind) (base : List ℕ) (tree : List
     → Aims hs reach k b.outer.members m n → Aims hs reach k (outer_members base (take (i + 1) tree)) o n
 aims_outer hs reach k base tree i b o m n low is one two =
     aims_join hs reach k (outer_members base (take i tree)) b.outer.members (outer_members base (take (i + 1) tree)) o m n
-    (λ x. ap (λ (ks : List Branch). count x (outer_members base ks)) (take_here tree i b low is) ∙ outer_members_push x base (take i tree) b)
+    (λ x. ap (λ (ks : List Branch). count x (outer_members base ks)) (take_here tree i b low is) ∙ outer_members_push x base (take i tree)
+    b)
     one two
 
 reached_case : (t : TableValue) (hs : List ℕ) (root : NestValue) (tree : List Branch) (x room : ℕ) → room < FAR

@@ -217,7 +217,8 @@ pub aimed : (t : TableValue) (h : ℕ → ℕ) (s : Search) (hs reach : List ℕ
 aimed t h s hs reach first met grown crossed a =
     still_aimed s hs reach kind.Shrink grown crossed
     (still_aimed s hs reach kind.Grow met grown
-    (still_aimed s hs reach kind.Meet first met (aimed_case s hs reach kind.Meet first a.at_first) a.at_met.is) a.at_grown.is) a.at_crossed.is
+    (still_aimed s hs reach kind.Meet first met (aimed_case s hs reach kind.Meet first a.at_first) a.at_met.is) a.at_grown.is)
+    a.at_crossed.is
 
 -- heights for the search's places
 pub can_reach_now : (t : TableValue) (h : ℕ → ℕ) (s : Search) (hs : List ℕ) → IsSearch t h s → length hs ≡ t.places
@@ -308,11 +309,33 @@ bounds_of t h s hs reach first met grown crossed c new a l n =
     record {
       one = λ x y hx hy. either_room (h x + h y + new.by ≤ 2 * entry t x y) (count y (couple_members s.rest.items)) (count y s.free.items)
           (λ here.
-          let k = near x y hx (place_in t y (omega (arith, i.places y, here))) (not_both s x y (omega (arith, i.places y, is_one t y, here))) in
+          let k = near x y hx (place_in t y (omega (arith, i.places y, here))) (not_both s x y (omega (
+            arith,
+            i.places y,
+            is_one t y,
+            here,
+          ))) in
           omega (arith, at x, at y, k.1, a.at_grown.wide y here k.0, a.at_crossed.less, l.by, n.less, coupled_room t h s x y i hx here))
           (λ here.
-          let k = near x y hx (place_in t y (omega (arith, i.places y, here))) (not_both s x y (omega (arith, i.places y, is_one t y, here))) in
-          omega (arith, at x, at y, k.1, a.at_met.wide y here k.0, a.at_grown.less, a.at_crossed.less, l.by, n.less, free_room t h s x y i hx here)) hy;
+          let k = near x y hx (place_in t y (omega (arith, i.places y, here))) (not_both s x y (omega (
+            arith,
+            i.places y,
+            is_one t y,
+            here,
+          ))) in
+          omega (
+            arith,
+            at x,
+            at y,
+            k.1,
+            a.at_met.wide y here k.0,
+            a.at_grown.less,
+            a.at_crossed.less,
+            l.by,
+            n.less,
+            free_room t h s x y i
+                hx here,
+          )) hy;
       two = λ x y hx hy apart.
           let k = near x y hx (place_in t y (omega (arith, i.places y, hy))) apart in
           omega (arith, at x, at y, k.1, a.at_crossed.wide y hy k.0, l.by, n.less, outer_room t h s x y i hx hy apart);

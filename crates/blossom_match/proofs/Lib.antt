@@ -12,6 +12,7 @@ pub mod TreeLemmas
 pub mod AugmentLemmas
 pub mod CoupleLemmas
 pub mod ClosingLemmas
+pub mod ChainLemmas
 pub mod ShrinkLemmas
 pub mod MirrorLemmas
 pub mod LayLemmas

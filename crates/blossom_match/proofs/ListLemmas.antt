@@ -46,4 +46,5 @@ drop_here {X} xs i x low is = rw add-one (drop-cons xs i x low ∙ ap (λ (y : X
 
 -- what a vector has behind a call on its slice
 pub written : (len : ℕ) (new old : List ℕ) → length new ≡ len → take len (new ++ drop (length new) old) ≡ new
-written len new old size = subst (λ (n : ℕ). take n (new ++ drop (length new) old) ≡ new) size (take-append_seam new (drop (length new) old))
+written len new old size = subst (λ (n : ℕ). take n (new ++ drop (length new) old) ≡ new) size (take-append_seam new (drop (length new)
+    old))

@@ -12,7 +12,7 @@ use Rattle.blossom_match.proofs.ListLemmas.{each-append, each-drop, each-take}
 use Rattle.blossom_match.proofs.SumLemmas.{adds_none, count-append}
 use Rattle.blossom_match.proofs.RingLemmas.{members_turned}
 use Rattle.blossom_match.proofs.OpenLemmas.{bands_turned, turned_is_ring}
-use Rattle.blossom_match.proofs.ShrinkLemmas.{tight_back}
+use Rattle.blossom_match.proofs.ChainLemmas.{tight_back}
 
 -- the last part of a chain that begins with p
 abbrev last_part : Part → List Part → Part

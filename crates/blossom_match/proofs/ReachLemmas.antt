@@ -14,7 +14,8 @@ use Rattle.blossom_match.specs.declared.branches.Branch.{Branch}
 use Rattle.blossom_match.specs.declared.search.Search.{Search}
 use Rattle.blossom_match.proofs.SumLemmas.{count-append, hit_is, hit_same}
 use Rattle.blossom_match.proofs.RaisedLemmas.{at_drop, outer_places}
-use Rattle.blossom_match.proofs.ScanLemmas.{around_append, number_here, split_here, take_here}
+use Rattle.blossom_match.proofs.ScanLemmas.{number_here, split_here, take_here}
+use Rattle.blossom_match.proofs.ChainLemmas.{around_append}
 use Rattle.blossom_match.proofs.TreeLemmas.{base_in, outer-append, outer_members_push}
 
 not_case : (b : Bool) (x y : ℕ) → eqb x y ≡ b → (x ≡ y → ⊥) → cond b 1 0 ≤ 0
@@ -25,9 +26,11 @@ pub not_hit : (x y : ℕ) → (x ≡ y → ⊥) → hit x y ≤ 0
 not_hit x y ne = not_case (eqb x y) x y refl ne
 
 -- the place that leaves so much is one of those after
-pub left_more : (t : TableValue) (hs xs : List ℕ) (i x room : ℕ) → i < length xs → left_by t hs (get_or xs i 0) x ≢ room → IsLeft t hs (drop i xs) x room → IsLeft t hs (drop (i + 1) xs) x room
+pub left_more : (t : TableValue) (hs xs : List ℕ) (i x room : ℕ) → i < length xs → left_by t hs (get_or xs i 0) x ≢ room
+    → IsLeft t hs (drop i xs) x room → IsLeft t hs (drop (i + 1) xs) x room
 left_more t hs xs i x room low differs l =
-    let none : hit l.a (get_or xs i 0) ≤ 0 = not_hit l.a (get_or xs i 0) (λ e. differs (sym (l.exact ∙ ap (λ (a : ℕ). left_by t hs a x) e))) in
+    let none : hit l.a (get_or xs i 0) ≤ 0 = not_hit l.a (get_or xs i 0) (λ e. differs (sym (l.exact ∙ ap (λ (a : ℕ). left_by t hs a x)
+    e))) in
     record { a = l.a; here = omega (arith, l.here, at_drop l.a i (get_or xs i 0) xs low refl, none); exact = l.exact }
 
 pub left_none : (t : TableValue) (hs : List ℕ) (x room : ℕ) → IsLeft t hs [] x room → ⊥
@@ -276,19 +279,34 @@ below_row p b a x less lx =
     let m : (b + 1) * p ≤ a * p = mul-le-mul_right p (omega arith) in
     omega (arith, m)
 
-rows_case : (t : TableValue) (old new : List ℕ) (a b x : ℕ) → length old ≡ a * t.places → ((b x : ℕ) → b < a → x < t.places → get_or old (b * t.places + x) 0 ≡ entry t b x) → PushesRow t a old new →
+rows_case : (t : TableValue) (old new : List ℕ) (a b x : ℕ) → length old ≡ a * t.places → ((b x : ℕ) → b < a → x < t.places
+    → get_or old (b * t.places + x) 0 ≡ entry t b x) → PushesRow t a old new →
     (b < a) ⊎ (a ≤ b) → b < a + 1 → x < t.places → get_or new (b * t.places + x) 0 ≡ entry t b x
-rows_case t old new a b x size cells p (inl less) low lx = p.kept (b * t.places + x) (omega (arith, size, below_row t.places b a x less lx)) ∙ cells b x less lx
+rows_case t old new a b x size cells p (inl less) low lx = p.kept (b * t.places + x) (omega (
+  arith,
+  size,
+  below_row t.places b a x less
+      lx,
+)) ∙ cells b x less lx
 rows_case t old new a b x size cells p (inr more) low lx =
     let same : b ≡ a = omega (arith, more, low) in
-    subst (λ (y : ℕ). get_or new (y * t.places + x) 0 ≡ entry t y x) (sym same) (ap (λ (n : ℕ). get_or new (n + x) 0) (sym size) ∙ p.cells x lx)
+    subst (λ (y : ℕ). get_or new (y * t.places + x) 0 ≡ entry t y x) (sym same) (ap (λ (n : ℕ). get_or new (n + x) 0) (sym size) ∙ p.cells
+    x lx)
 
 -- one row more
-pub rows_more : (t : TableValue) (old new : List ℕ) (a : ℕ) → length old ≡ a * t.places → ((b x : ℕ) → b < a → x < t.places → get_or old (b * t.places + x) 0 ≡ entry t b x) → PushesRow t a old new →
+pub rows_more : (t : TableValue) (old new : List ℕ) (a : ℕ) → length old ≡ a * t.places → ((b x : ℕ) → b < a → x < t.places
+    → get_or old (b * t.places + x) 0 ≡ entry t b x) → PushesRow t a old new →
     (b x : ℕ) → b < a + 1 → x < t.places → get_or new (b * t.places + x) 0 ≡ entry t b x
 rows_more t old new a size cells p b x low lx = rows_case t old new a b x size cells p (cases_lt b a) low lx
 
 -- the places of an outer set are outer places
-pub outer_within : (x : ℕ) (base : List ℕ) (tree : List Branch) (i : ℕ) (b : Branch) → i < length tree → b ≡ get_or tree i b → count x b.outer.members ≤ count x (outer_members base tree)
+pub outer_within : (x : ℕ) (base : List ℕ) (tree : List Branch) (i : ℕ) (b : Branch) → i < length tree → b ≡ get_or tree i b
+    → count x b.outer.members ≤ count x (outer_members base tree)
 outer_within x base tree i b low is =
-    omega (arith, outer-append x base (take i tree) (drop i tree), ap (λ (ks : List Branch). count x (outer_members base ks)) (take-append-drop i tree), outer_places x tree i b low is)
+    omega (
+      arith,
+      outer-append x base (take i tree) (drop i tree),
+      ap (λ (ks : List Branch). count x (outer_members base ks))
+          (take-append-drop i tree),
+      outer_places x tree i b low is,
+    )

@@ -10,7 +10,8 @@ use Rattle.blossom_match.specs.declared.reach.TheConstants.{FAR}
 use Rattle.blossom_match.specs.declared.branches.Branch.{Branch}
 use Rattle.blossom_match.specs.declared.search.Search.{Search}
 use Rattle.blossom_match.proofs.SumLemmas.{count-append, hit_is}
-use Rattle.blossom_match.proofs.ScanLemmas.{around_append, split_here}
+use Rattle.blossom_match.proofs.ScanLemmas.{split_here}
+use Rattle.blossom_match.proofs.ChainLemmas.{around_append}
 use Rattle.blossom_match.proofs.TreeLemmas.{base_in, outer-append}
 use Rattle.blossom_match.proofs.ReachLemmas.{around_first, counts_next, not_hit, outer_within}
 use Rattle.blossom_match.proofs.WidthLemmas.{around-comm}

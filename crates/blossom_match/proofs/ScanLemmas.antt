@@ -10,6 +10,7 @@ use Rattle.blossom_match.specs.declared.branches.Branch.{Branch}
 use Rattle.blossom_match.specs.declared.least.Change.{Change}
 use Rattle.blossom_match.proofs.ListLemmas.{drop_here, each-map, each-push}
 use Rattle.blossom_match.proofs.SumLemmas.{count-append}
+use Rattle.blossom_match.proofs.ChainLemmas.{around_append}
 use Rattle.blossom_match.proofs.TreeLemmas.{base_in, outer-append}
 
 -- one item more
@@ -35,10 +36,6 @@ around_none a b base [] none = refl
 around_none a b base (c ∷ cs) none =
     let n = count-append b c.outer.members (outer_members base cs) in
     omega (arith, around_none a b base cs (omega (arith, n, none)), n, none)
-
-pub around_append : (a b : ℕ) (xs ys : List Branch) → around a b (xs ++ ys) ≡ around a b xs + around a b ys
-around_append a b [] ys = omega arith
-around_append a b (c ∷ xs) ys = omega (arith, around_append a b xs ys)
 
 -- no outer set holds a place of those before and a place of this one
 pub apart_from : (a b : ℕ) (root : NestValue) (bs : List Branch) (c : Branch) (after : List Branch)

@@ -20,7 +20,7 @@ use Rattle.blossom_match.specs.declared.search.Search.{Search}
 use Rattle.blossom_match.specs.declared.search.Step.TheVariants.{Grow, Shrink, Expand}
 use Rattle.blossom_match.proofs.ListLemmas.{each-append, each-left, each-right, each-push}
 use Rattle.blossom_match.proofs.SumLemmas.{count-append, height-append, load-append, low, size-append}
-use Rattle.blossom_match.proofs.ShrinkLemmas.{tight_back}
+use Rattle.blossom_match.proofs.ChainLemmas.{tight_back}
 use Rattle.blossom_match.proofs.TableLemmas.{entry-comm}
 use Rattle.blossom_match.proofs.TreeLemmas.{branch_bands_push, couple_bands-append, couple_members-append, grown_push, inner_bands_push, inner_members_push, outer_members_push}
 

@@ -1,11 +1,12 @@
-ghost use Rattle.std.specs.Prelude.{◌≡◌, ◌%◌, IfOk};
-ghost use Rattle.blossom_match.specs.Tables.{KeepsTriangles};
-ghost use Rattle.blossom_match.specs.Phases.{IsMatched};
+ghost use Rattle.std.specs.Prelude.{◌≡◌, ◌%◌, length, IfOk};
+ghost use Rattle.blossom_match.specs.Tables.{IsMetric, KeepsTriangles};
+ghost use Rattle.blossom_match.specs.Phases.{IsMatched, Stands};
 
 use crate::couples::Couple;
 use crate::phase::pair_up;
 use crate::prices::priced;
 use crate::reach::{cells_for, rows_of};
+use crate::search::Standing;
 use crate::table::DistTable;
 use design_model::Memory;
 use std::alloc::Global;
@@ -16,9 +17,24 @@ pub fn couple_all(alloc: Global, t: &DistTable) -> Result<Vec<Couple>, Memory>
     requires triangles { KeepsTriangles t.now }
     ensures { IfOk result (λ cs. IsMatched t.now cs.items) }
 {
+    let now = priced(alloc, t, t.places())?;
+    if now.free.len() == 0 {
+        return Ok(now.couples);
+    }
+    let couples = search_all(alloc, t, now)?;
+    Ok(couples)
+}
+
+/// Searches from each free place in turn.
+fn search_all(alloc: Global, t: &DistTable, from: Standing) -> Result<Vec<Couple>, Memory>
+    requires metric { IsMetric t.now }
+    requires stands { Stands t.now from.couples.items from.free.items from.heights.items }
+    requires even { length from.free.items % 2 ≡ 0 }
+    ensures { IfOk result (λ cs. IsMatched t.now cs.items) }
+{
     let rows = rows_of(alloc, t)?;
     let mut reach = cells_for(alloc, t)?;
-    let mut now = priced(alloc, t, t.places())?;
+    let mut now = from;
     while let Some(place) = now.free.pop() {
         now = pair_up(alloc, t, &rows, place, now, &mut reach)?;
     }

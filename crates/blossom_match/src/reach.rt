@@ -17,7 +17,7 @@ pub const FAR: u32 = 2 * MAX_DISTANCE + 1;
 pub fn rows_of(alloc: Global, t: &DistTable) -> Result<Vec<u32>, Memory>
     ensures { IfOk result (λ rows. RowsAre t.now rows.items) }
 {
-    let mut rows = Vec::new(alloc);
+    let mut rows = Vec::with_capacity(alloc, t.places() as usize * t.places() as usize)?;
     for a in 0..t.places() {
         push_row(t, a, &mut rows)?;
     }
@@ -38,7 +38,8 @@ fn push_row(t: &DistTable, a: u32, rows: &mut Vec<u32>) -> Result<(), Memory>
 /// A cell for each place.
 pub fn cells_for(alloc: Global, t: &DistTable) -> Result<Vec<u32>, Memory>
     ensures size { IfOk result (λ cells. length cells.items ≡ t.now.places) }
-    ensures far { IfOk result (λ cells. (x : ℕ) → x < t.now.places → slice_index cells.items x ≡ FAR) }
+    ensures far { IfOk result (λ cells. (x : ℕ) → x < t.now.places
+        → slice_index cells.items x ≡ FAR) }
 {
     let cells = vec![in alloc; FAR; t.places() as usize]?;
     Ok(cells)

@@ -61,8 +61,8 @@ fn change_branches(alloc: Global, tree: Vec<Branch>, by: u32) -> Result<Vec<Bran
     requires { Each (CanChange by) tree.items }
     ensures { IfOk result (λ bs. bs.items ≡ all_changed by tree.items) }
 {
+    let mut out = Vec::with_capacity(alloc, tree.len())?;
     let mut left = tree.into_iter();
-    let mut out = Vec::new(alloc);
     while let Some(b) = left.next() {
         out.push(change_branch(b, by))?;
     }

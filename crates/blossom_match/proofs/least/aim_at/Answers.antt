@@ -9,5 +9,6 @@ nearer-least-requires-clause-within c =
 
 pub loop-b-preserved : goal.loop-b-preserved
 loop-b-preserved c =
-    aims_next c.args.heights.now c.args.reach.now c.args.kind c.args.ys.now c.loop-b.b-index c.args.best c.loop-b.least c.nearer-least.result
+    aims_next c.args.heights.now c.args.reach.now c.args.kind c.args.ys.now c.loop-b.b-index c.args.best c.loop-b.least
+    c.nearer-least.result
     c.loop-b-test.true c.loop-b.invariant c.nearer-least.ensures

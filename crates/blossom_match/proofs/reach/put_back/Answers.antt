@@ -23,6 +23,12 @@ loop-a-preserved c =
     ) in
     record {
       kept = put_next c.args.members.now c.args.old.now c.loop-a.reach c.loop-a.a-index c.loop-a-test.true low c.loop-a.invariant.kept;
-      others = put_others c.args.members.now c.loop-a.reach c.args.reach.now c.loop-a.a-index _ c.loop-a-test.true c.loop-a.invariant.others;
-      size = omega (arith, c.loop-a.invariant.size, length-set c.loop-a.reach (get_or c.args.members.now c.loop-a.a-index 0) (get_or c.args.old.now (get_or c.args.members.now c.loop-a.a-index 0) 0));
+      others = put_others c.args.members.now c.loop-a.reach c.args.reach.now c.loop-a.a-index _ c.loop-a-test.true
+          c.loop-a.invariant.others;
+      size = omega (
+        arith,
+        c.loop-a.invariant.size,
+        length-set c.loop-a.reach (get_or c.args.members.now c.loop-a.a-index 0) (get_or
+            c.args.old.now (get_or c.args.members.now c.loop-a.a-index 0) 0),
+      );
     }

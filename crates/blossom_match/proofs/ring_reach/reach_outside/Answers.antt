@@ -16,7 +16,8 @@ returns c =
     c.in_ok-others.ensures in
     subst (λ (ks : List ℕ). ReachesOutside t hs c.args.ring.now c.args.places.now ks)
     (sym (written c.in_ok-reach.reach.len new c.in_ok-reach.reach.items (omega (arith, c.take_in.auto.reach, c.deref_mut.ensures.len))))
-    (outside_of t hs c.args.ring.now c.args.places.now c.in_ok-inside.inside.items c.in_ok-others.others.items old new c.in_ok-inside.ensures
+    (outside_of t hs c.args.ring.now c.args.places.now c.in_ok-inside.inside.items c.in_ok-others.others.items old new
+    c.in_ok-inside.ensures
     chooses c.requires.within
     (λ x lx. ap (λ (ks : List ℕ). get_or ks x 0) c.deref_mut.ensures.value ∙ c.in_ok-reach.ensures.far x lx)
     (omega (

@@ -1,5 +1,6 @@
 use Rattle.std.proofs.Common.{arith, length, ◌≡◌, refl}
-use Rattle.blossom_match.proofs.ShrinkLemmas.{chaining_start, chaining_left, chaining_right, chaining_aside, closable, closable_root, closed_inside, closed_root}
+use Rattle.blossom_match.proofs.ChainLemmas.{chaining_start, chaining_left, chaining_right, chaining_aside}
+use Rattle.blossom_match.proofs.ShrinkLemmas.{closable, closable_root, closed_inside, closed_root}
 use Rattle.blossom_match.proofs.shrinking.shrink.Goals as goal
 
 pub loop-b-init : goal.loop-b-init

@@ -1,6 +1,6 @@
 use Rattle.std.proofs.Common.{◌≡◌, ◌%◌, length}
 use Rattle.blossom_match.specs.Phases.{Stands}
-use Rattle.blossom_match.proofs.pairing.couple_all.Given as goal
+use Rattle.blossom_match.proofs.pairing.search_all.Given as goal
 
 -- couples and an even number of free places
 abbrev pub invariant-loop-place : goal.invariant-loop-place
