@@ -22,10 +22,6 @@ use Rattle.blossom_match.proofs.ChainLemmas.{around_append}
 use Rattle.blossom_match.proofs.TreeLemmas.{base_in, couple_members-append, couple_members_push, outer-append, outer_members_push}
 use Rattle.blossom_match.proofs.ReachLemmas.{around_first}
 
--- no place is aimed at yet
-pub aims_none : (hs reach : List ℕ) (k : Kind) (old : Aim) → Aims hs reach k [] old old
-aims_none hs reach k old = record { less = omega arith; wide = λ b hb near. absurd (omega (arith, hb)); is = inl refl }
-
 aims_in : (hs reach : List ℕ) (k : Kind) (xs zs : List ℕ) (aim : Aim) → ((x : ℕ) → count x xs ≤ count x zs) → AimsAt hs reach k xs aim
     → AimsAt hs reach k zs aim
 aims_in hs reach k xs zs aim more a = record { kind = a.kind; there = omega (arith, a.there, more aim.to); near = a.near; by = a.by }
@@ -157,10 +153,6 @@ below_next t hs tree i b x room low is r none = next_case (count r.a b.outer.mem
 
 pub nothing_left : (a : ℕ) (tree : List Branch) (i : ℕ) → length tree ≤ i → count a (outer_members [] (drop i tree)) ≡ 0
 nothing_left a tree i done = ap (λ (ks : List Branch). count a (outer_members [] ks)) (drop_all i tree done)
-
-pub below_none : (t : TableValue) (hs : List ℕ) (tree : List Branch) (i x room : ℕ) → length tree ≤ i
-    → IsBelow t hs (drop i tree) x room → ⊥
-below_none t hs tree i x room done r = omega (arith, r.here, nothing_left r.a tree i done)
 
 -- no set holds a place of the root and one outside it
 pub root_apart : (a x : ℕ) (root : NestValue) (tree : List Branch) → ((y : ℕ) → count y (outer_members root.members tree) ≤ 1)

@@ -11,7 +11,7 @@ use Rattle.blossom_match.specs.TableValue.{TableValue}
 use Rattle.blossom_match.specs.Tables.{entry, IsTable}
 use Rattle.blossom_match.specs.Bounds.{step_of, Bounds, IsDue, Narrows, RingIsDue}
 use Rattle.blossom_match.specs.Reaches.{CanReach, Reaches}
-use Rattle.blossom_match.specs.Aims.{change_at, goals, Aims, AimsAt, CanLead, IsAimed, LeadsTo}
+use Rattle.blossom_match.specs.Aims.{change_at, goals, Aims, AimsAt, IsAimed, LeadsTo}
 use Rattle.blossom_match.specs.declared.reach.TheConstants.{FAR}
 use Rattle.blossom_match.specs.declared.least.Aim.{Aim}
 use Rattle.blossom_match.specs.declared.least.Kind.{Kind}
@@ -228,22 +228,6 @@ can_reach_now t h s hs i size = record {
   within = λ x here. place_in t x (omega (arith, i.places x, here));
   once = λ x. omega (arith, i.places x, is_one t x);
 }
-
-goal_case : (t : TableValue) (h : ℕ → ℕ) (s : Search) (k : Kind) (x : ℕ) → IsSearch t h s → 1 ≤ count x (goals s k) → x < t.places
-goal_case t h s kind.Meet x i here = place_in t x (omega (arith, i.places x, here))
-goal_case t h s kind.Grow x i here = place_in t x (omega (arith, i.places x, here))
-goal_case t h s kind.Shrink x i here = place_in t x (omega (arith, i.places x, here))
-
-pub can_lead : (t : TableValue) (h : ℕ → ℕ) (s : Search) (hs reach : List ℕ) (first met grown crossed : Aim)
-    → IsAimedAt t h s hs reach first met grown crossed → CanLead t hs s.root s.tree.items reach crossed
-can_lead t h s hs reach first met grown crossed a =
-    let is = aimed t h s hs reach first met grown crossed a in
-    record {
-      can = can_reach_now t h s hs a.search a.size;
-      reaches = a.reaches;
-      within = goal_case t h s crossed.kind crossed.to a.search is.there;
-      near = is.near;
-    }
 
 far_is : FAR ≡ 2 * MAX_DISTANCE + 1
 far_is = refl

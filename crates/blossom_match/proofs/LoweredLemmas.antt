@@ -1,12 +1,12 @@
 -- What the outer places leave after a change of widths.
-use Rattle.std.proofs.Common.{◌≡◌, ℕ, ◌+◌, ◌-◌, ◌*◌, ◌≤◌, ◌<◌, ◌⊎◌, inl, inr, List, length, get_or, Bool, true, false, cond, ltb, arith, refl, sym, ap, subst, ◌∙◌}
+use Rattle.std.proofs.Common.{◌≡◌, ℕ, ◌+◌, ◌-◌, ◌*◌, ◌≤◌, ◌<◌, ◌⊎◌, inl, inr, List, length, get_or, Bool, true, false, cond, ltb, arith, refl, sym, ap, ◌∙◌}
 use Rattle.std.proofs.lemmas.Bool.{ltb-true, ltb-false}
 use Rattle.blossom_match.specs.Bands.{NestValue, count}
 use Rattle.blossom_match.specs.Trees.{around, both, inner_members, outer_members}
-use Rattle.blossom_match.specs.Searches.{height_at, outers, Advances, CanStep, HangsOn, IsSearch}
+use Rattle.blossom_match.specs.Searches.{height_at, outers, Advances, CanStep, IsSearch}
 use Rattle.blossom_match.specs.Bounds.{holding}
 use Rattle.blossom_match.specs.Widths.{Changes}
-use Rattle.blossom_match.specs.Reaches.{left_by, lowered, CanReach, IsReached, Reaches, SearchReaches}
+use Rattle.blossom_match.specs.Reaches.{left_by, lowered, CanReach, IsReached, SearchReaches}
 use Rattle.blossom_match.specs.TableValue.{TableValue}
 use Rattle.blossom_match.specs.Tables.{IsTable}
 use Rattle.blossom_match.specs.declared.table.TheConstants.{MAX_DISTANCE}
@@ -129,10 +129,3 @@ can_reach t s r st k size adv =
       within = λ x here. omega (arith, place_in k.t x (omega (arith, i.places x, here)), k.size, size);
       once = λ x. omega (arith, i.places x, is_one k.t x);
     }
-
--- before the newest branch is taken in
-pub reaches_before : (t : TableValue) (s r : Search) (st : Step) (reach : List ℕ) → Advances s st r → (h : HangsOn s r)
-    → SearchReaches t s reach → Reaches t r.heights.items r.root s.tree.items reach
-reaches_before t s r st reach adv h reaches =
-    subst (λ (hs : List ℕ). Reaches t hs r.root s.tree.items reach) (sym adv.heights)
-    (subst (λ (v : NestValue). Reaches t s.heights.items v s.tree.items reach) (sym h.root) reaches)

@@ -33,9 +33,6 @@ left_more t hs xs i x room low differs l =
     e))) in
     record { a = l.a; here = omega (arith, l.here, at_drop l.a i (get_or xs i 0) xs low refl, none); exact = l.exact }
 
-pub left_none : (t : TableValue) (hs : List ℕ) (x room : ℕ) → IsLeft t hs [] x room → ⊥
-left_none t hs x room l = omega (arith, l.here)
-
 -- no place is taken in yet
 pub takes_none : (t : TableValue) (hs old : List ℕ) → TakesIn t hs [] old old
 takes_none t hs old = record {
@@ -117,23 +114,6 @@ put_others members reach first i v low others x none =
     let m = get_or members i 0 in
     let ne : x ≢ m = λ e. omega (arith, none, counts_next members i x low, hit_same x, ap (λ (y : ℕ). hit x y) e) in
     rw get_or-set_other (others x (omega (arith, none, counts_next members i x low)))
-
-set_is : (t : TableValue) (hs xs : List ℕ) (x old mid now : ℕ) → now ≡ mid → (mid ≡ old) ⊎ IsLeft t hs xs x mid
-    → (now ≡ old) ⊎ IsLeft t hs xs x now
-set_is t hs xs x old mid now e (inl f) = inl (e ∙ f)
-set_is t hs xs x old mid now e (inr l) = inr (record { a = l.a; here = l.here; exact = e ∙ l.exact })
-
--- all places of a set are taken in, and their own cells are put back
-pub takes_set : (t : TableValue) (hs xs old mid new : List ℕ) → length new ≡ length old → TakesIn t hs xs old mid
-    → ((x : ℕ) → 1 ≤ count x xs → get_or new x 0 ≡ get_or old x 0) → ((x : ℕ) → count x xs ≡ 0 → get_or new x 0 ≡ get_or mid x 0)
-    → TakesSet t hs xs old new
-takes_set t hs xs old mid new size k kept others = record {
-  size = size;
-  kept = kept;
-  less = λ x lx none. omega (arith, others x none, k.less x lx);
-  least = λ a x ha lx none. omega (arith, others x none, k.least a x ha lx);
-  is = λ x lx none. set_is t hs xs x (get_or old x 0) (get_or mid x 0) (get_or new x 0) (others x none) (k.is x lx);
-}
 
 root_left : (t : TableValue) (hs : List ℕ) (root : NestValue) (x old now : ℕ) → count x root.members ≡ 0 → old ≡ FAR
     → (now ≡ old) ⊎ IsLeft t hs root.members x now → (now ≡ FAR) ⊎ IsReached t hs root [] x now

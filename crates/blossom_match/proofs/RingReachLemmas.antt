@@ -16,14 +16,6 @@ use Rattle.blossom_match.proofs.TreeLemmas.{base_in, outer-append}
 use Rattle.blossom_match.proofs.ReachLemmas.{around_first, counts_next, not_hit, outer_within}
 use Rattle.blossom_match.proofs.WidthLemmas.{around-comm}
 
--- no place is chosen yet
-pub chooses_none : (marks : List ℕ) (mark : ℕ) → Chooses [] marks mark []
-chooses_none marks mark = record {
-  within = λ x. omega arith;
-  on = λ x e. refl;
-  marked = λ x here. absurd (omega (arith, here));
-}
-
 marked_case : (n : ℕ) (marks old : List ℕ) (mark m x : ℕ) → count x old ≡ n → 1 ≤ n + hit x m → get_or marks m 0 ≡ mark
     → (1 ≤ count x old → get_or marks x 0 ≡ mark) → get_or marks x 0 ≡ mark
 marked_case (suc n) marks old mark m x e here is was = was (omega (arith, e))

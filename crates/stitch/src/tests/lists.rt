@@ -1,4 +1,4 @@
-use super::rows::{Holds, Row, play};
+use super::rows::{Holds, Row, Step, play};
 use std::test::Fail;
 use stitch_cli::Status;
 
