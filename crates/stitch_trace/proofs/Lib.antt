@@ -1,0 +1,5 @@
+pub mod TraceFacts
+pub mod MoveLemmas
+pub mod StrandLemmas
+pub mod MeasureLemmas
+pub mod LabelLemmas

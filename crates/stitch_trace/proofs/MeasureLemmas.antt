@@ -1,0 +1,117 @@
+-- The greatest size of links.
+use Rattle.std.proofs.Common.{◌≡◌, ◌≢◌, ℕ, ℤ, ◌+◌, ◌≤◌, ◌==◌, ◌-ℤ◌, unsigned_abs, max, Bool, true, false, cond, List, [], ◌∷◌, fold, map, length, Option, Some, None, Result, Ok, Err, ap, sym, ◌∙◌, refl, arith}
+use Rattle.std.proofs.Math.Nat.{le-max_left, le-max_right}
+use Rattle.std.proofs.lemmas.Bool.Decides.{nat_tests, Decides-int_eq}
+use Rattle.std.proofs.lemmas.Bool.{both_ways}
+use Rattle.std.proofs.lemmas.Int.{ints}
+use Rattle.std.specs.Ordering.{int_eq}
+use Rattle.design_model.specs.declared.act.Act.{Act}
+use Rattle.design_model.specs.declared.act.Act.TheVariants as act
+use Rattle.design_model.specs.declared.act.NumberedAct.{NumberedAct}
+use Rattle.design_model.specs.declared.command.Command.{Command}
+use Rattle.design_model.specs.declared.command.Command.TheVariants.{Stitch, Jump, Trim, Stop}
+use Rattle.design_model.specs.declared.point.Point.{Point}
+use Rattle.design_model.specs.Acts.{acts_from}
+use Rattle.design_model.specs.ActKinds.{needle_point}
+use Rattle.design_model.specs.Points.{is_same_point, move_between, size_of}
+use Rattle.stitch_trace.specs.declared.links.Link.{Link}
+use Rattle.stitch_trace.specs.declared.needle_moves.Move.{Move}
+use Rattle.stitch_trace.specs.declared.needle_moves.Move.TheVariants.{Stay, Gap, Sewn}
+use Rattle.stitch_trace.specs.declared.trace_fault.TraceFault.{TraceFault}
+use Rattle.stitch_trace.specs.declared.trace_fault.TraceFault.TheVariants as fault
+use Rattle.stitch_trace.specs.Links.{first_long, is_long, link_size, links_in, longest, move_by, moves_along, moves_from}
+use Rattle.stitch_trace.specs.Traces.{step_by, step_past}
+use Rattle.stitch_trace.specs.Tracing.{measured_on}
+
+-- a number that differs by nothing is the same
+no_difference : (a b : ℤ) → unsigned_abs (b -ℤ a) ≤ 0 → a ≡ b
+no_difference a b none = grind (arith, ints)
+
+-- points that aren't found to be the same are apart
+pub size_apart : (p q : Point) → is_same_point p q ≡ false → 1 ≤ size_of (move_between p q)
+size_apart p q differ =
+    let across = le-max_left (unsigned_abs (q.x -ℤ p.x)) (unsigned_abs (q.y -ℤ p.y)) in
+    let down = le-max_right (unsigned_abs (q.x -ℤ p.x)) (unsigned_abs (q.y -ℤ p.y)) in
+    let not_none : size_of (move_between p q) ≤ 0 → ⊥ = λ none.
+    let x : int_eq p.x q.x ≡ true = (Decides-int_eq p.x q.x).1 (no_difference p.x q.x (omega arith)) in
+    let y : int_eq p.y q.y ≡ true = (Decides-int_eq p.y q.y).1 (no_difference p.y q.y (omega arith)) in
+    both_ways (is_same_point p q) differ (rw (x, y) refl) in
+    omega (arith, not_none)
+
+-- the greatest size, from one on
+abbrev greatest : ℕ → List Link → ℕ
+greatest longest links = fold max longest (map link_size links)
+
+greatest_more : (longest : ℕ) (links : List Link) → longest ≤ greatest longest links
+greatest_more longest [] = omega arith
+greatest_more longest (link ∷ rest) =
+    omega (arith, le-max_left longest (link_size link), greatest_more (max longest (link_size link)) rest)
+
+-- what measuring comes to
+abbrev comes_to : ℕ → Option ℕ → List Link → Result ℕ TraceFault
+comes_to longest (Some number) links = Err (fault.LinkTooLong number)
+comes_to longest None links = cond (greatest longest links == 0) (Err fault.NoLinks) (Ok (greatest longest links))
+
+measured_to : (longest : ℕ) (moves : List Move) → measured_on longest moves ≡ comes_to longest (first_long moves) (links_in moves)
+measured_to longest [] = refl
+measured_to longest (Stay ∷ rest) = measured_to longest rest
+measured_to longest (Gap ∷ rest) = measured_to longest rest
+measured_to longest (Sewn number link ∷ rest) = by_test (measured_to (max longest (link_size link)) rest) (is_long link) refl
+  where
+    on : (found : Option ℕ) → comes_to (max longest (link_size link)) found (links_in rest)
+        ≡ comes_to longest found (link ∷ links_in rest)
+    on (Some number) = refl
+    on None = refl
+
+    by_test : measured_on (max longest (link_size link)) rest ≡ comes_to (max longest (link_size link)) (first_long rest) (links_in rest)
+        → (t : Bool) → is_long link ≡ t → measured_on longest (Sewn number link ∷ rest)
+        ≡ comes_to longest (first_long (Sewn number link ∷ rest)) (link ∷ links_in rest)
+    by_test later true is = rw is refl
+    by_test later false is = rw is (later ∙ on (first_long rest))
+
+-- the first of the links, if there is one, has a size
+abbrev FirstHasSize : List Link → Type 0
+FirstHasSize [] = Unit {0}
+FirstHasSize (link ∷ rest) = 1 ≤ link_size link
+
+after_link : (p q : Point) (number : ℕ) (later : List Move) → FirstHasSize (links_in later) → (t : Bool) → is_same_point p q ≡ t
+    → (float : Bool)
+    → FirstHasSize (links_in (cond t Stay (cond float Gap (Sewn number (record { from = p; to = q }))) ∷ later))
+after_link p q number later first true same float = first
+after_link p q number later first false same true = first
+after_link p q number later first false same false = size_apart p q same
+
+after_act : (p : Point) (number : ℕ) (what : Act) (later : List Move) → FirstHasSize (links_in later)
+    → FirstHasSize (links_in (move_by (Some p) number what ∷ later))
+after_act p number act.Trim later first = first
+after_act p number act.Stop later first = first
+after_act p number (act.Needle q float) later first = after_link p q number later first (is_same_point p q) refl float
+
+first_has_size : (before : Option Point) (acts : List NumberedAct) → FirstHasSize (links_in (moves_from before acts))
+first_has_size before [] = tt
+first_has_size None (a ∷ rest) = first_has_size (needle_point a) rest
+first_has_size (Some p) (a ∷ rest) =
+    after_act p a.number a.act (moves_from (needle_point a) rest) (first_has_size (needle_point a) rest)
+
+past_is : (found : Option ℕ) (links : List Link) → FirstHasSize links → comes_to 0 found links ≡ step_past found links
+past_is (Some number) links first = refl
+past_is None [] first = refl
+past_is None (link ∷ rest) first =
+    let some : (greatest (max 0 (link_size link)) rest == 0) ≡ false =
+    grind (arith, nat_tests, le-max_right 0 (link_size link), greatest_more (max 0 (link_size link)) rest, first) in
+    rw some refl
+
+-- measuring acts gives the step
+pub step_is : (acts : List NumberedAct) → measured_on 0 (moves_along acts) ≡ step_by (moves_along acts)
+step_is acts =
+    measured_to 0 (moves_along acts)
+    ∙ past_is (first_long (moves_along acts)) (links_in (moves_along acts)) (first_has_size None acts)
+
+-- there are no more acts than commands
+pub few_acts : (n : ℕ) (loose jumped : Bool) (commands : List Command) → length (acts_from n loose jumped commands) ≤ length commands
+few_acts n loose jumped [] = omega arith
+few_acts n loose jumped (Stitch p ∷ rest) = omega (arith, few_acts (n + 1) false false rest)
+few_acts n loose jumped (Jump p ∷ rest) = omega (arith, few_acts (n + 1) loose true rest)
+few_acts n true jumped (Trim ∷ rest) = omega (arith, few_acts (n + 1) true jumped rest)
+few_acts n false jumped (Trim ∷ rest) = omega (arith, few_acts (n + 1) true false rest)
+few_acts n loose jumped (Stop ∷ rest) = omega (arith, few_acts (n + 1) true false rest)

@@ -1,0 +1,75 @@
+-- Worked values of links, chains and traced drawings.
+use Rattle.std.proofs.Common.{◌≡◌, ◌∷◌, [], ◌++◌, ℕ, true, false, pos, codes, List, Ok, Err, refl}
+use Rattle.design_model.specs.declared.command.Command.{Command}
+use Rattle.design_model.specs.declared.command.Command.TheVariants as command
+use Rattle.design_model.specs.declared.point.Point.{Point}
+use Rattle.design_model.specs.Designs.{DesignValue}
+use Rattle.line_graph.specs.Drawings.{DrawingValue, LineValue}
+use Rattle.stitch_trace.specs.declared.trace_fault.TraceFault.TheVariants as fault
+use Rattle.stitch_trace.specs.Traces.{first_word, traced}
+
+-- a place on the cloth
+abbrev at : ℕ → ℕ → Point
+at x y = record { x = pos x; y = pos y }
+
+abbrev stitch : ℕ → ℕ → Command
+stitch x y = command.Stitch (at x y)
+
+-- a design of these commands, whose first block has thread 9
+abbrev sewing : List Command → DesignValue
+sewing commands = record { label = codes "old rose"; threads = 9 ∷ []; commands = commands }
+
+-- a drawing of that step with these threads and lines
+abbrev drawn : ℕ → List ℕ → List LineValue → DrawingValue
+drawn step threads lines =
+    record { label = codes "old"; step = step; threads = threads; lines = lines; starts = []; ends = [] }
+
+abbrev line : ℕ → List Point → LineValue
+line block points = record { block = block; points = points }
+
+-- a square is one closed chain, and its greatest link is the step
+pub known_square : traced (sewing (stitch 0 0 ∷ stitch 30 0 ∷ stitch 30 20 ∷ stitch 0 20 ∷ stitch 0 0 ∷ command.Trim ∷ []))
+    ≡ Ok (drawn 30 (9 ∷ []) (line 0 (at 0 0 ∷ at 30 0 ∷ at 30 20 ∷ at 0 20 ∷ at 0 0 ∷ []) ∷ []))
+known_square = refl
+
+-- a line there and back has each link once
+pub known_return : traced (sewing (stitch 0 0 ∷ stitch 10 0 ∷ stitch 20 0 ∷ stitch 10 0 ∷ stitch 0 0 ∷ command.Trim ∷ []))
+    ≡ Ok (drawn 10 (9 ∷ []) (line 0 (at 0 0 ∷ at 10 0 ∷ at 20 0 ∷ []) ∷ []))
+known_return = refl
+
+-- a needle at the same point breaks no chain, and a link that was sewn before does; a chain is cut where its block has a
+-- needle point again
+pub known_chains : traced (sewing (stitch 0 0 ∷ stitch 10 0 ∷ stitch 10 0 ∷ stitch 20 0 ∷ stitch 10 0 ∷ stitch 10 10 ∷ []))
+    ≡ Ok (drawn 10 (9 ∷ []) (line 0 (at 0 0 ∷ at 10 0 ∷ []) ∷ line 0 (at 10 0 ∷ at 20 0 ∷ [])
+    ∷ line 0 (at 10 0 ∷ at 10 10 ∷ []) ∷ []))
+known_chains = refl
+
+-- links that cross where no needle goes down are left whole
+pub known_crossing : traced (sewing (stitch 0 0 ∷ stitch 10 10 ∷ command.Trim ∷ stitch 0 10 ∷ stitch 10 0 ∷ []))
+    ≡ Ok (drawn 10 (9 ∷ []) (line 0 (at 0 0 ∷ at 10 10 ∷ []) ∷ line 0 (at 0 10 ∷ at 10 0 ∷ []) ∷ []))
+known_crossing = refl
+
+-- nothing is sewn to a float, but from it; where it stays at its point the chain goes on
+pub known_floats : (traced (sewing (stitch 0 0 ∷ stitch 10 0 ∷ command.Jump (at 40 0) ∷ stitch 40 0 ∷ stitch 40 5 ∷ []))
+    ≡ Ok (drawn 10 (9 ∷ []) (line 0 (at 0 0 ∷ at 10 0 ∷ []) ∷ line 0 (at 40 0 ∷ at 40 5 ∷ []) ∷ [])))
+    × (traced (sewing (stitch 0 0 ∷ stitch 10 0 ∷ command.Jump (at 40 0) ∷ stitch 10 0 ∷ stitch 15 0 ∷ []))
+    ≡ Ok (drawn 10 (9 ∷ []) (line 0 (at 0 0 ∷ at 10 0 ∷ at 15 0 ∷ []) ∷ [])))
+known_floats = (refl, refl)
+
+-- a block without a link has no block, and each block has its own links; block 2 has thread 3 by its place
+pub known_blocks : traced (sewing (stitch 0 0 ∷ stitch 7 0 ∷ command.Stop ∷ stitch 3 3 ∷ command.Stop ∷ stitch 7 0 ∷ stitch 0 0 ∷ []))
+    ≡ Ok (drawn 7 (9 ∷ 3 ∷ []) (line 0 (at 0 0 ∷ at 7 0 ∷ []) ∷ line 1 (at 7 0 ∷ at 0 0 ∷ []) ∷ []))
+known_blocks = refl
+
+-- a needle that stays sews nothing
+pub known_nothing : traced (sewing (stitch 5 0 ∷ stitch 5 0 ∷ command.Trim ∷ stitch 9 0 ∷ [])) ≡ Err fault.NoLinks
+known_nothing = refl
+
+-- the first link that is longer than the limit, down or across, has the command of its second needle
+pub known_long : (traced (sewing (stitch 0 0 ∷ stitch 0 2047 ∷ [])) ≡ Ok (drawn 2047 (9 ∷ []) (line 0 (at 0 0 ∷ at 0 2047 ∷ []) ∷ [])))
+    × (traced (sewing (command.Trim ∷ stitch 0 0 ∷ stitch 5 0 ∷ stitch 5 2048 ∷ stitch 9999 0 ∷ [])) ≡ Err (fault.LinkTooLong 4))
+known_long = (refl, refl)
+
+-- a label up to its first space
+pub known_words : (first_word (codes "rose") ≡ codes "rose") × (first_word (codes " rose") ≡ []) × (first_word [] ≡ [])
+known_words = (refl, refl, refl)

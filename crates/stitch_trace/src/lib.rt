@@ -1,0 +1,20 @@
+//! Drawings of what designs sew: each link of two needle points once, in chains that become lines, cut
+//! into sections.
+#![tactic(auto)]
+
+mod chains;
+mod drawing_of_strands;
+mod links;
+mod needle_moves;
+mod new_links;
+mod strands;
+#[cfg(test)]
+mod tests;
+mod trace_fault;
+mod traced_drawing;
+
+pub use links::Link;
+pub use needle_moves::Move;
+pub use strands::{Chains, Strand};
+pub use trace_fault::TraceFault;
+pub use traced_drawing::trace;

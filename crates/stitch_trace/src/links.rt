@@ -1,0 +1,33 @@
+ghost use Rattle.std.specs.Prelude.{◌≡◌};
+ghost use Rattle.stitch_trace.specs.Links.{link_size, turned as the_turned};
+
+use design_model::Point;
+
+/// What is sewn from one needle point to another, in tenths of a millimetre.
+#[derive(Clone, Copy, Debug, PartialEq, Eq, Hash)]
+pub struct Link {
+    pub from: Point,
+    pub to: Point,
+}
+
+impl Link {
+    /// The same link the other way round.
+    pub(crate) fn turned(self) -> Link
+        ensures { result ≡ the_turned self }
+    {
+        Link {
+            from: self.to,
+            to: self.from,
+        }
+    }
+
+    /// Its size on the larger axis.
+    pub(crate) fn size(self) -> u32
+        ensures { result ≡ link_size self }
+    {
+        self.to
+            .x
+            .abs_diff(self.from.x)
+            .max(self.to.y.abs_diff(self.from.y))
+    }
+}

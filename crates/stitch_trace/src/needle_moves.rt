@@ -1,0 +1,56 @@
+ghost use Rattle.std.specs.Prelude.{◌≡◌, Some};
+ghost use Rattle.design_model.specs.declared.act.Act.TheVariants as act;
+ghost use Rattle.design_model.specs.ActKinds.{needle_point as the_needle_point};
+ghost use Rattle.stitch_trace.specs.Links.{move_by};
+
+use crate::links::Link;
+use design_model::{Act, NumberedAct, Point};
+
+/// What the needle does from one act of a design to the next.
+#[derive(Clone, Copy, Debug, PartialEq, Eq)]
+pub enum Move {
+    /// It goes down where it went down before.
+    Stay,
+    /// It sews nothing from there: the thread was loose or carried over, or the act is no needle act.
+    Gap,
+    /// It sews a link. The number is that of the second needle's command, from 1.
+    Sewn { number: u32, link: Link },
+}
+
+/// What the needle does to an act, after an act with that needle point, if it was a needle act.
+pub fn move_to(before: Option<Point>, a: NumberedAct) -> Move
+    ensures { result ≡ move_by before a.number a.act }
+{
+    let Some(from) = before else {
+        return Move::Gap;
+    };
+    match a.act {
+        Act::Needle { at, float } => move_between(from, at, float, a.number),
+        Act::Trim | Act::Stop => Move::Gap,
+    }
+}
+
+fn move_between(from: Point, to: Point, float: bool, number: u32) -> Move
+    ensures { result ≡ move_by (Some from) number (act.Needle to float) }
+{
+    if from == to {
+        return Move::Stay;
+    }
+    if float {
+        return Move::Gap;
+    }
+    Move::Sewn {
+        number,
+        link: Link { from, to },
+    }
+}
+
+/// The needle point of an act, if it is a needle act.
+pub fn needle_point(a: NumberedAct) -> Option<Point>
+    ensures { result ≡ the_needle_point a }
+{
+    match a.act {
+        Act::Needle { at, .. } => Some(at),
+        Act::Trim | Act::Stop => None,
+    }
+}

@@ -1,0 +1,35 @@
+ghost use Rattle.std.specs.Prelude.{◌≡◌, ◌||◌, ◌∷◌, List, not, IfOk, OnOk};
+ghost use Rattle.std.specs.HashSet.{contains};
+ghost use Rattle.stitch_trace.specs.declared.links.Link.{Link as LinkValue};
+ghost use Rattle.stitch_trace.specs.declared.needle_moves.Move.{Move as MoveValue};
+ghost use Rattle.stitch_trace.specs.Links.{has_ends, is_same_link};
+ghost use Rattle.stitch_trace.specs.Tracing.{new_by};
+
+use crate::links::Link;
+use crate::needle_moves::Move;
+use design_model::Memory;
+use std::collections::HashSet;
+
+/// The move, or a gap in the place of a link that was sewn before, in either direction.
+pub fn new_move(sewn: &mut HashSet<Link>, step: Move) -> Result<Move, Memory>
+    ensures { IfOk result (λ fresh. (rest : List MoveValue) →
+        new_by (contains has_ends sewn.old) (step ∷ rest)
+        ≡ fresh ∷ new_by (contains has_ends sewn.new) rest) }
+{
+    let Move::Sewn { link, .. } = step else {
+        return Ok(step);
+    };
+    let is_new = sew(sewn, link)?;
+    if is_new { Ok(step) } else { Ok(Move::Gap) }
+}
+
+/// Says whether the link is new, and keeps it in both directions.
+fn sew(sewn: &mut HashSet<Link>, link: Link) -> Result<bool, Memory>
+    ensures new { IfOk result (λ is_new. is_new ≡ not (contains has_ends sewn.old link)) }
+    ensures kept { OnOk result ((other : LinkValue) → contains has_ends sewn.new other
+        ≡ (is_same_link link other || contains has_ends sewn.old other)) }
+{
+    let is_new = sewn.insert(link)?;
+    sewn.insert(link.turned())?;
+    Ok(is_new)
+}

@@ -1,0 +1,79 @@
+ghost use Rattle.std.specs.Prelude.{◌≡◌, ◌≤◌, true, IfOk};
+ghost use Rattle.design_model.specs.declared.act.NumberedAct.{NumberedAct as NumberedActValue};
+ghost use Rattle.line_graph.specs.Sections.{is_joined};
+ghost use Rattle.line_graph.specs.WalkEnds.{HasNoEnds};
+ghost use Rattle.step_splitter.specs.declared.segment.TheConstants.{MAX_STEP as max_step};
+ghost use Rattle.stitch_trace.specs.Links.{moves_along};
+ghost use Rattle.stitch_trace.specs.Traces.{Traces, step_by, traced};
+ghost use Rattle.stitch_trace.specs.Tracing.{Measures, measured_on};
+
+use crate::drawing_of_strands::drawing_of;
+use crate::needle_moves::{Move, move_to, needle_point};
+use crate::strands::strands;
+use crate::trace_fault::{TraceFault, refusal_of};
+use design_model::{Design, NumberedAct, acts};
+use line_graph::{Drawing, MAX_STEP};
+use std::alloc::Global;
+
+/// The drawing of what a design sews, each link once. The refusals come in this order: `NoLinks`,
+/// `LinkTooLong` at the first link that is longer than 2,047 on one axis, and `Limit` where the drawing
+/// would have too many blocks, lines or points, at the first chain that passes one of these limits in this
+/// order, and then where the sections would.
+pub fn trace(alloc: Global, d: &Design) -> Result<Drawing, TraceFault>
+    ensures answer { Traces (traced d.now) result }
+    ensures joined { IfOk result (λ drawing. is_joined drawing ≡ true) }
+    ensures unended { IfOk result HasNoEnds }
+{
+    // The clauses of `commands` bring the design's limits.
+    let _commands = d.commands();
+    let acts = acts(alloc, d)?;
+    let step = longest_link(acts.as_slice())?;
+    let strands = strands(alloc, d, acts.as_slice())?;
+    match drawing_of(alloc, d.label(), step, strands.as_slice()) {
+        Ok(drawing) => Ok(drawing),
+        Err(kind) => Err(refusal_of(kind)),
+    }
+}
+
+/// The greatest size of a link, where there is one and none is too long.
+#[tactic(auto, using(crate::proofs::MeasureLemmas::step_is))]
+fn longest_link(acts: &[NumberedAct]) -> Result<u32, TraceFault>
+    ensures value { result ≡ step_by (moves_along acts.now) }
+    ensures low { IfOk result (λ step. 1 ≤ step) }
+    ensures high { IfOk result (λ step. step ≤ max_step) }
+{
+    measured(acts)
+}
+
+fn measured(acts: &[NumberedAct]) -> Result<u32, TraceFault>
+    ensures value { result ≡ measured_on 0 (moves_along acts.now) }
+    ensures low { IfOk result (λ step. 1 ≤ step) }
+    ensures high { IfOk result (λ step. step ≤ max_step) }
+{
+    let mut longest: u32 = 0;
+    let mut before = None;
+    for a in acts {
+        longest = longest_with(longest, move_to(before, *a))?;
+        before = needle_point(*a);
+    }
+    if longest == 0 {
+        return Err(TraceFault::NoLinks);
+    }
+    Ok(longest)
+}
+
+/// The greatest size so far, with a move more.
+fn longest_with(longest: u32, step: Move) -> Result<u32, TraceFault>
+    requires { longest ≤ max_step }
+    ensures value { Measures longest step result }
+    ensures high { IfOk result (λ more. more ≤ max_step) }
+{
+    let Move::Sewn { number, link } = step else {
+        return Ok(longest);
+    };
+    let size = link.size();
+    if size > MAX_STEP {
+        return Err(TraceFault::LinkTooLong { number });
+    }
+    Ok(longest.max(size))
+}
