@@ -20,6 +20,7 @@ pub data Asked : Type 0 where
   hoop : (file : List ℕ) → (width height : ℕ) → Asked
   sample : (number : ℕ) → (drawing : List ℕ) → Asked
   migrate : (input output : List ℕ) → Asked
+  trace : (file drawing : List ℕ) → Asked
   double : (drawing out cert : List ℕ) → Asked
 
 -- what a request of the program asks; the words of an edit that spell none ask for none
@@ -33,6 +34,7 @@ asked_by (request.Edit names edits) = edit names.input.now names.output.now
 asked_by (request.Hoop file width height) = hoop file.now width height
 asked_by (request.Sample number drawing) = sample number drawing.now
 asked_by (request.Migrate input output) = migrate input.now output.now
+asked_by (request.Trace file drawing) = trace file.now drawing.now
 asked_by (request.Double names) = double names.drawing.now names.out.now names.cert.now
 
 -- the route of three words that are names
@@ -102,6 +104,12 @@ asked_migrate (input ∷ output ∷ []) =
     if is_name input && is_name output then Some (migrate input output) else None
 asked_migrate _ = None
 
+-- the tracing of a file into another, for two words that are names
+abbrev pub asked_trace : List (List ℕ) → Option Asked
+asked_trace (file ∷ drawing ∷ []) =
+    if is_name file && is_name drawing then Some (trace file drawing) else None
+asked_trace _ = None
+
 -- the double run of three words that are names
 abbrev pub asked_double : List (List ℕ) → Option Asked
 asked_double (drawing ∷ out ∷ cert ∷ []) = if is_name drawing && is_name out && is_name cert
@@ -119,8 +127,9 @@ asked_as command words =
     else (if bytes_eq command (codes "hoop") then asked_hoop words
     else (if bytes_eq command (codes "sample") then asked_sample words
     else (if bytes_eq command (codes "migrate") then asked_migrate words
+    else (if bytes_eq command (codes "trace") then asked_trace words
     else (if bytes_eq command (codes "double") then asked_double words
-    else None))))))))
+    else None)))))))))
 
 -- the request that the words spell, where they spell one
 abbrev pub asked_of : List (List ℕ) → Option Asked
@@ -159,4 +168,5 @@ IsSound (request.Edit names edits) =
 IsSound (request.Hoop file width height) = IsName file.now
 IsSound (request.Sample number drawing) = (1 ≤ number) × (number ≤ MAX_SAMPLE) × IsName drawing.now
 IsSound (request.Migrate input output) = IsName input.now × IsName output.now
+IsSound (request.Trace file drawing) = IsName file.now × IsName drawing.now
 IsSound (request.Double names) = AreNames names

@@ -1,5 +1,5 @@
 ghost use Rattle.std.specs.Prelude.{◌≡◌, IfSome, codes, is_some, map, option_map, string_bytes};
-ghost use Rattle.command_words.specs.Requests.{IsSound, asked_as, asked_by, asked_check, asked_convert, asked_double, asked_edit, asked_hoop, asked_migrate, asked_of, asked_route, asked_sample, asked_show, hoop_with, sample_with};
+ghost use Rattle.command_words.specs.Requests.{IsSound, asked_as, asked_by, asked_check, asked_convert, asked_double, asked_edit, asked_hoop, asked_migrate, asked_of, asked_route, asked_sample, asked_show, asked_trace, hoop_with, sample_with};
 ghost use Rattle.command_words.specs.Words.{are_both as are_both_words, edits_spelled, is_name as word_is_name, refits_spelled, sample_of, side_of};
 
 use crate::edit_words::edit_spelled;
@@ -15,7 +15,8 @@ pub const MAX_SAMPLE: u32 = 999_999;
 
 /// The request that the words spell: `route DRAWING OUT CERT`, `check DRAWING FILE CERT`,
 /// `convert IN OUT [--split] [--cut]`, `show FILE`, `edit IN OUT EDIT...`, `hoop FILE WIDTH HEIGHT`,
-/// `sample N DRAWING`, `migrate DRAWING OUT` or `double DRAWING OUT CERT`. It takes no memory.
+/// `sample N DRAWING`, `migrate DRAWING OUT`, `trace FILE DRAWING` or `double DRAWING OUT CERT`. It takes no
+/// memory.
 pub fn request(words: &[String]) -> Option<Request<'_>>
     ensures value { option_map asked_by result
         ≡ asked_of (map (λ word. string_bytes word) words.now) }
@@ -55,6 +56,9 @@ fn request_as<'a>(command: &str, words: &'a [String]) -> Option<Request<'a>>
     }
     if command == "migrate" {
         return migrate_request(words);
+    }
+    if command == "trace" {
+        return trace_request(words);
     }
     if command == "double" {
         return double_request(words);
@@ -267,6 +271,24 @@ fn migrate_request(words: &[String]) -> Option<Request<'_>>
         Some(Request::Migrate {
             input: input.as_str(),
             output: output.as_str(),
+        })
+    } else {
+        None
+    }
+}
+
+fn trace_request(words: &[String]) -> Option<Request<'_>>
+    ensures value { option_map asked_by result
+        ≡ asked_trace (map (λ word. string_bytes word) words.now) }
+    ensures sound { IfSome result IsSound }
+{
+    let [design, drawing] = words else {
+        return None;
+    };
+    if is_name(design.as_str()) && is_name(drawing.as_str()) {
+        Some(Request::Trace {
+            file: design.as_str(),
+            drawing: drawing.as_str(),
         })
     } else {
         None

@@ -34,6 +34,11 @@ pub enum Request<'a> {
         input: &'a str,
         output: &'a str,
     },
+    /// Write the drawing of what a design sews.
+    Trace {
+        file: &'a str,
+        drawing: &'a str,
+    },
     /// Sew each line of a drawing once in each direction.
     Double(RouteNames<'a>),
 }

@@ -29,8 +29,11 @@ use Rattle.stitch_cli.specs.DoubleRuns.{double_above, double_read}
 use Rattle.stitch_cli.specs.Endings.{Ends, Halts, OrderEnds, all, but_report, halted, made, status_of, up_to}
 use Rattle.stitch_cli.specs.Hoops.{hoop_fitted, hoop_read}
 use Rattle.stitch_cli.specs.Migrations.{migrate_read}
-use Rattle.stitch_cli.specs.OrderNames.{CheckOrder, HoopOrder, MigrateOrder, RewriteOrder, RouteOrder, ShowOrder}
-use Rattle.stitch_cli.specs.Orders.{Order, checking, doubling, hooping, migrating, rewriting, routing, sampling, showing}
+use Rattle.stitch_cli.specs.OrderNames.{CheckOrder, HoopOrder, MigrateOrder, RewriteOrder, RouteOrder, ShowOrder, TraceOrder}
+use Rattle.stitch_cli.specs.Orders.{Order, checking, doubling, hooping, migrating, rewriting, routing, sampling, showing, tracing}
+use Rattle.stitch_cli.specs.Tracings.{trace_made, trace_read}
+use Rattle.stitch_trace.specs.declared.trace_fault.TraceFault.{TraceFault}
+use Rattle.stitch_trace.specs.Traces.{traced}
 use Rattle.stitch_cli.specs.Plans.{ComesTo, IsAccepted, IsInput, IsTooLong, Makes, Misses, Plan, Refuses, accepts, decides, reads, refuses}
 use Rattle.stitch_cli.specs.Products.{ProductValue}
 use Rattle.stitch_cli.specs.Refusals.{RefusalValue, refusal_of}
@@ -139,6 +142,14 @@ migrate_exact : (order : MigrateOrder) (read : Result DrawingValue DrawFault) �
 migrate_exact order (Ok d) = tt
 migrate_exact order (Err fault) = tt
 
+trace_exact : (order : TraceOrder) (read : Result Loaded ReadFault) → IsExact (trace_read order read)
+trace_exact order (Ok loaded) = made (traced loaded.design)
+  where
+    made : (said : Result DrawingValue TraceFault) → IsExact (trace_made order said)
+    made (Ok d) = tt
+    made (Err fault) = tt
+trace_exact order (Err fault) = tt
+
 show_exact : (order : ShowOrder) (read : Result Loaded ReadFault) → IsExact (show_read order read)
 show_exact order (Ok loaded) = tt
 show_exact order (Err fault) = tt
@@ -158,6 +169,7 @@ order_exact one (routing order) = λ bytes. route_exact order (drawing_of bytes)
 order_exact one (checking order) = λ bytes. check_exact one order (drawing_of bytes)
 order_exact one (sampling order) = tt
 order_exact one (migrating order) = λ bytes. migrate_exact order (drawing_as2 bytes)
+order_exact one (tracing order) = λ bytes. trace_exact order (order.format.reads bytes)
 order_exact one (doubling order) = λ bytes. double_exact order (drawing_of bytes)
 order_exact one (rewriting order) = λ bytes. rewrite_exact order (order.source.reads bytes)
 order_exact one (showing order) = λ bytes. show_exact order (order.format.reads bytes)

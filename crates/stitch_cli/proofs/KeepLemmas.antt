@@ -22,8 +22,11 @@ use Rattle.stitch_cli.specs.DoubleRuns.{double_above, double_read}
 use Rattle.stitch_cli.specs.Endings.{Delivers, Ends, Halts, all, but_report, halted, made, up_to}
 use Rattle.stitch_cli.specs.Hoops.{hoop_fitted, hoop_read}
 use Rattle.stitch_cli.specs.Migrations.{migrate_read}
-use Rattle.stitch_cli.specs.OrderNames.{CheckOrder, HoopOrder, MigrateOrder, RewriteOrder, RouteOrder, ShowOrder}
-use Rattle.stitch_cli.specs.Orders.{Order, checking, doubling, hooping, migrating, outputs_of, rewriting, routing, sampling, showing}
+use Rattle.stitch_cli.specs.OrderNames.{CheckOrder, HoopOrder, MigrateOrder, RewriteOrder, RouteOrder, ShowOrder, TraceOrder}
+use Rattle.stitch_cli.specs.Orders.{Order, checking, doubling, hooping, migrating, outputs_of, rewriting, routing, sampling, showing, tracing}
+use Rattle.stitch_cli.specs.Tracings.{trace_made, trace_read}
+use Rattle.stitch_trace.specs.declared.trace_fault.TraceFault.{TraceFault}
+use Rattle.stitch_trace.specs.Traces.{traced}
 use Rattle.stitch_cli.specs.Plans.{Makes, Plan}
 use Rattle.stitch_cli.specs.Products.{ChangesAmong, IsNoneOf, ProductValue, names_of}
 use Rattle.stitch_cli.specs.Rewrites.{rewrite_read}
@@ -76,6 +79,16 @@ migrate_outputs : (order : MigrateOrder) (files : Option Files) (product : Produ
 migrate_outputs order files product (Ok d) makes = ap (λ (p : ProductValue). names_of p.outputs) makes.made
 migrate_outputs order files product (Err fault) never = absurd never
 
+trace_outputs : (order : TraceOrder) (files : Option Files) (product : ProductValue) (read : Result Loaded ReadFault)
+    → Makes (trace_read order read) files product → names_of product.outputs ≡ order.drawing ∷ []
+trace_outputs order files product (Ok loaded) makes = made (traced loaded.design) makes
+  where
+    made : (said : Result DrawingValue TraceFault) → Makes (trace_made order said) files product
+        → names_of product.outputs ≡ order.drawing ∷ []
+    made (Ok d) is = ap (λ (p : ProductValue). names_of p.outputs) is
+    made (Err fault) never = absurd never
+trace_outputs order files product (Err fault) never = absurd never
+
 show_outputs : (order : ShowOrder) (files : Option Files) (product : ProductValue) (read : Result Loaded ReadFault)
     → Makes (show_read order read) files product → names_of product.outputs ≡ []
 show_outputs order files product (Ok loaded) is = ap (λ (p : ProductValue). names_of p.outputs) is
@@ -97,6 +110,7 @@ makes_outputs (routing order) files product (bytes, input, makes) = route_output
 makes_outputs (checking order) files product (bytes, input, makes) = check_outputs order files product (drawing_of bytes) makes
 makes_outputs (sampling order) files product is = ap (λ (p : ProductValue). names_of p.outputs) is.made
 makes_outputs (migrating order) files product (bytes, input, makes) = migrate_outputs order files product (drawing_as2 bytes) makes
+makes_outputs (tracing order) files product (bytes, input, makes) = trace_outputs order files product (order.format.reads bytes) makes
 makes_outputs (doubling order) files product (bytes, input, makes) = double_outputs order files product (drawing_of bytes) makes
 makes_outputs (rewriting order) files product (bytes, input, makes) =
     rewrite_outputs order files product (order.source.reads bytes) makes

@@ -19,3 +19,4 @@ mod DoubleFacts
 mod TextFacts
 mod ReasonFacts
 mod SampleFacts
+mod TraceLemmas

@@ -3,12 +3,13 @@ use Rattle.stitch_cli.specs.Checks.{check_plan}
 use Rattle.stitch_cli.specs.DoubleRuns.{double_plan}
 use Rattle.stitch_cli.specs.Hoops.{hoop_plan}
 use Rattle.stitch_cli.specs.Migrations.{migrate_plan}
-use Rattle.stitch_cli.specs.Orders.{Order, checking, doubling, hooping, migrating, rewriting, routing, sampling, showing}
+use Rattle.stitch_cli.specs.Orders.{Order, checking, doubling, hooping, migrating, rewriting, routing, sampling, showing, tracing}
 use Rattle.stitch_cli.specs.Plans.{Plan}
 use Rattle.stitch_cli.specs.Rewrites.{rewrite_plan}
 use Rattle.stitch_cli.specs.Routes.{route_plan}
 use Rattle.stitch_cli.specs.Samples.{sample_plan}
 use Rattle.stitch_cli.specs.Shows.{show_plan}
+use Rattle.stitch_cli.specs.Tracings.{trace_plan}
 
 -- what an order does
 abbrev pub plan_of : Order → Plan
@@ -16,6 +17,7 @@ plan_of (routing order) = route_plan order
 plan_of (checking order) = check_plan order
 plan_of (sampling order) = sample_plan order
 plan_of (migrating order) = migrate_plan order
+plan_of (tracing order) = trace_plan order
 plan_of (doubling order) = double_plan order
 plan_of (rewriting order) = rewrite_plan order
 plan_of (showing order) = show_plan order

@@ -13,12 +13,14 @@ pub mod Reasons
 pub mod Reports
 pub mod DoubleReports
 pub mod UsageText
+pub mod TraceTexts
 pub mod Texts
 -- read these first: what each command does, and what each status of the program means
 pub mod Routes
 pub mod Checks
 pub mod Samples
 pub mod Migrations
+pub mod Tracings
 pub mod DoubleRuns
 pub mod Shows
 pub mod Hoops

@@ -31,6 +31,12 @@ pub record MigrateOrder : Type 0 where
   pub input : List ℕ
   pub output : List ℕ
 
+-- the file that is traced, what its format means, and the drawing that is written
+pub record TraceOrder : Type 0 where
+  pub file : List ℕ
+  pub drawing : List ℕ
+  pub format : Meaning
+
 -- the file that is shown, and what its format means
 pub record ShowOrder : Type 0 where
   pub file : List ℕ
@@ -77,6 +83,10 @@ sample_order number drawing = record { number = number; drawing = drawing }
 -- the order of a migration by its names
 abbrev pub migrate_order : (input output : List ℕ) → MigrateOrder
 migrate_order input output = record { input = input; output = output }
+
+-- the order of tracing a file by what its format means
+abbrev pub trace_order : (file drawing : List ℕ) → Meaning → TraceOrder
+trace_order file drawing format = record { file = file; drawing = drawing; format = format }
 
 -- the order of showing a file by what its format means
 abbrev pub show_order : List ℕ → Meaning → ShowOrder

@@ -2,11 +2,11 @@
 use Rattle.std.specs.Prelude.{ℕ, Bool, ◌&&◌, not, List, [], ◌∷◌, Option, Some, None, bytes_eq, slice_get, if◌then◌else◌}
 use Rattle.std.specs.Option.{option_and_then}
 use Rattle.command_words.specs.Changes.{Change}
-use Rattle.command_words.specs.Requests.{Asked, asked_of, check, convert, double, edit, hoop, migrate, route, sample, show}
+use Rattle.command_words.specs.Requests.{Asked, asked_of, check, convert, double, edit, hoop, migrate, route, sample, show, trace}
 use Rattle.command_words.specs.Words.{refits}
 use Rattle.format_traits.specs.Meanings.{Meaning}
 use Rattle.format_traits.specs.Endings.{found_in}
-use Rattle.stitch_cli.specs.OrderNames.{RouteOrder, CheckOrder, SampleOrder, MigrateOrder, ShowOrder, RewriteOrder, HoopOrder, sample_order, migrate_order}
+use Rattle.stitch_cli.specs.OrderNames.{RouteOrder, CheckOrder, SampleOrder, MigrateOrder, ShowOrder, RewriteOrder, HoopOrder, TraceOrder, sample_order, migrate_order, trace_order}
 
 -- no two of the three names are equal
 abbrev pub are_apart : List ℕ → List ℕ → List ℕ → Bool
@@ -22,6 +22,7 @@ pub data Order : Type 0 where
   checking : CheckOrder → Order
   sampling : SampleOrder → Order
   migrating : MigrateOrder → Order
+  tracing : TraceOrder → Order
   doubling : RouteOrder → Order
   rewriting : RewriteOrder → Order
   showing : ShowOrder → Order
@@ -51,6 +52,12 @@ checking_by drawing file cert (Some format) =
 abbrev pub migrating_to : (input output : List ℕ) → Option Order
 migrating_to input output =
     if bytes_eq input output then None else Some (migrating (migrate_order input output))
+
+-- the tracing of that file by that format, where there is one, where the names differ
+abbrev pub tracing_to : (file drawing : List ℕ) → Option Meaning → Option Order
+tracing_to file drawing None = None
+tracing_to file drawing (Some format) =
+    if bytes_eq file drawing then None else Some (tracing (trace_order file drawing format))
 
 -- the showing of that file by that format, where there is one
 abbrev pub showing_by : List ℕ → Option Meaning → Option Order
@@ -87,6 +94,8 @@ completed formats (Some (check drawing file cert)) =
     checking_by drawing file cert (format_of formats file)
 completed formats (Some (sample number drawing)) = Some (sampling (sample_order number drawing))
 completed formats (Some (migrate input output)) = migrating_to input output
+completed formats (Some (trace file drawing)) =
+    tracing_to file drawing (format_of formats file)
 completed formats (Some (double drawing out cert)) =
     doubling_to drawing out cert (format_of formats out)
 completed formats (Some (convert input output splits cuts)) =
@@ -108,6 +117,7 @@ outputs_of (routing order) = order.cert ∷ order.out ∷ []
 outputs_of (checking order) = []
 outputs_of (sampling order) = order.drawing ∷ []
 outputs_of (migrating order) = order.output ∷ []
+outputs_of (tracing order) = order.drawing ∷ []
 outputs_of (doubling order) = order.cert ∷ order.out ∷ []
 outputs_of (rewriting order) = order.output ∷ []
 outputs_of (showing order) = []

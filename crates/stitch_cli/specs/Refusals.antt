@@ -5,6 +5,7 @@ use Rattle.drawing_text.specs.declared.draw_fault.DrawFault.{DrawFault}
 use Rattle.format_traits.specs.declared.fault.ReadFault.{ReadFault}
 use Rattle.format_traits.specs.declared.fault.WriteFault.{WriteFault}
 use Rattle.route_core.specs.declared.verdict.Reason.{Reason}
+use Rattle.stitch_trace.specs.declared.trace_fault.TraceFault.{TraceFault}
 use Rattle.stitch_cli.specs.declared.changing.ChangeFault.{ChangeFault}
 use Rattle.stitch_cli.specs.declared.halt.Refusal.{Refusal}
 use Rattle.stitch_cli.specs.declared.halt.Refusal.TheVariants as refusal
@@ -20,6 +21,7 @@ pub data RefusalValue : Type 0 where
   uncertified : (name : List ℕ) → (line : ℕ) → RefusalValue
   disproved : Reason → RefusalValue
   too_large : (x y : ℕ) → RefusalValue
+  untraced : (name : List ℕ) → TraceFault → RefusalValue
 
 -- the reason that a refusal of the program is
 abbrev pub refusal_of : Refusal → RefusalValue
@@ -33,3 +35,4 @@ refusal_of (refusal.Unwritten name limit fault) = unwritten name.now limit fault
 refusal_of (refusal.Uncertified name number) = uncertified name.now number
 refusal_of (refusal.Disproved reason) = disproved reason
 refusal_of (refusal.TooLarge x y) = too_large x y
+refusal_of (refusal.Untraced name fault) = untraced name.now fault

@@ -8,12 +8,14 @@ use Rattle.certificate_text.specs.CertificateTexts.{line_end}
 use Rattle.line_graph.specs.declared.draw_kind.DrawKind.{DrawKind}
 use Rattle.line_graph.specs.declared.draw_kind.DrawKind.TheVariants as kind
 use Rattle.drawing_text.specs.declared.draw_fault.DrawFault.{DrawFault}
+use Rattle.stitch_trace.specs.declared.trace_fault.TraceFault.{TraceFault}
+use Rattle.stitch_trace.specs.declared.trace_fault.TraceFault.TheVariants as trace
 use Rattle.stitch_cli.specs.declared.changing.ChangeFault.{ChangeFault}
 use Rattle.stitch_cli.specs.declared.changing.ChangeFault.TheVariants as reason
 use Rattle.stitch_cli.specs.declared.halt.Halt.{Halt}
 use Rattle.stitch_cli.specs.declared.halt.Halt.TheVariants as halt
 use Rattle.stitch_cli.specs.Reasons.{reason_line}
-use Rattle.stitch_cli.specs.Refusals.{RefusalValue, disproved, refusal_of, step_too_long, too_large, too_long, uncertified, unchanged, undrawn, unread, unwritten}
+use Rattle.stitch_cli.specs.Refusals.{RefusalValue, disproved, refusal_of, step_too_long, too_large, too_long, uncertified, unchanged, undrawn, unread, untraced, unwritten}
 use Rattle.stitch_cli.specs.UsageText.{usage_text}
 
 -- a line about a file
@@ -111,6 +113,14 @@ change_line input output (reason.MovedOut number) =
 change_line input output (reason.NoPlace place count) =
     place_text input (decimal place) (decimal count)
 
+-- why a design has no traced drawing; want of memory has a line of its own
+abbrev pub trace_line : List ℕ → TraceFault → List ℕ
+trace_line name trace.NoLinks = line_about name (codes "nothing is sewn")
+trace_line name (trace.LinkTooLong number) =
+    command_line name number (codes "link longer than 2047")
+trace_line name (trace.Limit why) = line_about name (draw_text why)
+trace_line name trace.Memory = memory_line
+
 -- why an order was refused
 abbrev pub refusal_line : RefusalValue → List ℕ
 refusal_line (too_long name) = line_about name (codes "longer than 67108864 bytes")
@@ -124,6 +134,7 @@ refusal_line (uncertified name number) = line_at name (codes ": line ") (decimal
     (codes "not a certificate")
 refusal_line (disproved why) = reason_line why
 refusal_line (too_large x y) = large_text (decimal x) (decimal y)
+refusal_line (untraced name fault) = trace_line name fault
 
 -- a line about an input that could not be read
 abbrev pub unread_line : List ℕ → List ℕ

@@ -12,4 +12,5 @@ usage_text = codes "usage: stitch route DRAWING OUT CERT" ++ line_end
     ++ codes "       stitch hoop FILE WIDTH HEIGHT" ++ line_end
     ++ codes "       stitch sample N DRAWING" ++ line_end
     ++ codes "       stitch migrate DRAWING OUT" ++ line_end
+    ++ codes "       stitch trace FILE DRAWING" ++ line_end
     ++ codes "       stitch double DRAWING OUT CERT" ++ line_end

@@ -3,7 +3,7 @@ ghost use Rattle.std.specs.Bool.{OnTrue};
 ghost use Rattle.command_words.specs.Requests.{AreCheckNames, AreNames, BothAreNames};
 ghost use Rattle.outside_io.specs.Files.{IsName};
 ghost use Rattle.stitch_cli.specs.Endings.{Answers};
-ghost use Rattle.stitch_cli.specs.Orders.{are_apart as names_are_apart, checking_by, doubling_to, format_of, hooping_by, migrating_to, order_of, rewriting_by, routing_to, showing_by};
+ghost use Rattle.stitch_cli.specs.Orders.{are_apart as names_are_apart, checking_by, doubling_to, format_of, hooping_by, migrating_to, order_of, rewriting_by, routing_to, showing_by, tracing_to};
 ghost use Rattle.stitch_cli.specs.RewriteSteps.{AreSound, changes_by};
 
 use crate::changing::Changes;
@@ -17,6 +17,7 @@ use crate::rewriting::rewrite;
 use crate::routing::route;
 use crate::sampling::sample;
 use crate::showing::show;
+use crate::tracing::trace_file;
 use command_words::{CheckNames, Names, Request, RouteNames, request};
 use format_traits::{Format, find};
 use outside_io::Store;
@@ -58,6 +59,7 @@ pub(crate) fn make<'a, S: Store>(
         ) => make_hoop(alloc, file, width, height, formats, store),
         Some(Request::Sample { number, drawing }) => sample(alloc, number, drawing),
         Some(Request::Migrate { input, output }) => make_migration(alloc, input, output, store),
+        Some(Request::Trace { file, drawing }) => make_trace(alloc, file, drawing, formats, store),
         Some(Request::Double(names)) => make_double(alloc, names, formats, store),
         None => Err(Halt::Unasked),
     }
@@ -177,6 +179,28 @@ fn make_migration<'a, S: Store>(
         return Err(Halt::Unasked);
     }
     migrate(alloc, input, output, store)
+}
+
+fn make_trace<'a, S: Store>(
+    alloc: Global,
+    file: &'a str,
+    drawing: &'a str,
+    formats: &'a [Box<dyn Format>],
+    store: &mut S,
+) -> Result<Product<'a>, Halt<'a>>
+    requires file { IsName file.now }
+    requires drawing { IsName drawing.now }
+    ensures { Answers (tracing_to file.now drawing.now
+        (format_of (map (λ f. meaning f) formats.now) file.now))
+        (S.sight store.old) (S.sight store.new) result }
+{
+    if file == drawing {
+        return Err(Halt::Unasked);
+    }
+    match format_for(formats, file) {
+        Some(format) => trace_file(alloc, file, drawing, format, store),
+        None => Err(Halt::Unasked),
+    }
 }
 
 fn make_double<'a, S: Store>(

@@ -7,6 +7,7 @@ use design_model::Memory;
 use drawing_text::DrawFault;
 use format_traits::{ReadFault, WriteFault};
 use route_core::Reason;
+use stitch_trace::TraceFault;
 
 /// Why an order was refused, with the name of the file that its line is about. Limits and steps are in
 /// tenths of a millimetre.
@@ -55,6 +56,11 @@ pub enum Refusal<'a> {
     TooLarge {
         x: u32,
         y: u32,
+    },
+    /// The design of a file has no traced drawing; never for want of memory.
+    Untraced {
+        name: &'a str,
+        fault: TraceFault,
     },
 }
 

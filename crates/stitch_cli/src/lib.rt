@@ -25,6 +25,7 @@ mod sampling;
 mod showing;
 mod status;
 mod summary;
+mod tracing;
 mod usage;
 
 pub use changing::ChangeFault;

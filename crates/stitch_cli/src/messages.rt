@@ -4,7 +4,7 @@ ghost use Rattle.stitch_cli.specs.declared.status.Status.TheVariants as status;
 ghost use Rattle.stitch_cli.specs.Endings.{Tells, status_of};
 ghost use Rattle.stitch_cli.specs.Refusals.{refusal_of};
 ghost use Rattle.stitch_cli.specs.UsageText.{usage_text};
-ghost use Rattle.stitch_cli.specs.Texts.{byte_line, change_line, command_line, draw_line, draw_text as draw_text_of, halt_text, large_text, line_about, line_at, long_text, memory_line, place_text, read_line, refusal_line, step_text, unprinted_line, unread_line, unwritten_line, write_line};
+ghost use Rattle.stitch_cli.specs.Texts.{byte_line, change_line, command_line, draw_line, draw_text as draw_text_of, halt_text, large_text, line_about, line_at, long_text, memory_line, place_text, read_line, refusal_line, step_text, trace_line, unprinted_line, unread_line, unwritten_line, write_line};
 
 use crate::changing::ChangeFault;
 use crate::halt::{Halt, Refusal};
@@ -18,6 +18,7 @@ use format_traits::{ReadFault, WriteFault};
 use itoa::Buffer;
 use line_graph::DrawKind;
 use outside_io::Sink;
+use stitch_trace::TraceFault;
 
 /// Tells why words came to no product. It takes no memory.
 pub(crate) fn tell_halt<E: Sink>(err: &mut E, why: Halt<'_>) -> Status
@@ -87,6 +88,7 @@ fn tell_refusal<E: Sink>(err: &mut E, why: Refusal<'_>) -> Status
         Refusal::Uncertified { name, number } => tell_uncertified(err, name, number),
         Refusal::Disproved(why) => tell_reason(err, why),
         Refusal::TooLarge { x, y } => tell_too_large(err, x, y),
+        Refusal::Untraced { name, fault } => tell_trace_fault(err, name, fault),
     }
 }
 
@@ -303,6 +305,20 @@ fn tell_large_digits<E: Sink>(err: &mut E, x: &[u8], y: &[u8]) -> Status
 {
     let pieces: [&[u8]; 5] = [b"stitch: too large by ", x, b" ", y, b"\n"];
     tell(err, &pieces, Status::Refused)
+}
+
+fn tell_trace_fault<E: Sink>(err: &mut E, name: &str, fault: TraceFault) -> Status
+    ensures { Tells (trace_line name.now fault) status.Refused (E.sight err.old)
+        (E.sight err.new) result }
+{
+    match fault {
+        TraceFault::NoLinks => tell_about(err, name, b"nothing is sewn"),
+        TraceFault::LinkTooLong { number } => {
+            tell_command(err, name, number, b"link longer than 2047")
+        }
+        TraceFault::Limit { kind } => tell_about(err, name, draw_text(kind)),
+        TraceFault::Memory => tell(err, &[b"stitch: out of memory\n"], Status::Refused),
+    }
 }
 
 /// Tells of a place in a file that has a number.

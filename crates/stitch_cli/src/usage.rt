@@ -10,6 +10,7 @@ pub const USAGE: &[u8] = b"usage: stitch route DRAWING OUT CERT
        stitch hoop FILE WIDTH HEIGHT
        stitch sample N DRAWING
        stitch migrate DRAWING OUT
+       stitch trace FILE DRAWING
        stitch double DRAWING OUT CERT
 ";
 

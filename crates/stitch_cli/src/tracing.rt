@@ -1,0 +1,131 @@
+ghost use Rattle.std.specs.Prelude.{◌≡◌, ◌≤◌, IfOk, length, string_bytes};
+ghost use Rattle.drawing_text.specs.DrawingText.{IsWhole};
+ghost use Rattle.line_graph.specs.Sections.{segments_of};
+ghost use Rattle.outside_io.specs.Files.{IsName};
+ghost use Rattle.stitch_trace.specs.Traces.{traced};
+ghost use Rattle.stitch_cli.specs.Endings.{Prepares, Settles};
+ghost use Rattle.stitch_cli.specs.OrderNames.{trace_order};
+ghost use Rattle.stitch_cli.specs.Products.{product_of};
+ghost use Rattle.stitch_cli.specs.TraceTexts.{trace_report};
+ghost use Rattle.stitch_cli.specs.Tracings.{IsTraced, segment_count, trace_made, trace_plan, trace_read};
+
+use crate::halt::{Halt, Refusal};
+use crate::product::{Output, Product, one_output};
+use crate::reading::read_input;
+use design_model::{Bytes, Design, Memory, Point};
+use drawing_text::print_drawing2;
+use format_traits::{Format, ReadFault, decode_by};
+use line_graph::Drawing;
+use outside_io::Store;
+use std::alloc::Global;
+use stitch_trace::{TraceFault, trace};
+
+/// The drawing of what a file sews, in the plain spelling of version 2, and what is told of it.
+pub(crate) fn trace_file<'a, S: Store>(
+    alloc: Global,
+    file: &'a str,
+    drawing: &'a str,
+    format: &Box<dyn Format>,
+    store: &mut S,
+) -> Result<Product<'a>, Halt<'a>>
+    requires file { IsName file.now }
+    requires drawing { IsName drawing.now }
+    ensures { Prepares (trace_plan (trace_order file.now drawing.now (meaning format.now)))
+        (S.sight store.old) (S.sight store.new) result }
+{
+    let bytes = read_input(alloc, store, file)?;
+    trace_bytes(alloc, file, drawing, format, bytes.as_slice())
+}
+
+fn trace_bytes<'a>(
+    alloc: Global,
+    file: &'a str,
+    drawing: &'a str,
+    format: &Box<dyn Format>,
+    bytes: &[u8],
+) -> Result<Product<'a>, Halt<'a>>
+    requires { IsName drawing.now }
+    ensures { Settles (trace_read (trace_order file.now drawing.now (meaning format.now))
+        ((meaning format.now).reads bytes.now))
+        result }
+{
+    match decode_by(alloc, format, bytes) {
+        Ok(loaded) => trace_design(alloc, file, drawing, format, &loaded.design),
+        Err(ReadFault::Memory) => Err(Halt::Memory),
+        Err(fault) => Err(Halt::Refused(Refusal::Unread { name: file, fault })),
+    }
+}
+
+fn trace_design<'a>(
+    alloc: Global,
+    file: &'a str,
+    drawing: &'a str,
+    format: &Box<dyn Format>,
+    design: &Design,
+) -> Result<Product<'a>, Halt<'a>>
+    requires { IsName drawing.now }
+    ensures { Settles (trace_made (trace_order file.now drawing.now (meaning format.now))
+        (traced design.now))
+        result }
+{
+    match trace(alloc, design) {
+        Ok(lines) => {
+            let product = traced_product(alloc, drawing, &lines)?;
+            Ok(product)
+        }
+        Err(TraceFault::Memory) => Err(Halt::Memory),
+        Err(fault) => Err(Halt::Refused(Refusal::Untraced { name: file, fault })),
+    }
+}
+
+fn traced_product<'a>(
+    alloc: Global,
+    name: &'a str,
+    drawing: &Drawing,
+) -> Result<Product<'a>, Memory>
+    requires { IsWhole drawing.now }
+    ensures { IfOk result (λ product. IsTraced name.now drawing.now (product_of product)) }
+{
+    let report = report_of(alloc, drawing)?;
+    let content = print_drawing2(alloc, drawing)?;
+    let product = one_output(alloc, Output { name, content }, report)?;
+    Ok(product)
+}
+
+fn report_of(alloc: Global, drawing: &Drawing) -> Result<Bytes, Memory>
+    ensures { IfOk result (λ text. text
+        ≡ trace_report (length drawing.now.threads) (length drawing.now.lines)
+            (segment_count drawing.now)) }
+{
+    let line = report_line(alloc, drawing.block_count(), drawing.line_count(), segments(drawing))?;
+    let mut text = Bytes::new(alloc);
+    text.append(line.as_bytes())?;
+    Ok(text)
+}
+
+fn report_line(alloc: Global, blocks: u32, lines: u32, links: usize) -> Result<String, Memory>
+    ensures { IfOk result (λ text. string_bytes text ≡ trace_report blocks lines links) }
+{
+    let text = format!(in alloc; "blocks {blocks} lines {lines} links {links}\n")?;
+    Ok(text)
+}
+
+/// How many segments the lines of a drawing have.
+fn segments(drawing: &Drawing) -> usize
+    ensures { result ≡ segment_count drawing.now }
+{
+    // The clauses of `step` bring the drawing's limits.
+    let _step = drawing.step();
+    let mut count = 0;
+    for line in drawing.lines() {
+        count += segments_in(line.points());
+    }
+    count
+}
+
+fn segments_in(points: &[Point]) -> usize
+    ensures value { result ≡ length (segments_of points.now) }
+    ensures fewer { result ≤ length points.now }
+{
+    points.len().saturating_sub(1)
+}
