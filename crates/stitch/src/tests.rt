@@ -41,5 +41,6 @@ mod prefixes;
 mod rewrites;
 mod routes;
 mod rows;
+mod traces;
 mod versions;
 mod words;

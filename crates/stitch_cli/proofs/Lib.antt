@@ -20,3 +20,4 @@ mod TextFacts
 mod ReasonFacts
 mod SampleFacts
 mod TraceLemmas
+mod TraceFacts

@@ -8,7 +8,7 @@ use Rattle.design_model.specs.Designs.{DesignValue, empty_design}
 use Rattle.format_traits.specs.Meanings.{Meaning}
 use Rattle.stitch_cli.specs.declared.changing.ChangeFault.TheVariants as reason
 use Rattle.stitch_cli.specs.ChangedDesigns.{shifted_unless, threaded}
-use Rattle.stitch_cli.specs.Orders.{checking, doubling, hooping, migrating, order_of, outputs_of, rewriting, routing, sampling, showing}
+use Rattle.stitch_cli.specs.Orders.{checking, doubling, hooping, migrating, order_of, outputs_of, rewriting, routing, sampling, showing, tracing}
 
 -- a format with another ending
 abbrev ending_as : Meaning → List ℕ → Meaning
@@ -58,6 +58,14 @@ known_migrate m = refl
 
 pub known_migration_onto_itself : (m : Meaning) → order_of (dst_and_exp m) (codes "migrate" ∷ codes "a.rw" ∷ codes "a.rw" ∷ []) ≡ None
 known_migration_onto_itself m = refl
+
+-- a tracing needs a format of the file alone, and two names
+pub known_trace : (m : Meaning) → order_of (dst_and_exp m) (codes "trace" ∷ codes "a.exp" ∷ codes "b" ∷ [])
+    ≡ Some (tracing (record { file = codes "a.exp"; drawing = codes "b"; format = ending_as m (codes "exp") }))
+known_trace m = refl
+
+pub known_tracing_onto_itself : (m : Meaning) → order_of (dst_and_exp m) (codes "trace" ∷ codes "a.exp" ∷ codes "a.exp" ∷ []) ≡ None
+known_tracing_onto_itself m = refl
 
 -- a double run has the conditions of a route, and writes as it does
 pub known_double : (m : Meaning) → order_of (dst_and_exp m) (codes "double" ∷ codes "a" ∷ codes "b.exp" ∷ codes "c" ∷ [])

@@ -7,7 +7,8 @@ use Rattle.format_traits.specs.declared.fault.ReadFault.TheVariants as read
 use Rattle.format_traits.specs.declared.fault.WriteFault.TheVariants as write
 use Rattle.line_graph.specs.declared.draw_kind.DrawKind.TheVariants as kind
 use Rattle.stitch_cli.specs.declared.changing.ChangeFault.TheVariants as reason
-use Rattle.stitch_cli.specs.Refusals.{step_too_long, too_large, too_long, unchanged, undrawn, unread, unwritten}
+use Rattle.stitch_trace.specs.declared.trace_fault.TraceFault.TheVariants as trace
+use Rattle.stitch_cli.specs.Refusals.{step_too_long, too_large, too_long, unchanged, undrawn, unread, untraced, unwritten}
 use Rattle.stitch_cli.specs.Texts.{draw_text, memory_line, refusal_line, unprinted_line, unread_line, unwritten_line}
 
 -- what the outside did not do
@@ -22,6 +23,19 @@ known_unprinted = refl
 
 pub known_memory : memory_line ≡ codes "stitch: out of memory" ++ line_end
 known_memory = refl
+
+-- a design that has no traced drawing
+pub known_untraced : refusal_line (untraced (codes "a") trace.NoLinks) ≡ codes "stitch: a: nothing is sewn" ++ line_end
+known_untraced = refl
+
+pub known_long_link : refusal_line (untraced (codes "a") (trace.LinkTooLong 12))
+    ≡ codes "stitch: a: command 12: link longer than 2047" ++ line_end
+unfolding digits
+known_long_link = refl
+
+pub known_many_chains : refusal_line (untraced (codes "a") (trace.Limit kind.TooManyLines))
+    ≡ codes "stitch: a: more than 1024 lines" ++ line_end
+known_many_chains = refl
 
 -- an input that is too long
 pub known_too_long : refusal_line (too_long (codes "a")) ≡ codes "stitch: a: longer than 67108864 bytes" ++ line_end

@@ -3,3 +3,5 @@ pub mod MoveLemmas
 pub mod StrandLemmas
 pub mod MeasureLemmas
 pub mod LabelLemmas
+pub mod LinkedLemmas
+pub mod DrawnLemmas

@@ -9,7 +9,7 @@ use Rattle.design_model.specs.declared.point.Point.{Point}
 use Rattle.stitch_trace.specs.declared.links.Link.{Link}
 use Rattle.stitch_trace.specs.declared.needle_moves.Move.{Move}
 use Rattle.stitch_trace.specs.declared.needle_moves.Move.TheVariants.{Stay, Gap, Sewn}
-use Rattle.stitch_trace.specs.Chains.{chains_of, has_links, is_gap, is_sewn, new_moves, points_through, runs}
+use Rattle.stitch_trace.specs.Chains.{chains_of, has_links, is_gap, is_sewn, new_moves, new_moves_of, points_through}
 use Rattle.stitch_trace.specs.Links.{has_ends, is_same_link, links_in, moves_along, turned}
 use Rattle.stitch_trace.specs.Tracing.{chain_begun, chains_by, led_through, new_by}
 
@@ -51,10 +51,10 @@ abbrev with_run : List Link → List (List Link) → List (List Link)
 with_run run [] = run ∷ []
 with_run run (first ∷ rest) = (run ++ first) ∷ rest
 
-abbrev parts_of : List Move → List (List Link)
+abbrev pub parts_of : List Move → List (List Link)
 parts_of moves = map links_in (slice_split is_gap moves)
 
-abbrev chains_through : List (List Link) → List (List Point)
+abbrev pub chains_through : List (List Link) → List (List Point)
 chains_through parts = map points_through (filter has_links parts)
 
 stay_parts : (run : List Link) (parts : List (List Move))
@@ -104,12 +104,16 @@ runs_begun : (parts : List (List Link)) → chains_through (with_run [] parts) �
 runs_begun [] = refl
 runs_begun (first ∷ others) = refl
 
--- so are those of a block, where nothing was sewn before
+-- so are those of a block
+pub chains_are : (acts : List NumberedAct) → chains_by [] (new_moves_of acts) ≡ chains_of acts
+chains_are acts = chains_by_runs [] (new_moves_of acts) ∙ runs_begun (parts_of (new_moves_of acts))
+
+-- where nothing was sewn before
 pub chains_begin : (was : Link → Bool) (acts : List NumberedAct) → ((l : Link) → was l ≡ false)
     → chains_by [] (new_by was (moves_along acts)) ≡ chains_of acts
 chains_begin was acts none =
     ap (chains_by []) (new_by_same was (is_sewn []) none (moves_along acts) ∙ new_by_before [] (moves_along acts))
-    ∙ (chains_by_runs [] (new_moves [] (moves_along acts)) ∙ runs_begun (parts_of (new_moves [] (moves_along acts))))
+    ∙ chains_are acts
 
 -- and of a block whose first act comes
 pub begun_so : (acts : List NumberedAct) {S : Type 0} (sewn : HashSet Link S) (chain : List Point) (chains : List (List Point))

@@ -2,5 +2,7 @@
 pub mod Links
 pub mod Chains
 pub mod Traces
+-- what traced drawings have
+pub mod Laws
 -- of the inside
 pub mod Tracing

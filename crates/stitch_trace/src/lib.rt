@@ -4,6 +4,7 @@
 
 mod chains;
 mod drawing_of_strands;
+mod laws;
 mod links;
 mod needle_moves;
 mod new_links;
@@ -13,6 +14,7 @@ mod tests;
 mod trace_fault;
 mod traced_drawing;
 
+pub use laws::links_are_drawn;
 pub use links::Link;
 pub use needle_moves::Move;
 pub use strands::{Chains, Strand};

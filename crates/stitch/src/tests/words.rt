@@ -10,6 +10,7 @@ const USAGE: &str = "usage: stitch route DRAWING OUT CERT
        stitch hoop FILE WIDTH HEIGHT
        stitch sample N DRAWING
        stitch migrate DRAWING OUT
+       stitch trace FILE DRAWING
        stitch double DRAWING OUT CERT
 ";
 
@@ -48,6 +49,8 @@ const UNASKED: &[Row] = &[Row {
         unasked!(&["sample", "0", "a.rw"]),
         unasked!(&["migrate", "a.rw", "a.rw"]),
         unasked!(&["migrate", "a.rw"]),
+        unasked!(&["trace", "a.rw", "b.rw"]),
+        unasked!(&["trace", "a.dst", "a.dst"]),
         unasked!(&["double", "a.rw", "b.dst", "b.dst"]),
         unasked!(&["double", "a.rw", "b.jef", "c"]),
     ],

@@ -1,4 +1,4 @@
-use Rattle.std.proofs.Common.{ap, sym}
+use Rattle.std.proofs.Common.{sym}
 use Rattle.stitch_cli.proofs.commands.make.Goals as goal
 
 pub returns-in-Some-Sample : goal.returns-in-Some-Sample

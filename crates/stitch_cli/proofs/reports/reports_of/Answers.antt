@@ -1,5 +1,3 @@
-use Rattle.std.proofs.Common.{arith, ap, length, subst, All}
-use Rattle.std.proofs.lemmas.List.Elements.{All-tail}
 use Rattle.stitch_cli.proofs.ReportLemmas.{blocks_behind, fewer_left, reports_on}
 use Rattle.stitch_cli.proofs.reports.reports_of.Goals as goal
 

@@ -1,4 +1,4 @@
-use Rattle.std.proofs.Common.{◌≡◌, ◌+◌, ◌<◌, ◌≤◌, length, All}
+use Rattle.std.proofs.Common.{◌+◌, ◌<◌, ◌≤◌, length, All}
 use Rattle.line_graph.specs.declared.limits.TheConstants.{MAX_BLOCKS, MAX_LINES}
 use Rattle.stitch_cli.specs.RouteSteps.{reports_from}
 use Rattle.stitch_cli.proofs.ReportLemmas.{ReportsOn}

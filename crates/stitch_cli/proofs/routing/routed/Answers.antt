@@ -1,4 +1,3 @@
-use Rattle.std.proofs.Common.{subst, sym, ◌∙◌}
 use Rattle.stitch_cli.proofs.ReportLemmas.{blocks_few}
 use Rattle.stitch_cli.proofs.RouteLemmas.{penetrations_few, pieces_few, route_makes, routed_plain}
 use Rattle.stitch_cli.proofs.routing.routed.Goals as goal

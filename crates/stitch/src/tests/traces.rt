@@ -1,0 +1,112 @@
+use super::rows::{Holds, Row, Step, play};
+use std::test::Fail;
+use stitch_cli::Status;
+
+const TO_DST: &[&str] = &["route", "a.rw", "b.dst", "b.cert"];
+
+const OF_DST: &[&str] = &["trace", "b.dst", "s.rw"];
+
+const OF_EXP: &[&str] = &["trace", "a.exp", "s.rw"];
+
+/// What files sew, drawn.
+const TRACED: &[Row] = &[
+    // A closed line, of which each link is new.
+    Row {
+        before: &[(
+            "a.rw",
+            Holds::Bytes(b"redwork 1\nstep 30\ncolor 5\nline 0 0 30 0 30 30 0 30 0 0\n"),
+        )],
+        steps: &[
+            done!(
+                TO_DST,
+                "block 1 piece 1 lines 1 cost 4 retraced 0 penetrations 5\npieces 1 penetrations 5\n",
+                &[],
+            ),
+            done!(
+                OF_DST,
+                "blocks 1 lines 1 links 4\n",
+                &[(
+                    "s.rw",
+                    Holds::Bytes(b"redwork 2\nstep 30\ncolor 1\nline 0 0 30 0 30 30 0 30 0 0\n"),
+                )],
+            ),
+        ],
+    },
+    // A line there and back, of which each link is new once.
+    Row {
+        before: &[(
+            "a.rw",
+            Holds::Bytes(b"redwork 1\nstep 10\ncolor 1\nline 0 0 40 0\n"),
+        )],
+        steps: &[
+            done!(
+                TO_DST,
+                "block 1 piece 1 lines 1 cost 4 retraced 4 penetrations 9\npieces 1 penetrations 9\n",
+                &[],
+            ),
+            done!(
+                OF_DST,
+                "blocks 1 lines 1 links 4\n",
+                &[(
+                    "s.rw",
+                    Holds::Bytes(b"redwork 2\nstep 10\ncolor 1\nline 0 0 10 0 20 0 30 0 40 0\n"),
+                )],
+            ),
+        ],
+    },
+    // A line that comes back to a point inside it, and a second block.
+    Row {
+        before: &[(
+            "a.exp",
+            Holds::Bytes(&[
+                0x00, 0x00, 0x0A, 0x00, 0x0A, 0x00, 0x0A, 0x0A, 0xEC, 0xF6, 0x80, 0x01, 0x00, 0x00,
+                0x07, 0x00, 0x00, 0xF9,
+            ]),
+        )],
+        steps: &[done!(
+            OF_EXP,
+            "blocks 2 lines 3 links 5\n",
+            &[(
+                "s.rw",
+                Holds::Bytes(
+                    b"redwork 2\nstep 20\ncolor 1\nline 0 0 10 0\nline 10 0 20 0 30 -10 10 0\ncolor 2\nline 17 0 17 7\n",
+                ),
+            )],
+        )],
+    },
+    // Nothing is sewn.
+    Row {
+        before: &[("a.exp", Holds::Bytes(&[0x00, 0x00]))],
+        steps: &[
+            refused!(OF_EXP, "stitch: a.exp: nothing is sewn\n"),
+            Step {
+                words: OF_DST,
+                status: Status::Fault,
+                out: "",
+                err: "stitch: cannot read b.dst\n",
+                after: &[],
+            },
+        ],
+    },
+    // A link is longer than a step may be.
+    Row {
+        before: &[(
+            "a.pec",
+            Holds::Behind(
+                b"#PEC0001",
+                536,
+                1,
+                &[0x00, 0x00, 0x88, 0x00, 0x00, 0xFF],
+            ),
+        )],
+        steps: &[refused!(
+            &["trace", "a.pec", "s.rw"],
+            "stitch: a.pec: command 2: link longer than 2047\n",
+        )],
+    },
+];
+
+#[test]
+fn what_a_file_sews_is_drawn(rt: HostRuntime) -> Result<(), Fail> {
+    play(&rt, rt.alloc(), TRACED)
+}

@@ -1,0 +1,50 @@
+-- What a traced drawing has: in each block the new links of a block of the design, each once. Blocks
+-- count from 0.
+use Rattle.std.specs.Prelude.{◌≡◌, ℕ, ◌+◌, List, [], ◌∷◌, ◌++◌, map, Ok, if◌then◌else◌}
+use Rattle.std.specs.List.{flat_map}
+use Rattle.design_model.specs.declared.act.NumberedAct.{NumberedAct}
+use Rattle.design_model.specs.declared.point.Point.{Point}
+use Rattle.design_model.specs.Acts.{acts_of}
+use Rattle.design_model.specs.Blocks.{blocks_of}
+use Rattle.design_model.specs.Designs.{DesignValue}
+use Rattle.line_graph.specs.Drawings.{DrawingValue, LineValue}
+use Rattle.line_graph.specs.Sections.{segments_of}
+use Rattle.stitch_trace.specs.declared.links.Link.{Link}
+use Rattle.stitch_trace.specs.Chains.{has_links, new_links_of}
+use Rattle.stitch_trace.specs.Traces.{traced}
+
+-- a link in a block
+pub record BlockLink : Type 0 where
+  pub block : ℕ
+  pub link : Link
+
+-- links in one block
+abbrev pub in_block : ℕ → List Link → List BlockLink
+in_block block links = map (λ link. record { block = block; link = link }) links
+
+-- the link between the two ends of a segment
+abbrev pub link_between : Point × Point → Link
+link_between ends = record { from = ends.0; to = ends.1 }
+
+-- the links along the segments through these points
+abbrev pub links_along : List Point → List Link
+links_along points = map link_between (segments_of points)
+
+-- the links along the segments of lines, each in its line's block
+abbrev pub drawn_links : List LineValue → List BlockLink
+drawn_links lines = flat_map (λ line. in_block line.block (links_along line.points)) lines
+
+-- how many blocks of a drawing a block with these links has
+abbrev pub block_for : List Link → ℕ
+block_for links = if has_links links then 1 else 0
+
+-- the new links of blocks, of which the first that has any comes to the block with that index
+abbrev pub sewn_links : ℕ → List (List NumberedAct) → List BlockLink
+sewn_links block [] = []
+sewn_links block (acts ∷ later) =
+    in_block block (new_links_of acts) ++ sewn_links (block + block_for (new_links_of acts)) later
+
+-- the segments of a traced drawing are the new links of the design, block by block, each once
+abbrev pub LinksAreDrawn : Type 0
+LinksAreDrawn = (d : DesignValue) (drawing : DrawingValue) → traced d ≡ Ok drawing
+    → drawn_links drawing.lines ≡ sewn_links 0 (blocks_of (acts_of d))
