@@ -1,5 +1,5 @@
 # make install PREFIX=/usr/local: the one built file, which runs alone, its manual page and completions.
-VERSION = 0.2.0
+VERSION = 0.3.0
 PREFIX ?= /usr/local
 BIN = $(DESTDIR)$(PREFIX)/bin
 SHARE = $(DESTDIR)$(PREFIX)/share

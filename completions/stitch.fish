@@ -7,6 +7,7 @@ complete -c stitch -n __fish_use_subcommand -f -a edit -d 'shift, turn, mirror, 
 complete -c stitch -n __fish_use_subcommand -f -a hoop -d 'say whether a design fits a hoop'
 complete -c stitch -n __fish_use_subcommand -f -a sample -d 'write the sample drawing of a number'
 complete -c stitch -n __fish_use_subcommand -f -a migrate -d 'write a drawing as version 2'
+complete -c stitch -n __fish_use_subcommand -f -a trace -d 'draw what a file sews'
 complete -c stitch -n __fish_use_subcommand -f -a double -d 'sew each line of a drawing once in each direction'
 complete -c stitch -n '__fish_seen_subcommand_from convert' -a '--split' -d 'sew a stitch that is too long as several'
 complete -c stitch -n '__fish_seen_subcommand_from convert' -a '--cut' -d 'cut a float that is too long'
