@@ -1,5 +1,5 @@
 -- Where no count of faults rises, the words and the files decide.
-use Rattle.std.proofs.Common.{◌≡◌, ℕ, Bool, true, false, ◌≤◌, ◌⊎◌, inl, inr, List, Option, Some, None, Ok, Err, Result, IsSome, length, ap, refl, subst, sym, ◌∙◌, arith}
+use Rattle.std.proofs.Common.{◌≡◌, ℕ, Bool, true, false, ◌≤◌, inl, inr, List, Option, Some, None, Ok, Err, Result, IsSome, length, ap, refl, subst, sym, ◌∙◌, arith}
 use Rattle.std.specs.Prelude.{nat_lt}
 use Rattle.cut_certificate.specs.declared.certificate.PieceCert.{PieceCert}
 use Rattle.certificate_text.specs.ReadCertificates.{cert_of}

@@ -1,5 +1,5 @@
 -- Segments of lines, counted.
-use Rattle.std.proofs.Common.{◌≡◌, ◌+◌, ◌-◌, List, [], ◌∷◌, length, refl, arith}
+use Rattle.std.proofs.Common.{◌≡◌, ◌-◌, List, [], ◌∷◌, length, refl, arith}
 use Rattle.design_model.specs.declared.point.Point.{Point}
 use Rattle.line_graph.specs.Sections.{segments_from, segments_of}
 

@@ -5,3 +5,5 @@ pub mod MeasureLemmas
 pub mod LabelLemmas
 pub mod LinkedLemmas
 pub mod DrawnLemmas
+pub mod DistinctLemmas
+pub mod FitLemmas

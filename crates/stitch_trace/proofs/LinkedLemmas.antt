@@ -30,12 +30,12 @@ same_is p q found =
     ap₂ (λ x y. record { x = x; y = y }) ((Decides-int_eq p.x q.x).0 both.0) ((Decides-int_eq p.y q.y).0 both.1)
 
 -- a link goes on from a point, if there is one
-abbrev Follows : Option Point → Link → Type 0
+abbrev pub Follows : Option Point → Link → Type 0
 Follows None link = Unit {0}
 Follows (Some p) link = link.from ≡ p
 
 -- each link goes on from the one before, with no gap between
-abbrev Linked : Option Point → List Move → Type 0
+abbrev pub Linked : Option Point → List Move → Type 0
 Linked before [] = Unit {0}
 Linked before (Stay ∷ rest) = Linked before rest
 Linked before (Gap ∷ rest) = Linked None rest
@@ -60,14 +60,14 @@ after_act p number act.Trim later linked = linked
 after_act p number act.Stop later linked = linked
 after_act p number (act.Needle q float) later linked = after_needle p q number later linked (is_same_point p q) refl float
 
-moves_linked : (before : Option Point) (acts : List NumberedAct) → Linked before (moves_from before acts)
+pub moves_linked : (before : Option Point) (acts : List NumberedAct) → Linked before (moves_from before acts)
 moves_linked before [] = tt
 moves_linked None (a ∷ rest) =
     freed (needle_point a) (moves_from (needle_point a) rest) (moves_linked (needle_point a) rest)
 moves_linked (Some p) (a ∷ rest) =
     after_act p a.number a.act (moves_from (needle_point a) rest) (moves_linked (needle_point a) rest)
 
-new_linked : (before : List Link) (place : Option Point) (moves : List Move) → Linked place moves → Linked place (new_moves before moves)
+pub new_linked : (before : List Link) (place : Option Point) (moves : List Move) → Linked place moves → Linked place (new_moves before moves)
 new_linked before place [] linked = tt
 new_linked before place (Stay ∷ rest) linked = new_linked before place rest linked
 new_linked before place (Gap ∷ rest) linked = new_linked before None rest linked
@@ -89,7 +89,7 @@ led_last : (p : Point) (rest : List Point) (q : Point) → last_from p (rest ++ 
 led_last p [] q = refl
 led_last p (r ∷ rest) q = led_last r rest q
 
-some_same : (p q : Point) → Some p ≡ Some q → p ≡ q
+pub some_same : (p q : Point) → Some p ≡ Some q → p ≡ q
 some_same p q is = cc
 
 led_links : (begun : List Point) (place : Option Point) (link : Link) → last_of begun ≡ place → Follows place link
@@ -101,7 +101,7 @@ led_links (p ∷ rest) (Some q) link ends follows =
     ∙ ap (λ (from : Point). map link_between (segments_from p rest) ++ record { from = from; to = link.to } ∷ [])
     (some_same (last_from p rest) q ends ∙ sym follows)
 
-led_ends : (begun : List Point) (link : Link) → last_of (led_through begun link) ≡ Some link.to
+pub led_ends : (begun : List Point) (link : Link) → last_of (led_through begun link) ≡ Some link.to
 led_ends [] link = refl
 led_ends (p ∷ rest) link = ap Some (led_last p rest link.to)
 

@@ -39,10 +39,10 @@ size_apart p q differ =
     omega (arith, not_none)
 
 -- the greatest size, from one on
-abbrev greatest : ℕ → List Link → ℕ
+abbrev pub greatest : ℕ → List Link → ℕ
 greatest longest links = fold max longest (map link_size links)
 
-greatest_more : (longest : ℕ) (links : List Link) → longest ≤ greatest longest links
+pub greatest_more : (longest : ℕ) (links : List Link) → longest ≤ greatest longest links
 greatest_more longest [] = omega arith
 greatest_more longest (link ∷ rest) =
     omega (arith, le-max_left longest (link_size link), greatest_more (max longest (link_size link)) rest)

@@ -1,7 +1,7 @@
 -- What a traced drawing has: in each block the new links of a block of the design, each once. Blocks
 -- count from 0.
-use Rattle.std.specs.Prelude.{◌≡◌, ℕ, ◌+◌, List, [], ◌∷◌, ◌++◌, map, Ok, if◌then◌else◌}
-use Rattle.std.specs.List.{flat_map}
+use Rattle.std.specs.Prelude.{◌≡◌, ℕ, ◌+◌, Bool, true, not, ◌&&◌, List, [], ◌∷◌, ◌++◌, map, Ok, if◌then◌else◌}
+use Rattle.std.specs.List.{flat_map, list_all, list_any}
 use Rattle.design_model.specs.declared.act.NumberedAct.{NumberedAct}
 use Rattle.design_model.specs.declared.point.Point.{Point}
 use Rattle.design_model.specs.Acts.{acts_of}
@@ -10,7 +10,8 @@ use Rattle.design_model.specs.Designs.{DesignValue}
 use Rattle.line_graph.specs.Drawings.{DrawingValue, LineValue}
 use Rattle.line_graph.specs.Sections.{segments_of}
 use Rattle.stitch_trace.specs.declared.links.Link.{Link}
-use Rattle.stitch_trace.specs.Chains.{has_links, new_links_of}
+use Rattle.stitch_trace.specs.Chains.{has_links, is_sewn, new_links_of}
+use Rattle.stitch_trace.specs.Links.{is_same_link, links_in, moves_along}
 use Rattle.stitch_trace.specs.Traces.{traced}
 
 -- a link in a block
@@ -48,3 +49,17 @@ sewn_links block (acts ∷ later) =
 abbrev pub LinksAreDrawn : Type 0
 LinksAreDrawn = (d : DesignValue) (drawing : DrawingValue) → traced d ≡ Ok drawing
     → drawn_links drawing.lines ≡ sewn_links 0 (blocks_of (acts_of d))
+
+-- no two of the links are the same
+abbrev pub are_distinct : List Link → Bool
+are_distinct [] = true
+are_distinct (link ∷ rest) = not (list_any (is_same_link link) rest) && are_distinct rest
+
+-- the new links of a block are its distinct links: no two are the same, and each link is the same as
+-- one of them
+pub record AreDistinctLinks (acts : List NumberedAct) : Type 0 where
+  pub distinct : are_distinct (new_links_of acts) ≡ true
+  pub all : list_all (is_sewn (new_links_of acts)) (links_in (moves_along acts)) ≡ true
+
+abbrev pub NewLinksAreDistinct : Type 0
+NewLinksAreDistinct = (acts : List NumberedAct) → AreDistinctLinks acts

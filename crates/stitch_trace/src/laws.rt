@@ -1,4 +1,4 @@
-ghost use Rattle.stitch_trace.specs.Laws.{LinksAreDrawn};
+ghost use Rattle.stitch_trace.specs.Laws.{LinksAreDrawn, NewLinksAreDistinct};
 
 use line_graph::sections_keep_segments;
 
@@ -8,3 +8,8 @@ pub fn links_are_drawn()
 {
     sections_keep_segments();
 }
+
+/// The new links of a block are its distinct links.
+pub fn new_links_are_distinct()
+    ensures { NewLinksAreDistinct }
+{}
