@@ -264,7 +264,8 @@ module _ (version : Version) (d : DrawingValue) (keeps : KeepsDrawing d) (unende
       ap (λ (all : List ℕ). drawn_after version number (draft_of named opened (so_far d before block)) (words_by_line all)) text
       ∙ (line_judged version number (draft_of named opened (so_far d before block)) (draft_of named number one) (codes "color")
       (decimal thread ∷ []) (flat_map line_text (lines_in block d.lines) ++ behind) is_color
-      (decimal_word thread (omega (arith, fits)), tt) (color_says version number opened named (so_far d before block) thread fits filled room)
+      (decimal_word thread (omega (arith, fits)), tt) (color_says version number opened named
+          (so_far d before block) thread fits filled room)
       ∙ inside (number + 1) number named)
 
   -- the step, and then the blocks

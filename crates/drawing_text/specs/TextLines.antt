@@ -94,8 +94,8 @@ lined draft words =
     else and_then (points_in words) (λ points.
     and_then (line_added draft.drawing points) (λ drawing. Ok (record draft { drawing = drawing })))
 
--- what the line of that number says that has the word "start", or "end", and these: it speaks of the
--- last block
+-- what the line of that number says that has the word "start", or "end", and these: it speaks of
+-- the last block
 abbrev pub ended : ℕ → Bool → Draft → List (List ℕ) → Result Draft DrawKind
 ended number is_start draft words =
     if is_before_blocks draft then Err kind.NoBlock

@@ -15,8 +15,8 @@ pub record LineValue : Type 0 where
   pub block : ℕ
   pub points : List Point
 
--- a label, the longest step, the thread number of each block, the lines, and where walks over pieces
--- are to begin and to end
+-- a label, the longest step, the thread number of each block, the lines, and where walks over
+-- pieces are to begin and to end
 pub record DrawingValue : Type 0 where
   pub label : List ℕ
   pub step : ℕ

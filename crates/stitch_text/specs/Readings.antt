@@ -1,5 +1,6 @@
 -- What a text reads as. Its lines are judged in order, each by those before it, and the first one
--- that doesn't fit is told by its offset. `at` is the offset of what is left, parted at the bytes 10.
+-- that doesn't fit is told by its offset. `at` is the offset of what is left, parted at the bytes
+-- 10.
 use Rattle.std.specs.Prelude.{ℕ, ◌+◌, Bool, true, false, List, [], ◌∷◌, ◌++◌, Option, Some, None, Result, Ok, Err, bytes_eq, length, if◌then◌else◌}
 use Rattle.design_model.specs.declared.act.Act.{Act}
 use Rattle.design_model.specs.declared.act.Act.TheVariants as act

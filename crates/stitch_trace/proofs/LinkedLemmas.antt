@@ -67,7 +67,8 @@ moves_linked None (a ∷ rest) =
 moves_linked (Some p) (a ∷ rest) =
     after_act p a.number a.act (moves_from (needle_point a) rest) (moves_linked (needle_point a) rest)
 
-pub new_linked : (before : List Link) (place : Option Point) (moves : List Move) → Linked place moves → Linked place (new_moves before moves)
+pub new_linked : (before : List Link) (place : Option Point) (moves : List Move) → Linked place moves → Linked place
+    (new_moves before moves)
 new_linked before place [] linked = tt
 new_linked before place (Stay ∷ rest) linked = new_linked before place rest linked
 new_linked before place (Gap ∷ rest) linked = new_linked before None rest linked

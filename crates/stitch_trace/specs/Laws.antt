@@ -1,5 +1,5 @@
--- What a traced drawing has: in each block the new links of a block of the design, each once. Blocks
--- count from 0.
+-- What a traced drawing has: in each block the new links of a block of the design, each once.
+-- Blocks count from 0.
 use Rattle.std.specs.Prelude.{◌≡◌, ℕ, ◌+◌, Bool, true, not, ◌&&◌, List, [], ◌∷◌, ◌++◌, map, Ok, if◌then◌else◌}
 use Rattle.std.specs.List.{flat_map, list_all, list_any}
 use Rattle.design_model.specs.declared.act.NumberedAct.{NumberedAct}
@@ -55,8 +55,8 @@ abbrev pub are_distinct : List Link → Bool
 are_distinct [] = true
 are_distinct (link ∷ rest) = not (list_any (is_same_link link) rest) && are_distinct rest
 
--- the new links of a block are its distinct links: no two are the same, and each link is the same as
--- one of them
+-- the new links of a block are its distinct links: no two are the same, and each link is the same
+-- as one of them
 pub record AreDistinctLinks (acts : List NumberedAct) : Type 0 where
   pub distinct : are_distinct (new_links_of acts) ≡ true
   pub all : list_all (is_sewn (new_links_of acts)) (links_in (moves_along acts)) ≡ true

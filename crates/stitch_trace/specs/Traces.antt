@@ -43,7 +43,8 @@ is_space byte = byte == 32
 abbrev pub first_word : List ℕ → List ℕ
 first_word label = before_first is_space label
 
--- the drawing with chains as further lines of its last block, or the first thing that it may not have
+-- the drawing with chains as further lines of its last block, or the first thing that it may not
+-- have
 abbrev pub chains_added : DrawingValue → List (List Point) → Result DrawingValue DrawKind
 chains_added d [] = Ok d
 chains_added d (chain ∷ rest) = and_then (line_added d chain) (λ more. chains_added more rest)
@@ -59,8 +60,8 @@ strands_added d [] = Ok d
 strands_added d (strand ∷ rest) =
     and_then (strand_added d strand) (λ more. strands_added more rest)
 
--- the joined drawing under the first word of a label, with that step and these strands, or the first
--- thing that it may not have
+-- the joined drawing under the first word of a label, with that step and these strands, or the
+-- first thing that it may not have
 abbrev pub drawing_through : List ℕ → ℕ → List Strand → Result DrawingValue DrawKind
 drawing_through label step strands =
     and_then (and_then (strands_added (drawing_begun (first_word label) step) strands) finished)

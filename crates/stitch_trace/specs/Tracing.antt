@@ -10,8 +10,8 @@ use Rattle.stitch_trace.specs.declared.trace_fault.TraceFault.{TraceFault}
 use Rattle.stitch_trace.specs.declared.trace_fault.TraceFault.TheVariants as fault
 use Rattle.stitch_trace.specs.Links.{is_long, is_same_link, link_size}
 
--- the moves with a gap in the place of each link that isn't new, where a test tells which links were
--- sewn before
+-- the moves with a gap in the place of each link that isn't new, where a test tells which links
+-- were sewn before
 abbrev pub new_by : (Link → Bool) → List Move → List Move
 new_by was [] = []
 new_by was (Stay ∷ rest) = Stay ∷ new_by was rest
