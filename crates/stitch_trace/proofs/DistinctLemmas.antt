@@ -105,26 +105,28 @@ all_known before (Sewn number link ∷ rest) = by_test (is_sewn before link) ref
     from_old : is_sewn before link ≡ true → (m : Link) → known (link ∷ before) new m ≡ true → known before new m ≡ true
     from_old is m found = elim (or_cases (is_sewn (link ∷ before) m) (is_sewn new m) found) [
       | inl early ↦ elim (or_cases (is_same_link link m) (is_sewn before m) early) [
-          | inl here ↦ or_left (is_sewn before m) (is_sewn new m) (sewn_on before link m is here)
-          | inr there ↦ or_left (is_sewn before m) (is_sewn new m) there
-        ]
+        | inl here ↦ or_left (is_sewn before m) (is_sewn new m) (sewn_on before link m is here)
+        | inr there ↦ or_left (is_sewn before m) (is_sewn new m) there
+      ]
       | inr late ↦ or_right (is_sewn before m) (is_sewn new m) late
     ]
 
     from_new : (m : Link) → known (link ∷ before) new m ≡ true → known before (link ∷ new) m ≡ true
     from_new m found = elim (or_cases (is_sewn (link ∷ before) m) (is_sewn new m) found) [
       | inl early ↦ elim (or_cases (is_same_link link m) (is_sewn before m) early) [
-          | inl here ↦ or_right (is_sewn before m) (is_sewn (link ∷ new) m) (or_left (is_same_link link m) (is_sewn new m) here)
-          | inr there ↦ or_left (is_sewn before m) (is_sewn (link ∷ new) m) there
-        ]
+        | inl here ↦ or_right (is_sewn before m) (is_sewn (link ∷ new) m) (or_left (is_same_link link m) (is_sewn new m) here)
+        | inr there ↦ or_left (is_sewn before m) (is_sewn (link ∷ new) m) there
+      ]
       | inr late ↦ or_right (is_sewn before m) (is_sewn (link ∷ new) m) (or_right (is_same_link link m) (is_sewn new m) late)
     ]
 
     by_test : (t : Bool) → is_sewn before link ≡ t → list_all (known (link ∷ before) new) (links_in rest) ≡ true
         → list_all (known before (links_in (cond t Gap (Sewn number link) ∷ new_moves (link ∷ before) rest))) (link ∷ links_in rest) ≡ true
     by_test true is later =
-        rw (or_left (is_sewn before link) (is_sewn new link) is,
-        all_more (known (link ∷ before) new) (known before new) (from_old is) (links_in rest) later) refl
+        rw (
+          or_left (is_sewn before link) (is_sewn new link) is,
+          all_more (known (link ∷ before) new) (known before new) (from_old is) (links_in rest) later,
+        ) refl
     by_test false is later =
         let here : known before (link ∷ new) link ≡ true =
         or_right (is_sewn before link) (is_sewn (link ∷ new) link) (or_left (is_same_link link link) (is_sewn new link)

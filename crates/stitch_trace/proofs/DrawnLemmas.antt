@@ -23,22 +23,22 @@ use Rattle.stitch_trace.specs.Traces.{chains_added, drawing_through, first_word,
 use Rattle.stitch_trace.proofs.LinkedLemmas.{chains_links, chains_where_links, has_chains}
 
 -- what is Ok is one thing, and no Err
-ok_same : {A F : Type 0} (a b : A) → ◌≡◌ {A = Result A F} (Ok a) (Ok b) → a ≡ b
+pub ok_same : {A F : Type 0} (a b : A) → ◌≡◌ {A = Result A F} (Ok a) (Ok b) → a ≡ b
 ok_same a b is = cc
 
 -- what goes on after an answer
-record GoesOn {A B : Type 0} (said : Result A DrawKind) (next : A → Result B DrawKind) (b : B) : Type 0 where
-  mid : A
-  first : said ≡ Ok mid
-  then : next mid ≡ Ok b
+pub record GoesOn {A B : Type 0} (said : Result A DrawKind) (next : A → Result B DrawKind) (b : B) : Type 0 where
+  pub mid : A
+  pub first : said ≡ Ok mid
+  pub then : next mid ≡ Ok b
 
-goes_on : {A B : Type 0} (said : Result A DrawKind) (next : A → Result B DrawKind) (b : B) → and_then said next ≡ Ok b
+pub goes_on : {A B : Type 0} (said : Result A DrawKind) (next : A → Result B DrawKind) (b : B) → and_then said next ≡ Ok b
     → GoesOn said next b
 goes_on (Ok a) next b is = record { mid = a; first = refl; then = is }
 goes_on (Err why) next b is = absurd cc
 
 -- a line more
-line_is : (d e : DrawingValue) (points : List Point) → line_added d points ≡ Ok e → e ≡ with_line d points
+pub line_is : (d e : DrawingValue) (points : List Point) → line_added d points ≡ Ok e → e ≡ with_line d points
 line_is d e points is = by_tests (length d.threads == 0) (not (are_in_range points)) (steps_with d points) is
   where
     by_tests : (none out : Bool) (steps : Result ℕ DrawKind)
@@ -50,7 +50,7 @@ line_is d e points is = by_tests (length d.threads == 0) (not (are_in_range poin
     by_tests false false (Ok steps) is = sym (ok_same (with_line d points) e is)
 
 -- a block more
-block_is : (d e : DrawingValue) (thread : ℕ) → block_added d thread ≡ Ok e → e ≡ with_block d thread
+pub block_is : (d e : DrawingValue) (thread : ℕ) → block_added d thread ≡ Ok e → e ≡ with_block d thread
 block_is d e thread is = by_tests (is_last_empty d) (length d.threads == 255) is
   where
     by_tests : (empty full : Bool) → cond empty (Err kind.EmptyBlock) (cond full (Err kind.TooManyBlocks) (Ok (with_block d thread))) ≡ Ok e

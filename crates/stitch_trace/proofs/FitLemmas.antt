@@ -150,9 +150,10 @@ joined_first : (step : ℕ) (before : Option Point) (a : NumberedAct) (rest : Li
     → FirstSteps step before (in_first a blocks)
 joined_first step before a rest [] are blocks =
     (steps_first step (move_by before a.number a.act) (moves_from (needle_point a) rest) [] are tt, tt)
-joined_first step before a rest (first ∷ later) are blocks =
-    (steps_first step (move_by before a.number a.act) (moves_from (needle_point a) rest) (moves_from (needle_point a) first) are blocks.0,
-    blocks.1)
+joined_first step before a rest (first ∷ later) are blocks = (
+  steps_first step (move_by before a.number a.act) (moves_from (needle_point a) rest) (moves_from (needle_point a) first) are blocks.0,
+  blocks.1,
+)
 
 blocks_are_steps : (step : ℕ) (before : Option Point) (acts : List NumberedAct) → AreSteps step (moves_from before acts)
     → FirstSteps step before (blocks_of acts)
@@ -163,9 +164,11 @@ blocks_are_steps step before (a ∷ rest) are =
   where
     by_test : (t : Bool) → is_stop a ≡ t → FirstSteps step (needle_point a) (blocks_of rest)
         → FirstSteps step before (cond t ([] ∷ blocks_of rest) (in_first a (blocks_of rest)))
-    by_test true stop later =
-        (tt, none_before step (blocks_of rest)
-        (subst (λ (place : Option Point). FirstSteps step place (blocks_of rest)) (no_needle a.act stop) later))
+    by_test true stop later = (
+      tt,
+      none_before step (blocks_of rest)
+          (subst (λ (place : Option Point). FirstSteps step place (blocks_of rest)) (no_needle a.act stop) later),
+    )
     by_test false stop later = joined_first step before a rest (blocks_of rest) are later
 
 pub each_block_steps : (step : ℕ) (acts : List NumberedAct) → AreSteps step (moves_along acts) → BlockSteps step (blocks_of acts)

@@ -7,3 +7,5 @@ pub mod LinkedLemmas
 pub mod DrawnLemmas
 pub mod DistinctLemmas
 pub mod FitLemmas
+pub mod LimitLemmas
+pub mod CountLemmas

@@ -70,7 +70,7 @@ measured_to longest (Sewn number link ∷ rest) = by_test (measured_to (max long
     by_test later false is = rw is (later ∙ on (first_long rest))
 
 -- the first of the links, if there is one, has a size
-abbrev FirstHasSize : List Link → Type 0
+abbrev pub FirstHasSize : List Link → Type 0
 FirstHasSize [] = Unit {0}
 FirstHasSize (link ∷ rest) = 1 ≤ link_size link
 
@@ -87,7 +87,7 @@ after_act p number act.Trim later first = first
 after_act p number act.Stop later first = first
 after_act p number (act.Needle q float) later first = after_link p q number later first (is_same_point p q) refl float
 
-first_has_size : (before : Option Point) (acts : List NumberedAct) → FirstHasSize (links_in (moves_from before acts))
+pub first_has_size : (before : Option Point) (acts : List NumberedAct) → FirstHasSize (links_in (moves_from before acts))
 first_has_size before [] = tt
 first_has_size None (a ∷ rest) = first_has_size (needle_point a) rest
 first_has_size (Some p) (a ∷ rest) =

@@ -1,15 +1,18 @@
 -- What a traced drawing has: in each block the new links of a block of the design, each once.
 -- Blocks count from 0.
-use Rattle.std.specs.Prelude.{◌≡◌, ℕ, ◌+◌, Bool, true, not, ◌&&◌, List, [], ◌∷◌, ◌++◌, map, Ok, if◌then◌else◌}
+use Rattle.std.specs.Prelude.{◌≡◌, ℕ, ◌+◌, Bool, true, not, ◌&&◌, List, [], ◌∷◌, ◌++◌, map, Ok, Err, if◌then◌else◌}
 use Rattle.std.specs.List.{flat_map, list_all, list_any}
 use Rattle.design_model.specs.declared.act.NumberedAct.{NumberedAct}
 use Rattle.design_model.specs.declared.point.Point.{Point}
 use Rattle.design_model.specs.Acts.{acts_of}
 use Rattle.design_model.specs.Blocks.{blocks_of}
-use Rattle.design_model.specs.Designs.{DesignValue}
+use Rattle.design_model.specs.Designs.{DesignValue, KeepsLimits}
+use Rattle.line_graph.specs.declared.draw_kind.DrawKind.{DrawKind}
+use Rattle.line_graph.specs.declared.draw_kind.DrawKind.TheVariants as kind
 use Rattle.line_graph.specs.Drawings.{DrawingValue, LineValue}
 use Rattle.line_graph.specs.Sections.{segments_of}
 use Rattle.stitch_trace.specs.declared.links.Link.{Link}
+use Rattle.stitch_trace.specs.declared.trace_fault.TraceFault.TheVariants as fault
 use Rattle.stitch_trace.specs.Chains.{has_links, is_sewn, new_links_of}
 use Rattle.stitch_trace.specs.Links.{is_same_link, links_in, moves_along}
 use Rattle.stitch_trace.specs.Traces.{traced}
@@ -63,3 +66,15 @@ pub record AreDistinctLinks (acts : List NumberedAct) : Type 0 where
 
 abbrev pub NewLinksAreDistinct : Type 0
 NewLinksAreDistinct = (acts : List NumberedAct) → AreDistinctLinks acts
+
+-- the count of a drawing that may be passed: of its blocks, its lines or its points
+abbrev pub IsCount : DrawKind → Type 0
+IsCount kind.TooManyBlocks = Unit {0}
+IsCount kind.TooManyLines = Unit {0}
+IsCount kind.TooManyPoints = Unit {0}
+IsCount other = ⊥
+
+-- a design has no traced drawing for a limit only where it is one of these
+abbrev pub CountsAreLimits : Type 0
+CountsAreLimits = (d : DesignValue) (why : DrawKind) → KeepsLimits d
+    → traced d ≡ Err (fault.Limit why) → IsCount why

@@ -1,4 +1,4 @@
-ghost use Rattle.stitch_trace.specs.Laws.{LinksAreDrawn, NewLinksAreDistinct};
+ghost use Rattle.stitch_trace.specs.Laws.{CountsAreLimits, LinksAreDrawn, NewLinksAreDistinct};
 
 use line_graph::sections_keep_segments;
 
@@ -12,4 +12,9 @@ pub fn links_are_drawn()
 /// The new links of a block are its distinct links.
 pub fn new_links_are_distinct()
     ensures { NewLinksAreDistinct }
+{}
+
+/// The limits that `trace` tells are those of blocks, lines and points.
+pub fn counts_are_limits()
+    ensures { CountsAreLimits }
 {}

@@ -14,7 +14,7 @@ mod tests;
 mod trace_fault;
 mod traced_drawing;
 
-pub use laws::{links_are_drawn, new_links_are_distinct};
+pub use laws::{counts_are_limits, links_are_drawn, new_links_are_distinct};
 pub use links::Link;
 pub use needle_moves::Move;
 pub use strands::{Chains, Strand};
