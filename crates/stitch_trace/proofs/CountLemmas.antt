@@ -138,7 +138,8 @@ some_strand (strand ∷ rest) t is never = omega arith
 strands_there : (d : DesignValue) → has_links (links_in (moves_along (acts_of d))) ≡ true → 1 ≤ length (strands_of d)
 strands_there d some =
     some_strand (strands_of d) (has_strands (strands_of d)) refl (λ none. both
-    (sym some ∙ (ap has_links (flat_links None (acts_of d) ∙ first_none (blocks_of (acts_of d))) ∙ no_links d 0 (blocks_of (acts_of d)) none)))
+    (sym some ∙ (ap has_links (flat_links None (acts_of d) ∙ first_none (blocks_of (acts_of d))) ∙ no_links d 0 (blocks_of
+        (acts_of d)) none)))
   where
     both : true ≡ false → ⊥
     both is = cc
@@ -191,7 +192,8 @@ through_refused d step why fit some is = by_added (strands_added (begun_with d s
         let there : (length mid.threads == 0) ≡ false = grind (arith, nat_tests, end.some (omega (arith, some))) in
         let whole : finished mid ≡ Ok mid = rw (end.used, there) refl in
         joined_refused mid why (sym (ap (λ (said : Result DrawingValue DrawKind). and_then said joined_drawing) whole) ∙ is)
-    by_added (Err other) added is = counted other why (strands_refused step (begun_with d step) (strands_of d) other (begun_unused d step) (begun_ready d step) fit added) is
+    by_added (Err other) added is = counted other why (strands_refused step (begun_with d step) (strands_of d) other
+        (begun_unused d step) (begun_ready d step) fit added) is
 
 pub counts_limit : CountsAreLimits
 counts_limit d why keeps is = by_step (step_by (moves_along (acts_of d))) refl is
