@@ -1,0 +1,80 @@
+ghost use Rattle.std.specs.Prelude.{◌≡◌, ◌++◌, OnOk};
+ghost use Rattle.design_picture.specs.Captions.{caption, caption_at, counted_line, line_start, size_line, size_text};
+
+use crate::numbers::{put_mm, put_number, put_signed};
+use crate::sheet::corners_in;
+use design_model::{Bytes, Counts, Extent, Memory, Point, height, width};
+
+/// Adds the counts and the size of a design, below it.
+pub(crate) fn put_caption(
+    text: &mut Bytes,
+    counts: Counts,
+    extent: Option<Extent>,
+) -> Result<(), Memory>
+    ensures { OnOk result (text.new ≡ text.old ++ caption counts extent) }
+{
+    let at = caption_place(corners_in(extent));
+    put_counted(text, at, b"80", b"needles ", counts.needles)?;
+    put_counted(text, at, b"105", b"trims ", counts.trims)?;
+    put_counted(text, at, b"130", b"stops ", counts.stops)?;
+    put_size_line(text, at, extent)?;
+    Ok(())
+}
+
+/// The lower left corner.
+fn caption_place(extent: Extent) -> Point
+    ensures { result ≡ caption_at extent }
+{
+    Point {
+        x: extent.min.x,
+        y: extent.max.y,
+    }
+}
+
+/// A line with a word and a count, so far below the corner.
+fn put_counted(
+    text: &mut Bytes,
+    at: Point,
+    below: &[u8],
+    word: &[u8],
+    count: u32,
+) -> Result<(), Memory>
+    ensures { OnOk result (text.new ≡ text.old ++ counted_line at below.now word.now count) }
+{
+    put_start(text, at, below)?;
+    text.append(word)?;
+    put_number(text, count as u64)?;
+    text.append(b"</text>\n")?;
+    Ok(())
+}
+
+fn put_size_line(text: &mut Bytes, at: Point, extent: Option<Extent>) -> Result<(), Memory>
+    ensures { OnOk result (text.new ≡ text.old ++ size_line at extent) }
+{
+    put_start(text, at, b"155")?;
+    put_size(text, extent)?;
+    text.append(b" mm</text>\n")?;
+    Ok(())
+}
+
+fn put_size(text: &mut Bytes, extent: Option<Extent>) -> Result<(), Memory>
+    ensures { OnOk result (text.new ≡ text.old ++ size_text extent) }
+{
+    put_mm(text, width(extent) as u64)?;
+    text.append(b" x ")?;
+    put_mm(text, height(extent) as u64)?;
+    Ok(())
+}
+
+fn put_start(text: &mut Bytes, at: Point, below: &[u8]) -> Result<(), Memory>
+    ensures { OnOk result (text.new ≡ text.old ++ line_start at below.now) }
+{
+    text.append(b"<text x='")?;
+    put_signed(text, at.x)?;
+    text.append(b"' y='")?;
+    put_signed(text, at.y)?;
+    text.append(b"' dy='")?;
+    text.append(below)?;
+    text.append(b"'>")?;
+    Ok(())
+}

@@ -1,0 +1,142 @@
+ghost use Rattle.std.specs.Prelude.{◌≡◌, ◌+◌, ◌<◌, ◌^◌, ◌++◌, IfOk, OnOk};
+ghost use Rattle.design_model.specs.Acts.{acts_of};
+ghost use Rattle.design_picture.specs.declared.pen.Line.TheVariants.{Open};
+ghost use Rattle.design_picture.specs.Pictures.{act_text, begun, cut_text, end_text, lines, needle_text, unbegun};
+ghost use Rattle.design_picture.specs.Shapes.{stop_mark, trim_mark};
+ghost use Rattle.design_picture.specs.Sheets.{picture_of, top};
+
+use crate::caption::put_caption;
+use crate::numbers::put_point;
+use crate::pen::{Line, Pen};
+use crate::shapes::{put_closing, put_opening, put_stop_mark, put_travel, put_trim_mark};
+use crate::sheet::put_head;
+use design_model::{Act, ActWalk, Bytes, Counts, Design, Extent, Memory, Point, counts, extent};
+use std::alloc::Global;
+
+/// The picture of a design, an SVG text. A unit is a tenth of a millimetre.
+///
+/// See <https://www.w3.org/TR/SVG11/>.
+pub fn picture(alloc: Global, design: &Design) -> Result<Bytes, Memory>
+    ensures { IfOk result (λ text. text ≡ picture_of design.now) }
+{
+    let mut text = Bytes::new(alloc);
+    put_top(&mut text, counts(design), extent(design))?;
+    put_lines(&mut text, design)?;
+    Ok(text)
+}
+
+/// Adds what stands before the acts.
+fn put_top(text: &mut Bytes, counts: Counts, extent: Option<Extent>) -> Result<(), Memory>
+    ensures { OnOk result (text.new ≡ text.old ++ top counts extent) }
+{
+    put_head(text, extent)?;
+    put_caption(text, counts, extent)?;
+    Ok(())
+}
+
+/// Adds what shows the acts, and the end.
+fn put_lines(text: &mut Bytes, design: &Design) -> Result<(), Memory>
+    ensures { OnOk result (text.new ≡ text.old ++ lines unbegun (acts_of design.now)) }
+{
+    let mut pen = Pen {
+        stops: 0,
+        line: Line::Unbegun,
+    };
+    let mut walk = ActWalk::new();
+    for command in design.commands() {
+        let Some(act) = walk.next(*command) else {
+            continue;
+        };
+        put_act(text, pen, act.act)?;
+        pen = pen.after(act.act);
+    }
+    put_end(text, pen.line)?;
+    Ok(())
+}
+
+/// Adds what shows an act.
+fn put_act(text: &mut Bytes, pen: Pen, act: Act) -> Result<(), Memory>
+    ensures { OnOk result (text.new ≡ text.old ++ act_text pen act) }
+{
+    match act {
+        Act::Needle { at, float } => put_needle(text, pen, float, at)?,
+        Act::Trim => put_trim(text, pen.line)?,
+        Act::Stop => put_stop(text, pen.line)?,
+    }
+    Ok(())
+}
+
+fn put_needle(text: &mut Bytes, pen: Pen, float: bool, at: Point) -> Result<(), Memory>
+    ensures { OnOk result (text.new ≡ text.old ++ needle_text pen.stops pen.line float at) }
+{
+    match pen.line {
+        Line::Unbegun => put_opening(text, pen.stops, at)?,
+        Line::Ended(from) => put_begun(text, pen.stops, from, at)?,
+        Line::Open(from) => put_next(text, pen.stops, from, float, at)?,
+    }
+    Ok(())
+}
+
+/// Adds a needle behind an open line.
+fn put_next(text: &mut Bytes, stops: u32, from: Point, float: bool, at: Point) -> Result<(), Memory>
+    ensures { OnOk result (text.new ≡ text.old ++ needle_text stops (Open from) float at) }
+{
+    if float {
+        put_closing(text)?;
+        put_begun(text, stops, from, at)?;
+        return Ok(());
+    }
+    text.append(b" ")?;
+    put_point(text, at)?;
+    Ok(())
+}
+
+/// Adds the travel to a needle, and begins a line there.
+fn put_begun(text: &mut Bytes, stops: u32, from: Point, at: Point) -> Result<(), Memory>
+    ensures { OnOk result (text.new ≡ text.old ++ begun stops from at) }
+{
+    put_travel(text, from, at)?;
+    put_opening(text, stops, at)?;
+    Ok(())
+}
+
+fn put_trim(text: &mut Bytes, line: Line) -> Result<(), Memory>
+    ensures { OnOk result (text.new ≡ text.old ++ cut_text trim_mark line) }
+{
+    match line {
+        Line::Unbegun => {}
+        Line::Ended(at) => put_trim_mark(text, at)?,
+        Line::Open(at) => {
+            put_closing(text)?;
+            put_trim_mark(text, at)?;
+        }
+    }
+    Ok(())
+}
+
+fn put_stop(text: &mut Bytes, line: Line) -> Result<(), Memory>
+    ensures { OnOk result (text.new ≡ text.old ++ cut_text stop_mark line) }
+{
+    match line {
+        Line::Unbegun => {}
+        Line::Ended(at) => put_stop_mark(text, at)?,
+        Line::Open(at) => {
+            put_closing(text)?;
+            put_stop_mark(text, at)?;
+        }
+    }
+    Ok(())
+}
+
+/// Adds the end, behind a line that ends there where it is open.
+fn put_end(text: &mut Bytes, line: Line) -> Result<(), Memory>
+    ensures { OnOk result (text.new ≡ text.old ++ end_text line) }
+{
+    if let Line::Open(_) = line {
+        put_closing(text)?;
+        text.append(b"</g>\n</svg>\n")?;
+        return Ok(());
+    }
+    text.append(b"</g>\n</svg>\n")?;
+    Ok(())
+}
