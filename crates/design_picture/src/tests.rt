@@ -59,14 +59,3 @@ fn has(text: &[u8], part: &[u8]) -> bool {
     }
     false
 }
-
-#[test]
-fn a_million_needles_are_shown(rt: HostRuntime) -> Result<(), Fail> {
-    let mut design = Design::new(rt.alloc());
-    for number in 0..1_000_000u32 {
-        design.push(Command::Stitch(at((number % 1_000) as i32, (number / 1_000) as i32)))?;
-    }
-    let text = picture(rt.alloc(), &design)?;
-    assert!(rt; has(text.as_slice(), b" 998,999 999,999'/>\n</g>\n</svg>\n"));
-    Ok(())
-}

@@ -1,0 +1,3 @@
+-- read this one first: how a run ends
+pub mod Runs
+pub mod Orders

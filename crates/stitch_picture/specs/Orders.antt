@@ -1,0 +1,57 @@
+-- What the words after the program's name ask for.
+use Rattle.std.specs.Prelude.{ℕ, ◌-◌, Bool, ◌&&◌, not, List, [], ◌∷◌, Option, Some, None, bytes_eq, codes, drop, length, nat_le, option_and_then, slice_get, if◌then◌else◌}
+use Rattle.format_traits.specs.Endings.{found_in}
+use Rattle.format_traits.specs.Meanings.{Meaning}
+use Rattle.outside_io.specs.declared.limits.TheConstants.{MAX_NAME}
+use Rattle.stitch_picture.specs.declared.names.Names.{Names}
+
+-- the bytes may stand as a file's name
+abbrev pub is_name : List ℕ → Bool
+is_name word = nat_le 1 (length word) && nat_le (length word) MAX_NAME
+
+-- the name ends as a picture's does
+abbrev pub is_svg : List ℕ → Bool
+is_svg word = bytes_eq (drop (length word - 4) word) (codes ".svg")
+
+-- the names of the input and of the picture
+pub record NamesValue : Type 0 where
+  pub input : List ℕ
+  pub output : List ℕ
+
+abbrev pub names_value : Names → NamesValue
+names_value names = record { input = names.input.now; output = names.output.now }
+
+-- two names, of which the second is a picture's, and not the first one again
+abbrev pub names_by : List ℕ → List ℕ → Option NamesValue
+names_by input output = if is_name input && is_name output && is_svg output && not (bytes_eq input output)
+    then Some (record { input = input; output = output }) else None
+
+-- the names that the words spell
+abbrev pub names_of : List (List ℕ) → Option NamesValue
+names_of (input ∷ output ∷ []) = names_by input output
+names_of _ = None
+
+-- the format whose ending a name has
+abbrev pub format_of : List Meaning → List ℕ → Option Meaning
+format_of formats name = option_and_then (λ place. slice_get formats place) (found_in formats name)
+
+-- two names, and the format of the first one
+pub record Order : Type 0 where
+  pub format : Meaning
+  pub input : List ℕ
+  pub output : List ℕ
+
+abbrev pub with_format : List ℕ → List ℕ → Option Meaning → Option Order
+with_format input output None = None
+with_format input output (Some m) = Some (record { format = m; input = input; output = output })
+
+abbrev pub order_by : List Meaning → List ℕ → List ℕ → Option Order
+order_by formats input output = with_format input output (format_of formats input)
+
+-- what the words ask for of these formats
+abbrev pub order_from : List Meaning → Option NamesValue → Option Order
+order_from formats None = None
+order_from formats (Some names) = order_by formats names.input names.output
+
+abbrev pub order_of : List Meaning → List (List ℕ) → Option Order
+order_of formats words = order_from formats (names_of words)

@@ -1,0 +1,65 @@
+ghost use Rattle.std.specs.Prelude.{◌≡◌, IfSome, map, option_map, string_bytes};
+ghost use Rattle.outside_io.specs.Files.{IsName};
+ghost use Rattle.stitch_picture.specs.Orders.{format_of, is_name as is_a_name, is_svg as is_an_svg, names_by, names_of, names_value};
+
+use format_traits::{Format, find};
+use outside_io::MAX_NAME;
+
+/// The input file and the picture's file.
+#[derive(Clone, Copy, Debug)]
+pub struct Names<'a> {
+    pub input: &'a str,
+    pub output: &'a str,
+}
+
+/// The two names that the words ask for, where they are two names.
+pub(crate) fn names_in(words: &[String]) -> Option<Names<'_>>
+    ensures value { option_map names_value result ≡ names_of (map string_bytes words.now) }
+    ensures input { IfSome result (λ names. IsName names.input.now) }
+    ensures output { IfSome result (λ names. IsName names.output.now) }
+{
+    let [input, output] = words else {
+        return None;
+    };
+    names_from(input.as_str(), output.as_str())
+}
+
+fn names_from<'a>(input: &'a str, output: &'a str) -> Option<Names<'a>>
+    ensures value { option_map names_value result ≡ names_by input.now output.now }
+    ensures input { IfSome result (λ names. IsName names.input.now) }
+    ensures output { IfSome result (λ names. IsName names.output.now) }
+{
+    if is_name(input) && is_name(output) && is_svg(output) && input != output {
+        Some(Names { input, output })
+    } else {
+        None
+    }
+}
+
+fn is_name(word: &str) -> bool
+    ensures { result ≡ is_a_name word.now }
+{
+    1 <= word.len() && word.len() <= MAX_NAME
+}
+
+fn is_svg(word: &str) -> bool
+    ensures { result ≡ is_an_svg word.now }
+{
+    let bytes = word.as_bytes();
+    let (_, tail) = bytes.split_at(bytes.len().saturating_sub(4));
+    tail == b".svg".as_slice()
+}
+
+/// The format of a name, by its ending.
+pub(crate) fn format_for<'a>(
+    formats: &'a [Box<dyn Format>],
+    name: &str,
+) -> Option<&'a Box<dyn Format>>
+    ensures { option_map (λ f. meaning f.now) result
+        ≡ format_of (map (λ f. meaning f) formats.now) name.now }
+{
+    match find(formats, name) {
+        Some(place) => Some(&formats[place]),
+        None => None,
+    }
+}

@@ -1,0 +1,53 @@
+ghost use Rattle.std.specs.Prelude.{◌≡◌, IfOk};
+ghost use Rattle.outside_io.specs.Files.{HoldsNow, IsName};
+ghost use Rattle.stitch_picture.specs.Runs.{IsPicture, IsShown};
+
+use crate::finish::Halt;
+use design_model::Bytes;
+use design_picture::picture;
+use format_traits::{Format, ReadFault, decode_by};
+use outside_io::{GetFault, MAX_FILE, Store, read_whole};
+use std::alloc::Global;
+
+/// The picture of the design of a file.
+pub(crate) fn picture_in<S: Store>(
+    alloc: Global,
+    input: &str,
+    format: &Box<dyn Format>,
+    store: &mut S,
+) -> Result<Bytes, Halt>
+    requires { IsName input.now }
+    ensures shown { IfOk result (λ text. IsShown (meaning format.now) input.now
+        (S.sight store.old).files text) }
+    ensures same { (S.sight store.new).files ≡ (S.sight store.old).files }
+{
+    let bytes = bytes_of(alloc, input, store)?;
+    show(alloc, format, bytes.as_slice())
+}
+
+fn bytes_of<S: Store>(alloc: Global, input: &str, store: &mut S) -> Result<Bytes, Halt>
+    requires { IsName input.now }
+    ensures held { IfOk result (λ bytes. HoldsNow (S.sight store.old).files input.now bytes) }
+    ensures same { (S.sight store.new).files ≡ (S.sight store.old).files }
+{
+    match read_whole(alloc, store, input, MAX_FILE) {
+        Ok(bytes) => Ok(bytes),
+        Err(GetFault::Missing) => Err(Halt::NotRead),
+        Err(GetFault::Failed) => Err(Halt::NotRead),
+        Err(GetFault::TooLong) => Err(Halt::Refused),
+        Err(GetFault::Memory) => Err(Halt::Memory),
+    }
+}
+
+fn show(alloc: Global, format: &Box<dyn Format>, bytes: &[u8]) -> Result<Bytes, Halt>
+    ensures { IfOk result (λ text. IsPicture (meaning format.now) bytes.now text) }
+{
+    match decode_by(alloc, format, bytes) {
+        Ok(loaded) => match picture(alloc, &loaded.design) {
+            Ok(text) => Ok(text),
+            Err(_) => Err(Halt::Memory),
+        },
+        Err(ReadFault::Memory) => Err(Halt::Memory),
+        Err(_) => Err(Halt::Refused),
+    }
+}

@@ -1,0 +1,87 @@
+ghost use Rattle.std.specs.Prelude.{◌≡◌, OnOk, map, string_bytes};
+ghost use Rattle.outside_io.specs.Files.{ChangesOnly, HoldsNow, IsName};
+ghost use Rattle.stitch_picture.specs.Orders.{order_by, order_of};
+ghost use Rattle.stitch_picture.specs.Runs.{Ends, OrderEnds};
+ghost use Rattle.stitch_picture.specs.declared.finish.Status.TheVariants as status;
+
+use crate::finish::{Status, tell, tell_halt, tell_usage};
+use crate::names::{Names, format_for, names_in};
+use crate::reading::picture_in;
+use format_traits::Format;
+use outside_io::{Failed, Sink, Store};
+use std::alloc::Global;
+
+/// Writes the picture of the design that the first word's file holds to the file of the second word. Where
+/// it isn't done it puts one line to `err`.
+pub fn run<S: Store, E: Sink>(
+    alloc: Global,
+    words: &[String],
+    formats: &[Box<dyn Format>],
+    store: &mut S,
+    err: &mut E,
+) -> Status
+    ensures { Ends (order_of (map (λ f. meaning f) formats.now) (map string_bytes words.now))
+        (S.sight store.old).files (S.sight store.new).files result }
+{
+    match names_in(words) {
+        Some(names) => run_named(alloc, names, formats, store, err),
+        None => tell_usage(err),
+    }
+}
+
+fn run_named<S: Store, E: Sink>(
+    alloc: Global,
+    names: Names<'_>,
+    formats: &[Box<dyn Format>],
+    store: &mut S,
+    err: &mut E,
+) -> Status
+    requires input { IsName names.input.now }
+    requires output { IsName names.output.now }
+    ensures { Ends (order_by (map (λ f. meaning f) formats.now) names.entry.input.now
+        names.entry.output.now) (S.sight store.old).files (S.sight store.new).files result }
+{
+    match format_for(formats, names.input) {
+        Some(format) => run_with(alloc, names.input, names.output, format, store, err),
+        None => tell_usage(err),
+    }
+}
+
+fn run_with<S: Store, E: Sink>(
+    alloc: Global,
+    input: &str,
+    output: &str,
+    format: &Box<dyn Format>,
+    store: &mut S,
+    err: &mut E,
+) -> Status
+    requires input { IsName input.now }
+    requires output { IsName output.now }
+    ensures { OrderEnds (meaning format.now) input.now output.now
+        (S.sight store.old).files (S.sight store.new).files result }
+{
+    match picture_in(alloc, input, format, store) {
+        Ok(text) => match write_file(store, output, text.as_slice()) {
+            Ok(()) => Status::Done,
+            Err(Failed) => tell_fault(err, output),
+        },
+        Err(why) => tell_halt(err, why, input),
+    }
+}
+
+fn tell_fault<E: Sink>(err: &mut E, output: &str) -> Status
+    ensures { result ≡ status.Fault }
+{
+    tell(err, Status::Fault, b"cannot write ", output)
+}
+
+/// Writes a whole file: makes it empty, and adds all the bytes at once.
+fn write_file<S: Store>(store: &mut S, name: &str, bytes: &[u8]) -> Result<(), Failed>
+    requires { IsName name.now }
+    ensures holds { OnOk result (HoldsNow (S.sight store.new).files name.now bytes.now) }
+    ensures others { ChangesOnly (S.sight store.old).files (S.sight store.new).files name.now }
+{
+    store.create(name)?;
+    store.append(name, bytes)?;
+    Ok(())
+}
