@@ -1,9 +1,12 @@
 -- How a run ends.
-use Rattle.std.specs.Prelude.{◌≡◌, ℕ, List, Option, Some, None, Ok}
+use Rattle.std.specs.Prelude.{◌≡◌, ℕ, ◌<◌, ◌⊎◌, List, length, Option, Some, None, Result, Ok, Err}
 use Rattle.design_picture.specs.Sheets.{picture_of}
+use Rattle.format_traits.specs.declared.fault.ReadFault.{ReadFault}
 use Rattle.format_traits.specs.declared.loaded.Loaded.{Loaded}
 use Rattle.format_traits.specs.Meanings.{Meaning}
-use Rattle.outside_io.specs.Files.{ChangesOnly, Files, HoldsNow}
+use Rattle.outside_io.specs.declared.limits.TheConstants.{MAX_FILE}
+use Rattle.outside_io.specs.Causes.{IsLonger}
+use Rattle.outside_io.specs.Files.{ChangesOnly, Files, HoldsNow, WhereTold}
 use Rattle.stitch_picture.specs.declared.finish.Halt.{Halt}
 use Rattle.stitch_picture.specs.declared.finish.Halt.TheVariants as halt
 use Rattle.stitch_picture.specs.declared.finish.Status.{Status}
@@ -16,11 +19,9 @@ status_of halt.NotRead = status.Fault
 status_of halt.Refused = status.Refused
 status_of halt.Memory = status.Memory
 
--- a status with which no file changes, after words that ask for a picture
-abbrev pub IsKept : Status → Type 0
-IsKept status.Done = ⊥
-IsKept status.Usage = ⊥
-IsKept other = Unit {0}
+-- the status that tells why, or a fault of standard error
+abbrev pub Tells : Halt → Status → Type 0
+Tells why s = (s ≡ status_of why) ⊎ (s ≡ status.Fault)
 
 -- the bytes read as a design, and the text is its picture
 pub record IsPicture (m : Meaning) (bytes text : List ℕ) : Type 0 where
@@ -34,6 +35,34 @@ pub record IsShown (m : Meaning) (input : List ℕ) (files : Option Files) (text
   pub held : HoldsNow files input bytes
   pub picture : IsPicture m bytes text
 
+-- the file is there, and is too long, or no design of its format
+abbrev pub SaysNone : Meaning → Option (List ℕ) → Type 0
+SaysNone m None = ⊥
+SaysNone m (Some content) = (MAX_FILE < length content)
+    ⊎ ((fault : ReadFault) × (m.reads content ≡ Err fault))
+
+-- the same of the named file, where the files are told
+abbrev pub IsRefused : Meaning → List ℕ → Option Files → Type 0
+IsRefused m input files = WhereTold files (λ told. SaysNone m (told input))
+
+-- what the reading of the input's bytes answers
+abbrev pub GivesBytes : List ℕ → Option Files → Result (List ℕ) Halt → Type 0
+GivesBytes input files (Ok bytes) = HoldsNow files input bytes
+GivesBytes input files (Err halt.Refused) = WhereTold files (λ told. IsLonger (told input) MAX_FILE)
+GivesBytes input files (Err other) = Unit {0}
+
+-- what the showing of bytes answers
+abbrev pub GivesPicture : Meaning → List ℕ → Result (List ℕ) Halt → Type 0
+GivesPicture m bytes (Ok text) = IsPicture m bytes text
+GivesPicture m bytes (Err halt.Refused) = (fault : ReadFault) × (m.reads bytes ≡ Err fault)
+GivesPicture m bytes (Err other) = Unit {0}
+
+-- what the showing of a file answers
+abbrev pub ShowsFile : Meaning → List ℕ → Option Files → Result (List ℕ) Halt → Type 0
+ShowsFile m input files (Ok text) = IsShown m input files text
+ShowsFile m input files (Err halt.Refused) = IsRefused m input files
+ShowsFile m input files (Err other) = Unit {0}
+
 -- the output holds the picture of the design that the input holds, and every other file stays
 pub record IsDone (m : Meaning) (input output : List ℕ) (old new : Option Files) : Type 0 where
   pub text : List ℕ
@@ -41,10 +70,11 @@ pub record IsDone (m : Meaning) (input output : List ℕ) (old new : Option File
   pub written : HoldsNow new output text
   pub others : ChangesOnly old new output
 
--- how an order ends: refused or for want of memory all files stay, and after a fault all but the output
+-- how an order ends: the input is refused, or memory is wanted, and all files stay; after a fault all
+-- files but the output do
 abbrev pub OrderEnds : Meaning → List ℕ → List ℕ → Option Files → Option Files → Status → Type 0
 OrderEnds m input output old new status.Done = IsDone m input output old new
-OrderEnds m input output old new status.Refused = new ≡ old
+OrderEnds m input output old new status.Refused = IsRefused m input old × (new ≡ old)
 OrderEnds m input output old new status.Usage = ⊥
 OrderEnds m input output old new status.Fault = ChangesOnly old new output
 OrderEnds m input output old new status.Memory = new ≡ old

@@ -1,6 +1,6 @@
 ghost use Rattle.std.specs.Prelude.{◌≡◌, ◌⊎◌};
 ghost use Rattle.stitch_picture.specs.declared.finish.Status.TheVariants as status;
-ghost use Rattle.stitch_picture.specs.Runs.{IsKept, status_of};
+ghost use Rattle.stitch_picture.specs.Runs.{Tells};
 
 use outside_io::{Failed, Sink};
 
@@ -32,8 +32,7 @@ pub enum Halt {
 
 /// Tells on one line why there is no picture.
 pub(crate) fn tell_halt<E: Sink>(err: &mut E, why: Halt, name: &str) -> Status
-    ensures value { (result ≡ status_of why) ⊎ (result ≡ status.Fault) }
-    ensures kept { IsKept result }
+    ensures { Tells why result }
 {
     match why {
         Halt::NotRead => tell(err, Status::Fault, b"cannot read ", name),

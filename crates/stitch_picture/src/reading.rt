@@ -1,6 +1,6 @@
-ghost use Rattle.std.specs.Prelude.{◌≡◌, IfOk};
-ghost use Rattle.outside_io.specs.Files.{HoldsNow, IsName};
-ghost use Rattle.stitch_picture.specs.Runs.{IsPicture, IsShown};
+ghost use Rattle.std.specs.Prelude.{◌≡◌};
+ghost use Rattle.outside_io.specs.Files.{IsName};
+ghost use Rattle.stitch_picture.specs.Runs.{GivesBytes, GivesPicture, ShowsFile};
 
 use crate::finish::Halt;
 use design_model::Bytes;
@@ -17,17 +17,18 @@ pub(crate) fn picture_in<S: Store>(
     store: &mut S,
 ) -> Result<Bytes, Halt>
     requires { IsName input.now }
-    ensures shown { IfOk result (λ text. IsShown (meaning format.now) input.now
-        (S.sight store.old).files text) }
+    ensures shown { ShowsFile (meaning format.now) input.now (S.sight store.old).files result }
     ensures same { (S.sight store.new).files ≡ (S.sight store.old).files }
 {
-    let bytes = bytes_of(alloc, input, store)?;
-    show(alloc, format, bytes.as_slice())
+    match bytes_of(alloc, input, store) {
+        Ok(bytes) => show(alloc, format, bytes.as_slice()),
+        Err(why) => Err(why),
+    }
 }
 
 fn bytes_of<S: Store>(alloc: Global, input: &str, store: &mut S) -> Result<Bytes, Halt>
     requires { IsName input.now }
-    ensures held { IfOk result (λ bytes. HoldsNow (S.sight store.old).files input.now bytes) }
+    ensures gives { GivesBytes input.now (S.sight store.old).files result }
     ensures same { (S.sight store.new).files ≡ (S.sight store.old).files }
 {
     match read_whole(alloc, store, input, MAX_FILE) {
@@ -40,7 +41,7 @@ fn bytes_of<S: Store>(alloc: Global, input: &str, store: &mut S) -> Result<Bytes
 }
 
 fn show(alloc: Global, format: &Box<dyn Format>, bytes: &[u8]) -> Result<Bytes, Halt>
-    ensures { IfOk result (λ text. IsPicture (meaning format.now) bytes.now text) }
+    ensures { GivesPicture (meaning format.now) bytes.now result }
 {
     match decode_by(alloc, format, bytes) {
         Ok(loaded) => match picture(alloc, &loaded.design) {
