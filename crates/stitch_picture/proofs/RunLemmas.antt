@@ -32,7 +32,7 @@ pub halted : (m : Meaning) (input output : List ℕ) (old new : Option Files) (w
     → ShowsFile m input old (Err why) → Tells why s → new ≡ old → OrderEnds m input output old new s
 halted m input output old new why status.Fault shows tells same = stays old new output same
 halted m input output old new why status.Memory shows tells same = same
-halted m input output old new halt.Refused status.Refused shows tells same = (shows , same)
+halted m input output old new halt.Refused status.Refused shows tells same = (shows, same)
 halted m input output old new halt.NotRead status.Refused shows (inl is) same = absurd (let no : ⊥ = cc in no)
 halted m input output old new halt.NotRead status.Refused shows (inr is) same = absurd (let no : ⊥ = cc in no)
 halted m input output old new halt.Memory status.Refused shows (inl is) same = absurd (let no : ⊥ = cc in no)
