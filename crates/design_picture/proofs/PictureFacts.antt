@@ -1,11 +1,10 @@
 -- Worked values of pictures.
-use Rattle.std.proofs.Common.{◌≡◌, ℕ, ℤ, pos, negsuc, true, false, List, [], ◌∷◌, ◌++◌, Some, None, codes, map, refl}
+use Rattle.std.proofs.Common.{◌≡◌, ℕ, ℤ, pos, negsuc, List, [], ◌∷◌, ◌++◌, Some, None, codes, map, refl}
 use Rattle.std.specs.Fmt.{digits}
 use Rattle.design_model.specs.declared.command.Command.{Command}
 use Rattle.design_model.specs.declared.command.Command.TheVariants.{Stitch, Jump, Trim, Stop}
 use Rattle.design_model.specs.declared.point.Point.{Point}
 use Rattle.design_model.specs.Acts.{acts_along}
-use Rattle.design_model.specs.Designs.{DesignValue}
 use Rattle.design_picture.specs.Captions.{mm_text}
 use Rattle.design_picture.specs.Colours.{colour_of}
 use Rattle.design_picture.specs.Pictures.{lines, unbegun}
@@ -41,7 +40,8 @@ known_lines = refl
 -- 3 mm to the right and 4 mm downwards: the sheet is as wide as the caption, and has a margin of 5 mm
 pub known_picture : picture_of (record { label = []; threads = []; commands = two_lines })
     ≡ ended (codes "<svg xmlns='http://www.w3.org/2000/svg' width='30.0mm' height='26.0mm' viewBox='0 0 300 260'>"
-    ∷ codes "<style>text{font:22px sans-serif;fill:#333;stroke:none}.travel{stroke:#777;stroke-width:1.5;stroke-dasharray:6 5}.trim,.stop{stroke:#000;stroke-width:1.5}</style>"
+    ∷ (codes "<style>text{font:22px sans-serif;fill:#333;stroke:none}" ++ (codes ".travel{stroke:#777;stroke-width:1.5;"
+    ++ codes "stroke-dasharray:6 5}.trim,.stop{stroke:#000;stroke-width:1.5}</style>"))
     ∷ codes "<g transform='translate(50,50)' fill='none' stroke-width='4'>"
     ∷ codes "<text x='0' y='40' dy='80'>needles 4</text>"
     ∷ codes "<text x='0' y='40' dy='105'>trims 1</text>"
@@ -71,8 +71,10 @@ unfolding digits
 known_lengths = refl
 
 -- a sheet holds the design, and the caption where that is wider
-pub known_sheets : map across (None ∷ Some (record { min = point (pos 0) (pos 0); max = point (pos 201) (pos 9) }) ∷ []) ≡ 300 ∷ 301 ∷ []
+pub known_sheets : map across (None ∷ Some (record { min = point (pos 0) (pos 0); max = point (pos 201) (pos 9) }) ∷ [])
+    ≡ 300 ∷ 301 ∷ []
 known_sheets = refl
 
-pub known_heights : map down (None ∷ Some (record { min = point (pos 0) (negsuc 9); max = point (pos 201) (pos 9) }) ∷ []) ≡ 220 ∷ 239 ∷ []
+pub known_heights : map down (None ∷ Some (record { min = point (pos 0) (negsuc 9); max = point (pos 201) (pos 9) }) ∷ [])
+    ≡ 220 ∷ 239 ∷ []
 known_heights = refl

@@ -22,8 +22,8 @@ pub four : (old a b c d t t' t'' u : List ℕ) → t ≡ old ++ a → t' ≡ t +
 four old a b c d t t' t'' u first second third fourth =
     two old a (b ++ (c ++ d)) t u first (three t b c d t' t'' u second third fourth)
 
-pub five : (old a b c d e t t' t'' u u' : List ℕ) → t ≡ old ++ a → t' ≡ t ++ b → t'' ≡ t' ++ c → u ≡ t'' ++ d → u' ≡ u ++ e
-    → u' ≡ old ++ (a ++ (b ++ (c ++ (d ++ e))))
+pub five : (old a b c d e t t' t'' u u' : List ℕ) → t ≡ old ++ a → t' ≡ t ++ b → t'' ≡ t' ++ c → u ≡ t'' ++ d
+    → u' ≡ u ++ e → u' ≡ old ++ (a ++ (b ++ (c ++ (d ++ e))))
 five old a b c d e t t' t'' u u' first second third fourth fifth =
     two old a (b ++ (c ++ (d ++ e))) t u' first (four t b c d e t' t'' u u' second third fourth fifth)
 

@@ -1,4 +1,4 @@
--- What is told of a design below its picture: how many needle acts, trims and stops it has, and its size.
+-- What is told of a design below its picture: its needle acts, trims and stops, and its size.
 use Rattle.std.specs.Prelude.{ℕ, ◌/◌, ◌%◌, List, [], ◌∷◌, ◌++◌, Option, Some, None, codes}
 use Rattle.std.specs.Fmt.{decimal, signed_decimal}
 use Rattle.design_model.specs.declared.bounds.Extent.{Extent}

@@ -1,5 +1,5 @@
--- What shows the acts of a design. Needles that are sewn on after one another are a line. A float, and
--- the first needle after a trim or a stop, begin another one, and a dashed line leads there.
+-- What shows the acts of a design. Needles that are sewn on after one another are a line. A float,
+-- and the first needle after a trim or a stop, begin another one, and a dashed line leads there.
 use Rattle.std.specs.Prelude.{ℕ, ◌+◌, Bool, true, false, List, [], ◌∷◌, ◌++◌, codes}
 use Rattle.design_model.specs.declared.act.Act.{Act}
 use Rattle.design_model.specs.declared.act.Act.TheVariants.{Needle, Trim, Stop}

@@ -1,4 +1,4 @@
--- The shapes of a picture, as SVG. Coordinates are tenths of a millimetre, x to the right, y downwards.
+-- The shapes of a picture, as SVG. Points are in tenths of a millimetre, y downwards.
 use Rattle.std.specs.Prelude.{ℕ, List, [], ◌∷◌, ◌++◌, codes}
 use Rattle.std.specs.Fmt.{signed_decimal}
 use Rattle.design_model.specs.declared.point.Point.{Point}
@@ -28,7 +28,8 @@ mark kind strokes p = kind ++ (point_text p ++ (strokes ++ closing))
 
 -- the circle of a trim
 abbrev pub trim_mark : Point → List ℕ
-trim_mark p = mark (codes "<path class='trim' d='M") (codes "m-6,0a6,6,0,1,0,12,0a6,6,0,1,0,-12,0") p
+trim_mark p =
+    mark (codes "<path class='trim' d='M") (codes "m-6,0a6,6,0,1,0,12,0a6,6,0,1,0,-12,0") p
 
 -- the square of a stop
 abbrev pub stop_mark : Point → List ℕ

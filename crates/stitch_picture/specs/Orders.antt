@@ -23,7 +23,8 @@ names_value names = record { input = names.input.now; output = names.output.now 
 
 -- two names, of which the second is a picture's, and not the first one again
 abbrev pub names_by : List ℕ → List ℕ → Option NamesValue
-names_by input output = if is_name input && is_name output && is_svg output && not (bytes_eq input output)
+names_by input output =
+    if is_name input && is_name output && is_svg output && not (bytes_eq input output)
     then Some (record { input = input; output = output }) else None
 
 -- the names that the words spell

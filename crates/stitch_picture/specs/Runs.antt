@@ -30,7 +30,8 @@ pub record IsPicture (m : Meaning) (bytes text : List ℕ) : Type 0 where
   pub shown : text ≡ picture_of loaded.design
 
 -- the text is the picture of the design that the named file holds
-pub record IsShown (m : Meaning) (input : List ℕ) (files : Option Files) (text : List ℕ) : Type 0 where
+pub record IsShown (m : Meaning) (input : List ℕ) (files : Option Files)
+    (text : List ℕ) : Type 0 where
   pub bytes : List ℕ
   pub held : HoldsNow files input bytes
   pub picture : IsPicture m bytes text
@@ -70,8 +71,8 @@ pub record IsDone (m : Meaning) (input output : List ℕ) (old new : Option File
   pub written : HoldsNow new output text
   pub others : ChangesOnly old new output
 
--- how an order ends: the input is refused, or memory is wanted, and all files stay; after a fault all
--- files but the output do
+-- how an order ends: the input is refused, or memory is wanted, and all files stay; after a
+-- fault all files but the output do
 abbrev pub OrderEnds : Meaning → List ℕ → List ℕ → Option Files → Option Files → Status → Type 0
 OrderEnds m input output old new status.Done = IsDone m input output old new
 OrderEnds m input output old new status.Refused = IsRefused m input old × (new ≡ old)
