@@ -145,13 +145,13 @@ strands_there d some =
     both is = cc
 
 -- the step is the greatest size of a link, of which there is one
-step_parts : (found : Option ℕ) (links : List Link) (step : ℕ) → step_past found links ≡ Ok step
+pub step_parts : (found : Option ℕ) (links : List Link) (step : ℕ) → step_past found links ≡ Ok step
     → (has_links links ≡ true) × (longest links ≡ step)
 step_parts (Some number) links step is = absurd cc
 step_parts None [] step is = absurd cc
 step_parts None (link ∷ rest) step is = (refl, ok_same (longest (link ∷ rest)) step is)
 
-least_step : (links : List Link) → FirstHasSize links → has_links links ≡ true → 1 ≤ longest links
+pub least_step : (links : List Link) → FirstHasSize links → has_links links ≡ true → 1 ≤ longest links
 least_step [] first some = absurd cc
 least_step (link ∷ rest) first some =
     omega (arith, first, le-max_right 0 (link_size link), greatest_more (max 0 (link_size link)) rest)

@@ -175,7 +175,7 @@ joined_links keep d e is = by_tests (nat_lt 1024 (length (all_sections d.lines))
         ap (λ (f : DrawingValue). drawn_links f.lines) (sym (ok_same (record d { lines = all_sections d.lines }) e is))
         ∙ sections_drawn keep d.lines d.lines
 
-finished_is : (d e : DrawingValue) → finished d ≡ Ok e → d ≡ e
+pub finished_is : (d e : DrawingValue) → finished d ≡ Ok e → d ≡ e
 finished_is d e is = by_tests (length d.threads == 0) (is_last_empty d) is
   where
     by_tests : (none empty : Bool) → cond none (Err kind.NoBlock) (cond empty (Err kind.EmptyBlock) (Ok d)) ≡ Ok e → d ≡ e

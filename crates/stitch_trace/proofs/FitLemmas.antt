@@ -182,7 +182,7 @@ pub record Fits (step : ℕ) (points : List Point) : Type 0 where
   pub cost : line_steps step points ≤ length points
 
 -- a link of no more than the step is one step
-one_step : (size step : ℕ) → 1 ≤ step → size ≤ step → size / step + min 1 (size % step) ≤ 1
+pub one_step : (size step : ℕ) → 1 ≤ step → size ≤ step → size / step + min 1 (size % step) ≤ 1
 one_step size step some short =
     let steps : ℕ = size / step + min 1 (size % step) in
     let bounds = div_ceil_times size step (omega (arith, some)) in

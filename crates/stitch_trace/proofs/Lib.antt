@@ -9,3 +9,4 @@ pub mod DistinctLemmas
 pub mod FitLemmas
 pub mod LimitLemmas
 pub mod CountLemmas
+pub mod StepLemmas

@@ -1,6 +1,6 @@
 -- What a traced drawing has: in each block the new links of a block of the design, each once.
 -- Blocks count from 0.
-use Rattle.std.specs.Prelude.{◌≡◌, ℕ, ◌+◌, Bool, true, not, ◌&&◌, List, [], ◌∷◌, ◌++◌, map, Ok, Err, if◌then◌else◌}
+use Rattle.std.specs.Prelude.{◌≡◌, ℕ, ◌+◌, ◌==◌, Bool, true, not, ◌&&◌, List, [], ◌∷◌, ◌++◌, map, Ok, Err, if◌then◌else◌}
 use Rattle.std.specs.List.{flat_map, list_all, list_any}
 use Rattle.design_model.specs.declared.act.NumberedAct.{NumberedAct}
 use Rattle.design_model.specs.declared.point.Point.{Point}
@@ -11,6 +11,7 @@ use Rattle.line_graph.specs.declared.draw_kind.DrawKind.{DrawKind}
 use Rattle.line_graph.specs.declared.draw_kind.DrawKind.TheVariants as kind
 use Rattle.line_graph.specs.Drawings.{DrawingValue, LineValue}
 use Rattle.line_graph.specs.Sections.{segments_of}
+use Rattle.step_splitter.specs.Steps.{steps_of}
 use Rattle.stitch_trace.specs.declared.links.Link.{Link}
 use Rattle.stitch_trace.specs.declared.trace_fault.TraceFault.TheVariants as fault
 use Rattle.stitch_trace.specs.Chains.{has_links, is_sewn, new_links_of}
@@ -52,6 +53,15 @@ sewn_links block (acts ∷ later) =
 abbrev pub LinksAreDrawn : Type 0
 LinksAreDrawn = (d : DesignValue) (drawing : DrawingValue) → traced d ≡ Ok drawing
     → drawn_links drawing.lines ≡ sewn_links 0 (blocks_of (acts_of d))
+
+-- the link is one step of a drawing with that step
+abbrev pub is_one_step : ℕ → BlockLink → Bool
+is_one_step step one = steps_of one.link.from one.link.to step == 1
+
+-- each segment of a traced drawing is one step
+abbrev pub LinksAreSteps : Type 0
+LinksAreSteps = (d : DesignValue) (drawing : DrawingValue) → KeepsLimits d → traced d ≡ Ok drawing
+    → list_all (is_one_step drawing.step) (drawn_links drawing.lines) ≡ true
 
 -- no two of the links are the same
 abbrev pub are_distinct : List Link → Bool

@@ -1,10 +1,12 @@
-ghost use Rattle.stitch_trace.specs.Laws.{CountsAreLimits, LinksAreDrawn, NewLinksAreDistinct};
+ghost use Rattle.stitch_trace.specs.Laws.{CountsAreLimits, LinksAreDrawn, LinksAreSteps, NewLinksAreDistinct};
 
 use line_graph::sections_keep_segments;
 
-/// The segments of a traced drawing are the new links of the design, block by block, each once.
+/// The segments of a traced drawing are the new links of the design, block by block, each once, and each
+/// is one step.
 pub fn links_are_drawn()
-    ensures { LinksAreDrawn }
+    ensures drawn { LinksAreDrawn }
+    ensures steps { LinksAreSteps }
 {
     sections_keep_segments();
 }
