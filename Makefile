@@ -1,4 +1,4 @@
-# make install PREFIX=/usr/local: the one built file, which runs alone, its manual page and completions.
+# make install PREFIX=/usr/local: the two programs, which run alone, a manual page and completions.
 VERSION = 0.3.0
 PREFIX ?= /usr/local
 BIN = $(DESTDIR)$(PREFIX)/bin
@@ -11,17 +11,19 @@ FISH = $(SHARE)/fish/vendor_completions.d
 .PHONY: build install uninstall test version
 build:
 	./build
+	./build stitch_picture
 
 install: build
 	install -d $(BIN) $(MAN) $(BASH) $(ZSH) $(FISH)
 	install -m 755 crates/stitch/out/stitch $(BIN)/stitch
+	install -m 755 crates/stitch_picture/out/stitch_picture $(BIN)/stitch_picture
 	install -m 644 man/stitch.1 $(MAN)/stitch.1
 	install -m 644 completions/stitch.bash $(BASH)/stitch
 	install -m 644 completions/_stitch $(ZSH)/_stitch
 	install -m 644 completions/stitch.fish $(FISH)/stitch.fish
 
 uninstall:
-	rm -f $(BIN)/stitch $(MAN)/stitch.1 $(BASH)/stitch $(ZSH)/_stitch $(FISH)/stitch.fish
+	rm -f $(BIN)/stitch $(BIN)/stitch_picture $(MAN)/stitch.1 $(BASH)/stitch $(ZSH)/_stitch $(FISH)/stitch.fish
 
 test:
 	.ci/run

@@ -15,6 +15,7 @@ pub(crate) fn put_signed(text: &mut Bytes, number: i32) -> Result<(), Memory>
     Ok(())
 }
 
+/// Adds a number in decimals.
 pub(crate) fn put_number(text: &mut Bytes, number: u64) -> Result<(), Memory>
     ensures { OnOk result (text.new ≡ text.old ++ decimal number) }
 {

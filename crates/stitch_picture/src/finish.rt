@@ -41,10 +41,14 @@ pub(crate) fn tell_halt<E: Sink>(err: &mut E, why: Halt, name: &str) -> Status
     }
 }
 
+/// Tells what the words may be.
 pub(crate) fn tell_usage<E: Sink>(err: &mut E) -> Status
     ensures { (result ≡ status.Usage) ⊎ (result ≡ status.Fault) }
 {
-    tell(err, Status::Usage, b"usage: stitch_picture IN OUT.svg", "")
+    match err.put(b"usage: stitch_picture IN OUT.svg\n") {
+        Ok(()) => Status::Usage,
+        Err(Failed) => Status::Fault,
+    }
 }
 
 /// Puts a line about a name, and answers the status that is planned where that went well.
