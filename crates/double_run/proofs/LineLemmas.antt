@@ -94,7 +94,7 @@ times_push n way [] p = turned (bit (p.line == n && same_way way p.back))
     turned k = omega arith
 times_push n way (x ∷ xs) p =
     rw (times_push n way xs p) (joined (bit (x.line == n && same_way way x.back)) (times n way xs) (bit
-        (p.line == n && same_way way p.back)))
+    (p.line == n && same_way way p.back)))
   where
     joined : (x y z : ℕ) → x + (y + z) ≡ (x + y) + z
     joined x y z = omega arith

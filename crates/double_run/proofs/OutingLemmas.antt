@@ -63,8 +63,12 @@ out_kept lines edges walk out passed root leg e up beside there left k = record 
   legs = there_push (length edges) out leg ∙ rw (k.legs, less_test leg.place (length edges) within) refl;
   counted = λ n. λ way. λ below.
       counts n way below (one_line lines leg.place n up (omega (arith, within, beside)) below) (k.counted n way below);
-  sums = rw (sum_push lines edges walk (pass_along lines leg), home_push lines out leg,
-      cost_more passed edges leg.place e left there, found)
+  sums = rw (
+    sum_push lines edges walk (pass_along lines leg),
+    home_push lines out leg,
+    cost_more passed edges leg.place e left there,
+    found,
+  )
       (costs e.cost (pass_sum lines edges cost_of walk) (pass_sum lines edges cost_of (way_home lines out)) (passed_cost passed edges)
       k.sums);
   spent = λ j. λ met. λ other. λ away.
@@ -126,7 +130,7 @@ back_kept lines edges walk out passed root at leg e up beside there spent k = re
       (moved (pass_sum lines edges cost_of walk) (of_edge cost_of (edge_of lines edges (get_or lines leg.place 0)))
       (pass_sum lines edges cost_of (way_home lines out)) (2 * passed_cost passed edges)
       (ap (λ (w : List Pass). pass_sum lines edges cost_of walk + pass_sum lines edges cost_of w) (sym (home_push lines out leg))
-          ∙ k.sums));
+      ∙ k.sums));
   spent = λ j. λ met. λ other. λ away.
       by_test j (at == j) refl (k.spent j met)
       (way_push edges out leg j

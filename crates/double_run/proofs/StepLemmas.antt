@@ -73,7 +73,7 @@ out_step p old walk out passed at leg kept keeps ready leads is_walk is_out is_p
       ready = rw (is_passed, is_next)
           (out_ready p.edges (length p.junctions) old.passed.items old.ends.last.items old.ends.before.items old.at leg.place
           (end_of leads.edge leg.back) (leg_below
-              (length p.junctions) p.edges leg.place leads.edge leg.back kept.ends leads.there).1 ready);
+          (length p.junctions) p.edges leg.place leads.edge leg.back kept.ends leads.there).1 ready);
       begins = λ h. rw is_walk (begins_on (first_line p.lines) old.walk (pass_along p.lines leg ∷ []) h);
       first = λ h. rw is_passed (marked_stays old.passed.items leg.place 0 h);
     };

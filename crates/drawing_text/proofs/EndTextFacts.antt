@@ -63,7 +63,7 @@ known_junctions = (refl, refl, refl, refl)
 
 -- versions 1 and 2 name none
 pub known_earlier : (drawing_of (text (codes "redwork 2") (codes "start 0 0" ∷ []))
-      ≡ Err (record { number = 6; kind = kind.BadWord }))
+    ≡ Err (record { number = 6; kind = kind.BadWord }))
     × (drawing_of (text (codes "redwork 1") (codes "end 0 0" ∷ [])) ≡ Err (record { number = 6; kind = kind.BadWord }))
 known_earlier = (refl, refl)
 

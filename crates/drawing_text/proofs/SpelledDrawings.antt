@@ -265,7 +265,7 @@ module _ (version : Version) (d : DrawingValue) (keeps : KeepsDrawing d) (unende
       ∙ (line_judged version number (draft_of named opened (so_far d before block)) (draft_of named number one) (codes "color")
       (decimal thread ∷ []) (flat_map line_text (lines_in block d.lines) ++ behind) is_color
       (decimal_word thread (omega (arith, fits)), tt) (color_says version number opened named
-          (so_far d before block) thread fits filled room)
+      (so_far d before block) thread fits filled room)
       ∙ inside (number + 1) number named)
 
   -- the step, and then the blocks

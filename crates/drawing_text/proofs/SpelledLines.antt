@@ -136,7 +136,7 @@ pub color_says : (version : Version) (number opened : ℕ) (named : Bool) (d : D
     → is_last_empty d ≡ false
     → length d.threads < 255
     → judged version number (draft_of named opened d) (codes "color" ∷ decimal thread ∷ []) ≡ Ok (draft_of named number
-        (with_block d thread))
+    (with_block d thread))
 color_says version number opened named d thread fits filled room =
     let low : nat_le 0 thread ≡ true = grind (arith, nat_tests) in
     let high : nat_le thread 255 ≡ true = grind (arith, nat_tests, fits) in

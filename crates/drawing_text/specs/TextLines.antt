@@ -99,11 +99,13 @@ lined draft words =
 abbrev pub ended : ℕ → Bool → Draft → List (List ℕ) → Result Draft DrawKind
 ended number is_start draft words =
     if is_before_blocks draft then Err kind.NoBlock
-    else and_then (point_in words) (λ at. Ok (record draft { ends = draft.ends ++ record {
-      number = number;
-      is_start = is_start;
-      spot = record { block = length draft.drawing.threads - 1; at = at };
-    } ∷ [] }))
+    else and_then (point_in words) (λ at. Ok (record draft {
+      ends = draft.ends ++ record {
+        number = number;
+        is_start = is_start;
+        spot = record { block = length draft.drawing.threads - 1; at = at };
+      } ∷ [];
+    }))
 
 -- a text of the version may name starts and ends
 abbrev pub has_ends : Version → Bool

@@ -140,7 +140,7 @@ at_one line stands a b one two = by_points line.points refl one two
     first_stands : (p : Point) (more : List Point) → both (p ∷ more) (spot_on line p) ≡ stands (spot_on line (last_from p more))
     first_stands p more =
         ap (λ (t : Bool). cond t (stands (spot_on line (last_from p more))) (stands (spot_on line p))) (spot_found (stands
-            (spot_on line p)))
+        (spot_on line p)))
 
     last_stands : (p : Point) (more : List Point)
         → both (p ∷ more) (spot_on line (last_from p more)) ≡ stands (spot_on line (last_from p more))

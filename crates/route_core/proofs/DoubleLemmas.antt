@@ -62,7 +62,7 @@ doubles_spelled d lines cert first keeps below sewable begins none = record {
         All-cons (λ (pass : Pass). pass.line + 1 < 2 ^ 32) q walk
         (less q.line (length d.lines)
         (All-contains (λ line. line < length d.lines) lines q.line below (All-head (λ
-            (pass : Pass). Contains lines pass.line) q walk there))
+        (pass : Pass). Contains lines pass.line) q walk there))
         keeps.line_count)
         (few walk (All-tail (λ (pass : Pass). Contains lines pass.line) q walk there))
 

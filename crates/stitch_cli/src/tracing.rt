@@ -95,9 +95,14 @@ fn traced_product<'a>(
 fn report_of(alloc: Global, drawing: &Drawing) -> Result<Bytes, Memory>
     ensures { IfOk result (λ text. text
         ≡ trace_report (length drawing.now.threads) (length drawing.now.lines)
-            (segment_count drawing.now)) }
+        (segment_count drawing.now)) }
 {
-    let line = report_line(alloc, drawing.block_count(), drawing.line_count(), segments(drawing))?;
+    let line = report_line(
+        alloc,
+        drawing.block_count(),
+        drawing.line_count(),
+        segments(drawing),
+    )?;
     let mut text = Bytes::new(alloc);
     text.append(line.as_bytes())?;
     Ok(text)

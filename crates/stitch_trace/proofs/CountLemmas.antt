@@ -139,7 +139,7 @@ strands_there : (d : DesignValue) → has_links (links_in (moves_along (acts_of 
 strands_there d some =
     some_strand (strands_of d) (has_strands (strands_of d)) refl (λ none. both
     (sym some ∙ (ap has_links (flat_links None (acts_of d) ∙ first_none (blocks_of (acts_of d))) ∙ no_links d 0 (blocks_of
-        (acts_of d)) none)))
+    (acts_of d)) none)))
   where
     both : true ≡ false → ⊥
     both is = cc

@@ -130,7 +130,7 @@ all_known before (Sewn number link ∷ rest) = by_test (is_sewn before link) ref
     by_test false is later =
         let here : known before (link ∷ new) link ≡ true =
         or_right (is_sewn before link) (is_sewn (link ∷ new) link) (or_left (is_same_link link link) (is_sewn new link)
-            (link_found link)) in
+        (link_found link)) in
         rw (here, all_more (known (link ∷ before) new) (known before (link ∷ new)) from_new (links_in rest) later) refl
 
 pub distinct_links : NewLinksAreDistinct

@@ -113,8 +113,11 @@ strands_drawn d e (strand ∷ rest) is = onwards (goes_on (strand_added d strand
         let has : HasChains (with_block d strand.thread) steps.mid strand.chains =
         subst (λ (mid : DrawingValue). HasChains mid steps.mid strand.chains) is_block
         (chains_drawn inner.mid steps.mid strand.chains inner.then) in
-        let more : length (d.threads ++ strand.thread ∷ []) ≡ length d.threads + 1 = omega (arith, length-append d.threads
-            (strand.thread ∷ [])) in
+        let more : length (d.threads ++ strand.thread ∷ []) ≡ length d.threads + 1 = omega (
+          arith,
+          length-append d.threads
+              (strand.thread ∷ []),
+        ) in
         let last : length (d.threads ++ strand.thread ∷ []) - 1 ≡ length d.threads = omega (arith, more) in
         let links : List Link = flat_map links_along strand.chains in
         later steps.mid steps.then

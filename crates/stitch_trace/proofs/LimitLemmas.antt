@@ -141,7 +141,7 @@ after_chains step d e (chain ∷ rest) ready fit used is =
         → (chains_added (with_line d chain) rest ≡ Ok e → IsAfter step (with_line d chain) e) → IsAfter step d e
     onwards steps later =
         let after = later (subst (λ (mid : DrawingValue). chains_added mid rest ≡ Ok e)
-            (line_is d steps.mid chain steps.first) steps.then) in
+        (line_is d steps.mid chain steps.first) steps.then) in
         record { threads = after.threads; ready = after.ready; used = after.used }
 
 some_after : (step : ℕ) (d e : DrawingValue) (chains : List (List Point)) → has_chains chains ≡ true → IsReady step d

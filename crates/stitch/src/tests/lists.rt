@@ -47,9 +47,7 @@ const LISTS: &[Row] = &[
             "needles 2 trims 0 stops 0\n",
             &[(
                 "b.lst",
-                Holds::Bytes(
-                    b"stitch-list 1\nlabel []\nblock 1\nneedle 0 0\nfloat 400 0\nend\n",
-                ),
+                Holds::Bytes(b"stitch-list 1\nlabel []\nblock 1\nneedle 0 0\nfloat 400 0\nend\n",),
             )],
         )],
     },

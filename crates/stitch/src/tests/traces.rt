@@ -92,12 +92,7 @@ const TRACED: &[Row] = &[
     Row {
         before: &[(
             "a.pec",
-            Holds::Behind(
-                b"#PEC0001",
-                536,
-                1,
-                &[0x00, 0x00, 0x88, 0x00, 0x00, 0xFF],
-            ),
+            Holds::Behind(b"#PEC0001", 536, 1, &[0x00, 0x00, 0x88, 0x00, 0x00, 0xFF]),
         )],
         steps: &[refused!(
             &["trace", "a.pec", "s.rw"],

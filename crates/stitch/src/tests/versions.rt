@@ -93,7 +93,10 @@ const NOT_MIGRATED: &[Row] = &[
     },
     // Version 3 is routed, and not migrated.
     Row {
-        before: &[("a.rw", Holds::Bytes(b"\nredwork 3\ncolor 1\nline 0 0 9 9\n"))],
+        before: &[(
+            "a.rw",
+            Holds::Bytes(b"\nredwork 3\ncolor 1\nline 0 0 9 9\n"),
+        )],
         steps: &[
             refused!(TO_TWO, "stitch: a.rw: line 2: not a redwork drawing\n"),
             done!(
@@ -154,9 +157,7 @@ const ENDED: &[Row] = &[
     Row {
         before: &[(
             "a.rw",
-            Holds::Bytes(
-                b"redwork 3\nstep 10\ncolor 1\nline 0 0 40 0\nstart 0 0\nend 40 0\n",
-            ),
+            Holds::Bytes(b"redwork 3\nstep 10\ncolor 1\nline 0 0 40 0\nstart 0 0\nend 40 0\n"),
         )],
         steps: &[
             done!(
@@ -217,10 +218,7 @@ const ENDED: &[Row] = &[
                 b"redwork 3\nstep 30\ncolor 1\nline 0 0 30 0\nline 0 0 30 30\nline 0 0 0 30\nline 30 0 30 30\nline 30 0 0 30\nline 30 30 0 30\nstart 0 0\nstart 30 0\n",
             ),
         )],
-        steps: &[refused!(
-            TO_DST,
-            "stitch: a.rw: line 11: start or end repeated\n"
-        )],
+        steps: &[refused!(TO_DST, "stitch: a.rw: line 11: start or end repeated\n")],
     },
     // A walk that the certificate begins elsewhere, and one that it ends elsewhere.
     Row {
