@@ -6,5 +6,5 @@ BENCH = Path(__file__).resolve().parent.parent
 REPOSITORY = BENCH.parent
 BIN = BENCH / "out" / "bin"
 INPUTS = BENCH / "out" / "inputs"
-DOCUMENT = REPOSITORY / "docs" / "PERFORMANCE.md"
+DOCUMENT = BENCH / "TABLES.md"
 STITCH = REPOSITORY / "crates" / "stitch" / "out" / "stitch"
