@@ -1,10 +1,10 @@
 -- The first record of the bytes that are left.
-use Rattle.std.proofs.Common.{◌≡◌, ℕ, ◌+◌, ◌≤◌, List, [], ◌∷◌, length, get_or, drop, ap, sym, ◌∙◌, arith}
+use Rattle.std.proofs.Common.{◌≡◌, ℕ, ◌+◌, ◌≤◌, List, [], ◌∷◌, ◌++◌, length, get_or, drop, ap, sym, ◌∙◌, arith}
 use Rattle.design_model.specs.declared.point.Point.{Point}
 use Rattle.format_traits.specs.declared.record_reader.Cut.{Cut}
 use Rattle.format_traits.specs.declared.record_reader.Cut.TheVariants as cut
 use Rattle.format_traits.specs.Cutting.{Cuts}
-use Rattle.format_traits.specs.Records.{next}
+use Rattle.format_traits.specs.Records.{Records, next}
 use Rattle.dst_codec.specs.declared.record_kind.RecordKind.{RecordKind}
 use Rattle.dst_codec.specs.Bits.{move_of, kind_of}
 use Rattle.dst_codec.specs.Cuts.{CutsAs}
@@ -26,15 +26,18 @@ cut_three run after at (a ∷ []) k m result long of_kind of_move of_run cuts = 
 cut_three run after at (a ∷ b ∷ []) k m result long of_kind of_move of_run cuts = absurd (let no : ⊥ = omega (arith, long) in no)
 cut_three run after at (a ∷ b ∷ c ∷ rest) k m result long of_kind of_move of_run cuts = by_cut result cuts
   where
+    behind : List ℕ → Records
+    behind more = records_from (run_after k run) (at + 3) (rest ++ more)
     by_cut : (result : Cut) → CutsAs k at run m result
         → Cuts (records_from run) (records_from after) at (a ∷ b ∷ c ∷ rest) result
-    by_cut (cut.Over ended) cuts = record_reads run at a b c rest k m of_kind of_move ∙ cuts _
-    by_cut (cut.Refused f) cuts = record_reads run at a b c rest k m of_kind of_move ∙ cuts _
+    by_cut cut.End cuts = λ more. record_reads run at a b c (rest ++ more) k m of_kind of_move ∙ cuts (behind more)
+    by_cut (cut.Wants ended) cuts = absurd cuts
+    by_cut (cut.Refused f) cuts = λ more. record_reads run at a b c (rest ++ more) k m of_kind of_move ∙ cuts (behind more)
     by_cut (cut.Record event size) cuts = record {
       some = omega (arith, cuts.0);
       there = omega (arith, cuts.0, long);
-      is = record_reads run at a b c rest k m of_kind of_move ∙ cuts.2 (records_from (run_after k run) (at + 3) rest)
-          ∙ ap (λ n. next at event (records_from n (at + 3) rest)) (sym of_run)
-          ∙ ap (λ n. next at event (records_from after (at + n) (drop n (a ∷ b ∷ c ∷ rest)))) (sym cuts.0);
+      is = λ more. record_reads run at a b c (rest ++ more) k m of_kind of_move ∙ cuts.2 (behind more)
+          ∙ ap (λ n. next at event (records_from n (at + 3) (rest ++ more))) (sym of_run)
+          ∙ ap (λ n. next at event (records_from after (at + n) (drop n (a ∷ b ∷ c ∷ rest) ++ more))) (sym cuts.0);
       small = cuts.1;
     }

@@ -21,7 +21,8 @@ is_other kind.End = true
 
 -- what the cut of a record of that kind means, whatever stands behind it
 abbrev pub CutsAs : RecordKind → ℕ → ℕ → Point → Cut → Type 0
-CutsAs k at run m (cut.Over ended) = (rest : Records) → record_as k at run m rest ≡ over ended
+CutsAs k at run m cut.End = (rest : Records) → record_as k at run m rest ≡ over true
+CutsAs k at run m (cut.Wants ended) = ⊥
 CutsAs k at run m (cut.Refused f) = (rest : Records) → record_as k at run m rest ≡ refused f
 CutsAs k at run m (cut.Record event size) = (size ≡ 3)
     × IsTrue (list_all (λ move. is_within GREATEST_STEP move) (moves_in event))

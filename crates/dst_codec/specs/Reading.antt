@@ -2,6 +2,7 @@
 -- records in the unbroken run that came just before, counted up to three.
 use Rattle.std.specs.Prelude.{ℕ, ◌+◌, min, true, false, nat_eq, nat_lt, List, [], ◌∷◌, length, take, drop, Result, Err, ◌==◌, codes, if◌then◌else◌}
 use Rattle.std.specs.List.{starts_with}
+use Rattle.design_model.specs.declared.command.Command.{Command}
 use Rattle.design_model.specs.declared.design.TheConstants.{MAX_LABEL}
 use Rattle.design_model.specs.declared.point.Point.{Point}
 use Rattle.format_traits.specs.declared.event.Event.{Event}
@@ -10,8 +11,8 @@ use Rattle.format_traits.specs.declared.fault.ReadFault.{ReadFault}
 use Rattle.format_traits.specs.declared.fault.ReadFault.TheVariants as fault
 use Rattle.format_traits.specs.declared.loaded.Loaded.{Loaded}
 use Rattle.format_traits.specs.LabelFields.{label_in}
-use Rattle.format_traits.specs.Readings.{loaded_with}
-use Rattle.format_traits.specs.Records.{Records, over, refused, next, course_of, moves_of}
+use Rattle.format_traits.specs.Layouts.{Layout, given_by, reads_by}
+use Rattle.format_traits.specs.Records.{Records, over, refused, next, moves_of}
 use Rattle.dst_codec.specs.declared.header.TheConstants.{HEADER_LENGTH}
 use Rattle.dst_codec.specs.declared.record_kind.RecordKind.{RecordKind}
 use Rattle.dst_codec.specs.declared.record_kind.RecordKind.TheVariants as kind
@@ -54,11 +55,22 @@ abbrev pub label_of : List ℕ → List ℕ
 label_of bytes =
     if starts_with nat_eq bytes (codes "LA:") then label_in (take MAX_LABEL (drop 3 bytes)) else []
 
+-- the header has the label, and the records stand behind it
+abbrev pub layout : Layout
+layout = record {
+  header = HEADER_LENGTH;
+  label = label_of;
+  threads = λ bytes. [];
+  records = records_from 0;
+}
+
 -- what a file reads as
 abbrev pub reads : List ℕ → Result Loaded ReadFault
-reads bytes =
-    if nat_lt (length bytes) HEADER_LENGTH then Err (fault.Short (length bytes))
-    else loaded_with (label_of bytes) [] (course_of (records_in bytes))
+reads bytes = reads_by layout 0 bytes
+
+-- the commands of its records that are whole
+abbrev pub shown : List ℕ → List Command
+shown bytes = given_by layout 0 bytes
 
 -- the moves of a file's records, before its end or its first refusal
 abbrev pub moves : List ℕ → List Point

@@ -1,7 +1,9 @@
-use crate::reading::read_file;
+use crate::runs::Run;
 use crate::writing::write_file;
-use design_model::{Bytes, Design};
-use format_traits::{Format, Loaded, Reach, ReadFault, WriteFault};
+use design_model::{Bytes, Command, Design, Memory};
+use format_traits::{
+    Fed, Feed, Format, Loaded, Reach, ReadFault, RecordDecoder, WriteFault, decode_whole,
+};
 use std::alloc::Global;
 
 /// The greatest move of a record on each axis, in tenths of a millimetre.
@@ -21,13 +23,31 @@ pub const REACH: Reach = Reach {
 };
 
 /// The DST format.
-#[derive(Clone, Copy, Debug, PartialEq, Eq)]
-pub struct Dst;
+#[derive(Drop)]
+pub struct Dst {
+    feed: Feed<RecordDecoder<Run>>,
+}
+
+impl Dst {
+    ghost use Rattle.dst_codec.specs.Reading.{reads, shown};
+    ghost use Rattle.format_traits.specs.Feeding.{IsFresh};
+
+    /// The format object, to which nothing was fed. It takes no memory.
+    pub fn new(alloc: Global) -> Dst
+        ensures { IsFresh reads shown (⟦<Dst as Format>⟧.feeding result) }
+    {
+        Dst {
+            feed: Feed::new(decoder(alloc)),
+        }
+    }
+}
 
 impl Format for Dst {
     ghost use Rattle.dst_codec.specs.Format.{dst as dst_meaning};
 
     ghost meaning = { λ _. dst_meaning };
+
+    ghost feeding = { λ d. ⟦<Feed<RecordDecoder<Run>> as Fed>⟧.feeding d.feed };
 
     fn ext(&self) -> &str {
         "dst"
@@ -38,10 +58,34 @@ impl Format for Dst {
     }
 
     fn decode(&self, alloc: Global, bytes: &[u8]) -> Result<Loaded, ReadFault> {
-        read_file(alloc, bytes)
+        decode_whole(decoder(alloc), 0, bytes)
     }
 
     fn encode(&self, alloc: Global, design: &Design) -> Result<Bytes, WriteFault> {
         write_file(alloc, design)
     }
+
+    fn begin(&mut self) {
+        self.feed.begin(0);
+    }
+
+    fn feed(&mut self, piece: &[u8]) -> Result<(), Memory> {
+        self.feed.feed(piece)
+    }
+
+    fn finish(&mut self) -> Result<Loaded, ReadFault> {
+        self.feed.finish()
+    }
+
+    fn taken(&self) -> u64 {
+        self.feed.taken
+    }
+
+    fn so_far(&self) -> &[Command] {
+        self.feed.so_far()
+    }
+}
+
+fn decoder(alloc: Global) -> RecordDecoder<Run> {
+    RecordDecoder::new(alloc, Run { jumps: 0 })
 }

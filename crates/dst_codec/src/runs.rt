@@ -5,8 +5,10 @@ ghost use Rattle.dst_codec.specs.Cuts.{CutsAs, is_other};
 ghost use Rattle.dst_codec.specs.Reading.{jump_after as jump_after_run, run_after as run_after_kind};
 
 use crate::bits::{decode_move, record_kind};
+use crate::header::HEADER_LENGTH;
+use crate::reading::read_header;
 use crate::record_kind::RecordKind;
-use design_model::Point;
+use design_model::{Design, Point};
 use format_traits::{Cut, Event, ReadFault, RecordReader};
 
 /// The jump records in the unbroken run before the next record, counted up to three.
@@ -16,13 +18,28 @@ pub struct Run {
 }
 
 impl RecordReader for Run {
-    ghost use Rattle.dst_codec.specs.Reading.{records_from};
+    ghost use Rattle.dst_codec.specs.Reading.{layout as dst_layout, records_from};
+
+    ghost layout = { dst_layout };
 
     ghost records = { λ run. records_from run.jumps };
 
+    fn header_length(&self) -> usize {
+        HEADER_LENGTH
+    }
+
+    fn read_header(&self, design: &mut Design, header: &[u8]) {
+        read_header(design, header);
+    }
+
+    fn restart(&mut self) -> bool {
+        self.jumps = 0;
+        false
+    }
+
     fn next(&mut self, at: u64, bytes: &[u8]) -> Cut {
         let [first, second, third, ..] = bytes else {
-            return Cut::Over { ended: false };
+            return Cut::Wants { ended: false };
         };
         let step = decode_move([*first, *second, *third]);
         let kind = record_kind(*third);
@@ -71,7 +88,7 @@ fn cut_other(kind: RecordKind, at: u64, step: Point) -> Cut
 {
     match kind {
         RecordKind::Sequin => Cut::Refused(ReadFault::Sequin { at }),
-        RecordKind::End => Cut::Over { ended: true },
+        RecordKind::End => Cut::End,
         _ => Cut::Record {
             event: Event::StopBy(step),
             size: 3,

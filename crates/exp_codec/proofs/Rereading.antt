@@ -14,6 +14,7 @@ use Rattle.format_traits.specs.Readings.{loaded_with}
 use Rattle.format_traits.specs.Records.{next}
 use Rattle.format_traits.specs.Refusals.{first_refusal}
 use Rattle.format_traits.specs.Rereading.{Taken, RereadsSpelling, TellActs, SpelledActsReadAgain}
+use Rattle.exp_codec.proofs.UnitLemmas.{reads_units}
 use Rattle.exp_codec.specs.declared.exp.TheConstants.{LIMIT}
 use Rattle.exp_codec.specs.Format.{exp}
 use Rattle.exp_codec.specs.Units.{signed, move_of, units_from}
@@ -99,6 +100,7 @@ exp_is_codec law = record {
         ended = true;
       } in
       let again : IsAgain d loaded = record { acts = t.again; ended = refl } in
-      subst (λ result. IsOkAnd (loaded_with [] [] result) (λ loaded. IsAgain d loaded)) (sym t.course) again;
+      subst (λ result. IsOkAnd result (λ loaded. IsAgain d loaded)) (sym (reads_units (file_of d)))
+      (subst (λ result. IsOkAnd (loaded_with [] [] result) (λ loaded. IsAgain d loaded)) (sym t.course) again);
   within = λ d limits passed. (tells law d limits passed).within;
 }

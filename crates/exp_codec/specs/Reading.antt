@@ -1,15 +1,24 @@
--- What a file reads as: its units. It has no label and no threads.
+-- What a file reads as: its units. It has no header, no label and no threads.
 use Rattle.std.specs.Prelude.{ℕ, List, [], Result}
+use Rattle.design_model.specs.declared.command.Command.{Command}
 use Rattle.design_model.specs.declared.point.Point.{Point}
 use Rattle.format_traits.specs.declared.fault.ReadFault.{ReadFault}
 use Rattle.format_traits.specs.declared.loaded.Loaded.{Loaded}
-use Rattle.format_traits.specs.Readings.{loaded_with}
-use Rattle.format_traits.specs.Records.{course_of, moves_of}
+use Rattle.format_traits.specs.Layouts.{Layout, given_by, reads_by}
+use Rattle.format_traits.specs.Records.{moves_of}
 use Rattle.exp_codec.specs.Units.{units_from}
+
+-- units alone
+abbrev pub layout : Layout
+layout = record { header = 0; label = λ bytes. []; threads = λ bytes. []; records = units_from }
 
 -- what a file reads as
 abbrev pub reads : List ℕ → Result Loaded ReadFault
-reads bytes = loaded_with [] [] (course_of (units_from 0 bytes))
+reads bytes = reads_by layout 0 bytes
+
+-- the commands of its units that are whole
+abbrev pub shown : List ℕ → List Command
+shown bytes = given_by layout 0 bytes
 
 -- the moves of a file's units, before its end or its first refusal
 abbrev pub moves : List ℕ → List Point

@@ -1,20 +1,40 @@
-use crate::reading::read_file;
+use crate::units::Units;
 use crate::writing::write_file;
-use design_model::{Bytes, Design};
-use format_traits::{Format, Loaded, ReadFault, WriteFault};
+use design_model::{Bytes, Command, Design, Memory};
+use format_traits::{
+    Fed, Feed, Format, Loaded, ReadFault, RecordDecoder, WriteFault, decode_whole,
+};
 use std::alloc::Global;
 
 /// The greatest move of a unit that is written on each axis, in tenths of a millimetre.
 pub const LIMIT: u32 = 127;
 
 /// The EXP format.
-#[derive(Clone, Copy, Debug, PartialEq, Eq)]
-pub struct Exp;
+#[derive(Drop)]
+pub struct Exp {
+    feed: Feed<RecordDecoder<Units>>,
+}
+
+impl Exp {
+    ghost use Rattle.exp_codec.specs.Reading.{reads, shown};
+    ghost use Rattle.format_traits.specs.Feeding.{IsFresh};
+
+    /// The format object, to which nothing was fed. It takes no memory.
+    pub fn new(alloc: Global) -> Exp
+        ensures { IsFresh reads shown (⟦<Exp as Format>⟧.feeding result) }
+    {
+        Exp {
+            feed: Feed::new(decoder(alloc)),
+        }
+    }
+}
 
 impl Format for Exp {
     ghost use Rattle.exp_codec.specs.Format.{exp as exp_meaning};
 
     ghost meaning = { λ _. exp_meaning };
+
+    ghost feeding = { λ d. ⟦<Feed<RecordDecoder<Units>> as Fed>⟧.feeding d.feed };
 
     fn ext(&self) -> &str {
         "exp"
@@ -25,10 +45,34 @@ impl Format for Exp {
     }
 
     fn decode(&self, alloc: Global, bytes: &[u8]) -> Result<Loaded, ReadFault> {
-        read_file(alloc, bytes)
+        decode_whole(decoder(alloc), 0, bytes)
     }
 
     fn encode(&self, alloc: Global, design: &Design) -> Result<Bytes, WriteFault> {
         write_file(alloc, design)
     }
+
+    fn begin(&mut self) {
+        self.feed.begin(0);
+    }
+
+    fn feed(&mut self, piece: &[u8]) -> Result<(), Memory> {
+        self.feed.feed(piece)
+    }
+
+    fn finish(&mut self) -> Result<Loaded, ReadFault> {
+        self.feed.finish()
+    }
+
+    fn taken(&self) -> u64 {
+        self.feed.taken
+    }
+
+    fn so_far(&self) -> &[Command] {
+        self.feed.so_far()
+    }
+}
+
+fn decoder(alloc: Global) -> RecordDecoder<Units> {
+    RecordDecoder::new(alloc, Units)
 }

@@ -4,7 +4,6 @@
 
 mod exp;
 mod promises;
-mod reading;
 mod spelling;
 #[cfg(test)]
 mod tests;

@@ -5,7 +5,7 @@ ghost use Rattle.format_traits.specs.declared.record_reader.TheConstants.{GREATE
 ghost use Rattle.format_traits.specs.Records.{moves_in};
 ghost use Rattle.exp_codec.specs.Units.{control_event as event_of_control, signed as signed_of, move_of as move_of_bytes};
 
-use design_model::Point;
+use design_model::{Design, Point};
 use format_traits::{Cut, Event, ReadFault, RecordReader};
 
 /// The first byte of a unit of four bytes.
@@ -28,13 +28,26 @@ pub const TRIM: u8 = 0x80;
 pub struct Units;
 
 impl RecordReader for Units {
+    ghost use Rattle.exp_codec.specs.Reading.{layout as exp_layout};
     ghost use Rattle.exp_codec.specs.Units.{units_from};
+
+    ghost layout = { exp_layout };
 
     ghost records = { λ _. units_from };
 
+    fn header_length(&self) -> usize {
+        0
+    }
+
+    fn read_header(&self, _design: &mut Design, _header: &[u8]) {}
+
+    fn restart(&mut self) -> bool {
+        true
+    }
+
     fn next(&mut self, at: u64, bytes: &[u8]) -> Cut {
         let [first, second, behind @ ..] = bytes else {
-            return Cut::Over {
+            return Cut::Wants {
                 ended: bytes.is_empty(),
             };
         };
@@ -45,7 +58,7 @@ impl RecordReader for Units {
             };
         }
         let [x, y, ..] = behind else {
-            return Cut::Over { ended: false };
+            return Cut::Wants { ended: false };
         };
         match control_event(*second, move_of(*x, *y)) {
             Some(event) => Cut::Record { event, size: 4 },

@@ -13,6 +13,7 @@ named ending = record {
   reads = λ bytes. loaded_with [] [] (course_of (over true));
   writes = λ d. Ok [];
   moves = λ bytes. [];
+  shown = λ bytes. [];
 }
 
 -- the part after the last dot, which may be empty

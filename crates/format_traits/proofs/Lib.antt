@@ -5,6 +5,8 @@ pub mod EndingLemmas
 pub mod PointLemmas
 mod LimitFacts
 mod PlacingFacts
+pub mod StreamLemmas
+pub mod FeedLemmas
 mod RecordFacts
 mod RereadingFacts
 pub mod WriterLemmas

@@ -8,6 +8,7 @@ use Rattle.design_model.specs.Designs.{DesignValue}
 use Rattle.format_traits.specs.declared.fault.ReadFault.{ReadFault}
 use Rattle.format_traits.specs.declared.fault.ReadFault.TheVariants as fault
 use Rattle.format_traits.specs.Readings.{Course, tries}
+use Rattle.format_traits.specs.Records.{taken_of}
 
 -- the same design but for its commands
 pub record SameButCommands (old new : DesignValue) : Type 0 where
@@ -23,19 +24,17 @@ abbrev pub Fit : List Command → DesignValue → Type 0
 Fit commands d = IsTrue (list_all is_in_range commands)
     × (length d.commands + length commands ≤ MAX_COMMANDS)
 
--- trying the commands of the record at that offset comes to a refusal
-abbrev pub Refuses : ℕ → List Command → DesignValue → ReadFault → Type 0
-Refuses at commands d f =
-    (rest : Result Course ReadFault) → tries at (length d.commands) commands rest ≡ Err f
+-- trying the commands of the record at that offset comes to a refusal, and those before the one
+-- that is refused are kept
+pub record Refuses (at : ℕ) (commands : List Command) (old : DesignValue) (f : ReadFault)
+    (new : DesignValue) : Type 0 where
+  pub is : (rest : Result Course ReadFault) → tries at (length old.commands) commands rest ≡ Err f
+  pub kept : (rest : List Command)
+      → new.commands ≡ old.commands ++ taken_of (length old.commands) commands rest
 
 -- what each answer means
 abbrev pub Keeps : {T : Type 0} → ℕ → List Command → DesignValue → Result T ReadFault → DesignValue
     → Type 0
 Keeps at commands old (Ok _) new = Fit commands old × (new ≡ with_commands old commands)
-Keeps at commands old (Err (fault.Short a)) new = Refuses at commands old (fault.Short a)
-Keeps at commands old (Err (fault.Signature a)) new = Refuses at commands old (fault.Signature a)
-Keeps at commands old (Err (fault.Sequin a)) new = Refuses at commands old (fault.Sequin a)
-Keeps at commands old (Err (fault.Control a)) new = Refuses at commands old (fault.Control a)
-Keeps at commands old (Err (fault.Range a)) new = Refuses at commands old (fault.Range a)
-Keeps at commands old (Err (fault.TooMany a)) new = Refuses at commands old (fault.TooMany a)
 Keeps at commands old (Err fault.Memory) new = Unit {0}
+Keeps at commands old (Err f) new = Refuses at commands old f new

@@ -8,9 +8,14 @@ pub mod Readings
 pub mod Keeping
 pub mod Records
 pub mod Cutting
+pub mod Streams
+pub mod Layouts
+pub mod RecordStreams
 pub mod Spellings
 -- read this one first: what a format means
 pub mod Meanings
 pub mod Laws
+pub mod Feeding
+pub mod Feeds
 pub mod Rereading
 pub mod Endings

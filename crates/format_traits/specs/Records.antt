@@ -1,6 +1,6 @@
 -- The records of a file, in any format, and the commands that they come to. Each record stands at
 -- an offset of the file and asks for one event.
-use Rattle.std.specs.Prelude.{ℕ, ◌+◌, Bool, true, false, ◌&&◌, List, [], ◌∷◌, ◌++◌, length, nat_le, Result, Ok, Err, if◌then◌else◌}
+use Rattle.std.specs.Prelude.{ℕ, ◌+◌, Bool, true, false, ◌&&◌, List, [], ◌∷◌, ◌++◌, length, nat_le, nat_lt, Result, Ok, Err, if◌then◌else◌}
 use Rattle.std.specs.List.{list_all}
 use Rattle.design_model.specs.declared.command.Command.{Command}
 use Rattle.design_model.specs.declared.command.Command.TheVariants as command
@@ -76,6 +76,27 @@ reads_from count place (next at event rest) =
 -- what all records of a file come to
 abbrev pub course_of : Records → Result Course ReadFault
 course_of records = reads_from 0 origin records
+
+-- the commands of one record that are taken after so many, up to the first that is refused, and
+-- those that come of the rest where none is
+abbrev pub taken_of : ℕ → List Command → List Command → List Command
+taken_of count [] rest = rest
+taken_of count (command ∷ more) rest =
+    if is_in_range command && nat_lt count MAX_COMMANDS
+    then command ∷ taken_of (count + 1) more rest else []
+
+-- the commands that records give before the end and before the first refusal, after so many
+-- commands and at that place
+abbrev pub given_from : ℕ → Point → Records → List Command
+given_from count place (over ended) = []
+given_from count place (refused f) = []
+given_from count place (next at event rest) =
+    let commands = commands_of event place in
+    taken_of count commands (given_from (count + length commands) (place_by event place) rest)
+
+-- those of all records of a file
+abbrev pub given_of : Records → List Command
+given_of records = given_from 0 origin records
 
 -- commands of a record that are kept, after so many
 abbrev pub are_kept : ℕ → List Command → Bool

@@ -1,12 +1,14 @@
-ghost use Rattle.std.specs.Prelude.{◌≡◌, ◌≤◌, IfOk, IsOk};
+ghost use Rattle.std.specs.Prelude.{◌≡◌, ◌+◌, ◌≤◌, [], false, length, IfOk, IsOk};
+ghost use Rattle.format_traits.specs.declared.feed.TheConstants.{MAX_FED};
 ghost use Rattle.format_traits.specs.declared.format_object.TheConstants.{LEAST_LIMIT, GREATEST_LIMIT};
+ghost use Rattle.format_traits.specs.Feeding.{Feeds, Finishes, IsFresh};
 ghost use Rattle.format_traits.specs.PlainDesigns.{IsPlain};
 ghost use Rattle.format_traits.specs.Laws.{IsEnding, Reads, Writes, ReadsAgain, MovesWithin};
 
 use crate::fault::{ReadFault, WriteFault};
 use crate::format_object::Format;
 use crate::loaded::Loaded;
-use design_model::{Bytes, Design};
+use design_model::{Bytes, Command, Design, Memory};
 use std::alloc::Global;
 
 /// The ending of a boxed object.
@@ -46,4 +48,45 @@ pub fn encode_by(
         → IsOk ((meaning format.now).writes design.now) }
 {
     format.encode(alloc, design)
+}
+
+/// Forgets all that was fed to a boxed object.
+pub fn begin_by(format: &mut Box<dyn Format>)
+    ensures same { meaning format.new ≡ meaning format.old }
+    ensures fresh { IsFresh (meaning format.old).reads (meaning format.old).shown (feeding format.new) }
+{
+    format.begin();
+}
+
+/// Feeds a boxed object.
+pub fn feed_by(format: &mut Box<dyn Format>, piece: &[u8]) -> Result<(), Memory>
+    requires { (feeding format.old).taken + length piece.now ≤ MAX_FED }
+    ensures same { meaning format.new ≡ meaning format.old }
+    ensures feeds { Feeds (feeding format.old) piece.now result (feeding format.new) }
+{
+    format.feed(piece)
+}
+
+/// What the file that was fed to a boxed object reads as.
+pub fn finish_by(format: &mut Box<dyn Format>) -> Result<Loaded, ReadFault>
+    ensures same { meaning format.new ≡ meaning format.old }
+    ensures told { Finishes (meaning format.old).reads (meaning format.old).shown (feeding format.old) result
+        (feeding format.new) }
+{
+    format.finish()
+}
+
+/// The number of bytes fed to a boxed object.
+pub fn taken_by(format: &Box<dyn Format>) -> u64
+    ensures { result ≡ (feeding format.now).taken }
+{
+    format.taken()
+}
+
+/// The commands that a boxed object read so far.
+pub fn so_far_by(format: &Box<dyn Format>) -> &[Command]
+    requires { (feeding format.now).spoiled ≡ false }
+    ensures { result.now ≡ (feeding format.now).given [] }
+{
+    format.so_far()
 }

@@ -4,25 +4,36 @@
 
 mod act_writing;
 mod boxed;
+mod decoder;
 mod event;
+mod event_keeping;
 mod fault;
+mod feed;
 mod format_object;
 mod keeping;
 mod label_fields;
 mod laws;
 mod loaded;
 mod lookup;
+mod passing;
 mod placing;
+mod record_decoder;
+mod record_loop;
 mod record_reader;
 mod record_writer;
+mod stage;
 mod standing;
 #[cfg(test)]
 mod tests;
 
 pub use act_writing::put_acts;
-pub use boxed::{decode_by, encode_by, ext_of, limit_of};
+pub use boxed::{
+    begin_by, decode_by, encode_by, ext_of, feed_by, finish_by, limit_of, so_far_by, taken_by,
+};
+pub use decoder::{Decoder, MOST_PENDING};
 pub use event::Event;
 pub use fault::{ReadFault, WriteFault};
+pub use feed::{Fed, Feed, MAX_FED};
 pub use format_object::{Format, GREATEST_LIMIT, LEAST_LIMIT};
 pub use label_fields::{put_label, put_spaces, read_label};
 pub use laws::{
@@ -31,7 +42,10 @@ pub use laws::{
 };
 pub use loaded::Loaded;
 pub use lookup::find;
+pub use passing::decode_whole;
 pub use placing::{GREATEST_MOVE, MOST_HOPS, hops, move_between, moved, part_move, size_of};
-pub use record_reader::{Cut, GREATEST_STEP, RecordReader, read_records};
+pub use record_decoder::RecordDecoder;
+pub use record_reader::{Cut, GREATEST_STEP, MOST_RECORD, RecordReader};
 pub use record_writer::RecordWriter;
+pub use stage::Stage;
 pub use standing::{Reach, Standing};

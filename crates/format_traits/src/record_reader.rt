@@ -1,26 +1,20 @@
-ghost use Rattle.std.specs.Prelude.{◌≡◌, ◌+◌, ◌<◌, ◌^◌, [], length, true, IsTrue, IfOk};
-ghost use Rattle.std.specs.List.{list_all};
-ghost use Rattle.design_model.specs.declared.point.TheConstants.{JUMP_LIMIT};
-ghost use Rattle.design_model.specs.Points.{is_within};
-ghost use Rattle.format_traits.specs.declared.record_reader.TheConstants.{GREATEST_STEP};
-ghost use Rattle.format_traits.specs.Cutting.{ReadsRecords};
-ghost use Rattle.format_traits.specs.Keeping.{Keeps, SameButCommands};
-ghost use Rattle.format_traits.specs.Records.{commands_at, commands_of, cuts, moves_in, place_by};
-
 use crate::event::Event;
 use crate::fault::ReadFault;
-use crate::keeping::{keep, keep_both};
-use crate::placing::moved;
-use design_model::{Command, Design, Point};
+use design_model::Design;
 
 /// The greatest move of a record on each axis that a format can read, in tenths of a millimetre.
 pub const GREATEST_STEP: u32 = 2048;
 
+/// All records of a format have fewer bytes than this.
+pub const MOST_RECORD: usize = 5;
+
 /// What stands first in the bytes that are left of a file.
 #[derive(Clone, Copy, Debug, PartialEq, Eq)]
 pub enum Cut {
-    /// No further record: the file has its end here, or stops without one.
-    Over { ended: bool },
+    /// The file has its end here.
+    End,
+    /// Too few bytes for a record. A file that stops with them has an end, or has none.
+    Wants { ended: bool },
     /// What the file is refused for.
     Refused(ReadFault),
     /// A record of so many bytes.
@@ -29,133 +23,42 @@ pub enum Cut {
     Record { event: Event, size: usize },
 }
 
-/// The records of a format, cut from the bytes of a file in order.
+/// The records of a format, cut from the bytes of a file in order, and the header before them.
 pub trait RecordReader {
-    ghost use Rattle.std.specs.Prelude.{ℕ, List};
-    ghost use Rattle.format_traits.specs.Records.{Records};
+    ghost use Rattle.std.specs.Prelude.{ℕ, List, [], ◌≡◌, ◌++◌, ◌≤◌, length};
+    ghost use Rattle.design_model.specs.Designs.{empty_design};
+    ghost use Rattle.format_traits.specs.declared.decoder.TheConstants.{MOST_PENDING};
+    ghost use Rattle.format_traits.specs.Layouts.{Layout};
+    ghost use Rattle.format_traits.specs.Records.{Records, over};
     ghost use Rattle.format_traits.specs.Cutting.{Cuts};
+
+    /// The header, and the records behind it.
+    ghost layout: { Layout };
 
     /// The records of the bytes from an offset on.
     ghost records: { Self → ℕ → List ℕ → Records };
 
+    /// The bytes of the header.
+    fn header_length(&self) -> usize
+        ensures value { result ≡ layout.header }
+        ensures fits { result ≤ MOST_PENDING };
+
+    /// Takes the label and the threads that a header tells into a design that is empty.
+    fn read_header(&self, design: &mut Design, header: &[u8])
+        requires length { length header.now ≡ layout.header }
+        requires empty { design.old ≡ empty_design }
+        ensures { (more : List ℕ) → design.new ≡ record {
+          label = layout.label (header.now ++ more);
+          threads = layout.threads (header.now ++ more);
+          commands = [];
+        } };
+
+    /// Begins anew, and says whether a file without any record has an end.
+    fn restart(&mut self) -> bool
+        ensures same { (at : ℕ) (bytes : List ℕ) → records self.new at bytes ≡ layout.records at bytes }
+        ensures none { (at : ℕ) → layout.records at [] ≡ over result };
+
     /// Cuts off the record at that offset, where the bytes begin.
     fn next(&mut self, at: u64, bytes: &[u8]) -> Cut
         ensures { Cuts (records self.old) (records self.new) at bytes.now result };
-}
-
-/// Adds the commands of all records, which begin at an offset, to a design that has none, and says
-/// whether the file has an end. The label and the threads stay, also where a record is refused.
-#[tactic(auto, using(crate::proofs::KeepingLemmas::same_on))]
-pub fn read_records<R: RecordReader + Drop>(
-    design: &mut Design,
-    reader: R,
-    start: u64,
-    bytes: &[u8],
-) -> Result<bool, ReadFault>
-    requires none { design.old.commands ≡ [] }
-    requires start { start + length bytes.now < 2 ^ 64 }
-    ensures { ReadsRecords (R.records reader start bytes.now) design.old result design.new }
-{
-    let mut reader = reader;
-    let mut at = start;
-    let mut place = Point { x: 0, y: 0 };
-    let mut rest = bytes;
-    loop {
-        match reader.next(at, rest) {
-            Cut::Over { ended } => return Ok(ended),
-            Cut::Refused(fault) => return Err(fault),
-            Cut::Record { event, size } => match keep_event(design, at, place, event) {
-                Ok(there) => {
-                    place = there;
-                    at += size as u64;
-                    rest = &rest[size..];
-                }
-                Err(fault) => return Err(fault),
-            },
-        }
-    }
-}
-
-/// Adds the commands of the record at that offset, and gives the place after it.
-// A stitch goes the same way as the others, but in a copy of its own: LLVM then knows all along it
-// that the event is one.
-#[inline(always)]
-fn keep_event(design: &mut Design, at: u64, place: Point, event: Event) -> Result<Point, ReadFault>
-    requires place { IsTrue (is_within JUMP_LIMIT place) }
-    requires small { IsTrue (list_all (λ move. is_within GREATEST_STEP move) (moves_in event)) }
-    ensures value { Keeps at (commands_of event place) design.old result design.new }
-    ensures place { IfOk result (λ there. there ≡ place_by event place) }
-    ensures range { IfOk result (λ there. IsTrue (is_within JUMP_LIMIT there)) }
-    ensures others { SameButCommands design.old design.new }
-{
-    match event {
-        Event::Stitch(_) => keep_here(design, at, place, event),
-        _ => keep_here(design, at, place, event),
-    }
-}
-
-#[inline(always)]
-fn keep_here(design: &mut Design, at: u64, place: Point, event: Event) -> Result<Point, ReadFault>
-    requires place { IsTrue (is_within JUMP_LIMIT place) }
-    requires small { IsTrue (list_all (λ move. is_within GREATEST_STEP move) (moves_in event)) }
-    ensures value { Keeps at (commands_of event place) design.old result design.new }
-    ensures place { IfOk result (λ there. there ≡ place_by event place) }
-    ensures range { IfOk result (λ there. IsTrue (is_within JUMP_LIMIT there)) }
-    ensures others { SameButCommands design.old design.new }
-{
-    let there = place_after(place, event);
-    match keep_commands(design, at, event, there) {
-        Ok(()) => Ok(there),
-        Err(fault) => Err(fault),
-    }
-}
-
-/// The place after an event.
-fn place_after(place: Point, event: Event) -> Point
-    requires place { IsTrue (is_within JUMP_LIMIT place) }
-    requires small { IsTrue (list_all (λ move. is_within GREATEST_STEP move) (moves_in event)) }
-    ensures { result ≡ place_by event place }
-{
-    match event {
-        Event::Trim | Event::Stop => place,
-        Event::Stitch(step) | Event::Jump(step) | Event::TrimmedJump(step) | Event::StopBy(step) =>
-            moved(place, step),
-    }
-}
-
-/// Adds the commands of an event after which the hoop is there.
-#[inline(always)]
-fn keep_commands(design: &mut Design, at: u64, event: Event, there: Point) -> Result<(), ReadFault>
-    ensures value { Keeps at (commands_at event there) design.old result design.new }
-    ensures others { SameButCommands design.old design.new }
-{
-    match event {
-        Event::Stitch(_) => keep(design, at, Command::Stitch(there)),
-        Event::Jump(_) => keep(design, at, Command::Jump(there)),
-        Event::TrimmedJump(_) | Event::Trim | Event::Stop | Event::StopBy(_) => {
-            keep_cut(design, at, event, there)
-        }
-    }
-}
-
-/// The same for an event that trims or stops. These are few, and so apart from the readers' loops.
-#[cold]
-#[inline(never)]
-fn keep_cut(design: &mut Design, at: u64, event: Event, there: Point) -> Result<(), ReadFault>
-    requires { cuts event ≡ true }
-    ensures value { Keeps at (commands_at event there) design.old result design.new }
-    ensures others { SameButCommands design.old design.new }
-{
-    if let Event::TrimmedJump(_) = event {
-        return keep_both(design, at, Command::Trim, Command::Jump(there));
-    }
-    if let Event::Trim = event {
-        return keep(design, at, Command::Trim);
-    }
-    match event {
-        Event::StopBy(step) if step.x != 0 || step.y != 0 => {
-            keep_both(design, at, Command::Stop, Command::Jump(there))
-        }
-        _ => keep(design, at, Command::Stop),
-    }
 }

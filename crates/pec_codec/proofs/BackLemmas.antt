@@ -21,7 +21,7 @@ use Rattle.format_traits.specs.Spellings.{records_of}
 use Rattle.pec_codec.specs.declared.block.TheConstants.{HEADER_LENGTH, LIMIT, MAX_STOPS}
 use Rattle.pec_codec.specs.Header.{header_of, label_of, threads_in, threads_of}
 use Rattle.pec_codec.specs.Laws.{BlocksKeepLaws, Restores, ReadsBack}
-use Rattle.pec_codec.specs.Reading.{moves_at, reads_at, records_at}
+use Rattle.pec_codec.specs.Reading.{moves_at, reads_at, records_at, shown_at}
 use Rattle.pec_codec.specs.Records.{pec_records}
 use Rattle.pec_codec.specs.Writing.{block_of, body_of, distance_over, reach, spelling, thumbnails_of, writes}
 use Rattle.pec_codec.proofs.HeaderLemmas.{labels_fit, length-header_of}
@@ -124,7 +124,7 @@ of_written d P (Some f) is holds = tt
 
 -- a file that is a block alone, as a format
 abbrev alone : Meaning
-alone = record { ending = []; limit = LIMIT; reads = reads_at 0; writes = writes; moves = moves_at 0 }
+alone = record { ending = []; limit = LIMIT; reads = reads_at 0; writes = writes; moves = moves_at 0; shown = shown_at 0 }
 
 fewer_stops : (count : ℕ) → count ≤ 254 → nat_lt MAX_STOPS count ≡ false
 fewer_stops count few = le-ltb MAX_STOPS count few

@@ -5,6 +5,7 @@ pub mod HeaderLemmas
 pub mod LabelLemmas
 mod LimitFacts
 pub mod ReadingLemmas
+pub mod ThreadLemmas
 mod RecordFacts
 pub mod RecordLemmas
 pub mod RereadingLemmas

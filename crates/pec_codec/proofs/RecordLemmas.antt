@@ -1,12 +1,16 @@
 -- The record that is cut, and those behind it, are all records.
-use Rattle.std.proofs.Common.{◌≡◌, ℕ, zero, suc, ◌+◌, ◌-◌, ◌<◌, ◌≤◌, false, List, [], ◌∷◌, length, drop, ap, sym, ◌∙◌, arith}
+use Rattle.std.proofs.Common.{◌≡◌, ℕ, zero, suc, ◌+◌, ◌-◌, ◌<◌, ◌≤◌, Bool, true, false, ◌&&◌, ◌==◌, nat_lt, List, [], ◌∷◌, ◌++◌, length, drop, Option, Some, None, if◌then◌else◌, refl, ap, sym, subst, ◌∙◌, arith, length-append}
+use Rattle.std.proofs.lemmas.Bool.{false≢true}
+use Rattle.std.proofs.lemmas.List.{drop-append-le}
 use Rattle.format_traits.specs.declared.event.Event.{Event}
 use Rattle.format_traits.specs.declared.record_reader.Cut.{Cut}
 use Rattle.format_traits.specs.declared.record_reader.Cut.TheVariants as cut
 use Rattle.format_traits.specs.Cutting.{Cuts}
 use Rattle.format_traits.specs.Records.{next, over}
 use Rattle.pec_codec.specs.Steps.{FitsIn}
-use Rattle.pec_codec.specs.Records.{cut_before, cut_of, length_behind, pec_records, records_behind}
+use Rattle.pec_codec.specs.declared.coordinate.Coordinate.{Coordinate}
+use Rattle.pec_codec.specs.Coordinates.{coordinate_in, long_coordinate_in, short_coordinate}
+use Rattle.pec_codec.specs.Records.{begins_stop, cut_before, cut_move, cut_pair, cut_stop, cut_of, length_behind, pec_records, records_behind}
 
 -- the records behind the bytes of the record before
 skipped : (behind at : ℕ) (bytes : List ℕ) → behind ≤ length bytes
@@ -34,16 +38,114 @@ record_first at (suc n) event (byte ∷ rest) is some there =
     ∙ ap (next at event) (skipped n (at + 1) rest (omega arith))
     ∙ ap (λ k. next at event (pec_records k (drop n rest))) place
 
+-- the bytes that a coordinate takes
+abbrev size_of : Option Coordinate → ℕ
+size_of None = 0
+size_of (Some x) = x.size
+
+first_size : (short : Bool) (first : ℕ) (rest : List ℕ)
+    → size_of (if short then Some (short_coordinate first) else long_coordinate_in first rest) ≤ length (first ∷ rest)
+first_size true first rest = omega arith
+first_size false first [] = omega arith
+first_size false first (second ∷ rest) = omega arith
+
+size_there : (bytes : List ℕ) → size_of (coordinate_in bytes) ≤ length bytes
+size_there [] = omega arith
+size_there (first ∷ rest) = first_size (nat_lt first 128) first rest
+
+-- a coordinate that is whole stays as it is, whatever bytes follow
+first_stays : (short : Bool) (first : ℕ) (rest more : List ℕ) (x : Coordinate)
+    → (if short then Some (short_coordinate first) else long_coordinate_in first rest) ≡ Some x
+    → (if short then Some (short_coordinate first) else long_coordinate_in first (rest ++ more)) ≡ Some x
+first_stays true first rest more x is = is
+first_stays false first [] more x is = absurd (let gone : None ≡ Some x = is in let no : ⊥ = cc in no)
+first_stays false first (second ∷ rest) more x is = is
+
+coordinate_stays : (bytes more : List ℕ) (x : Coordinate) → coordinate_in bytes ≡ Some x → coordinate_in (bytes ++ more) ≡ Some x
+coordinate_stays [] more x is = absurd (let gone : None ≡ Some x = is in let no : ⊥ = cc in no)
+coordinate_stays (first ∷ rest) more x is = first_stays (nat_lt first 128) first rest more x is
+
+-- a cut that tells something
+abbrev is_whole : Cut → Bool
+is_whole cut.End = true
+is_whole (cut.Wants ended) = false
+is_whole (cut.Refused f) = true
+is_whole (cut.Record event size) = true
+
+-- the same of a pair of coordinates
+pair_stays : (bytes more : List ℕ) (x : Coordinate) (y : Option Coordinate) (c : Cut) → x.size ≤ length bytes
+    → coordinate_in (drop x.size bytes) ≡ y → c ≡ cut_pair x y → is_whole c ≡ true
+    → c ≡ cut_pair x (coordinate_in (drop x.size (bytes ++ more)))
+pair_stays bytes more x None c there same is whole = absurd (false≢true (sym (ap is_whole is) ∙ whole))
+pair_stays bytes more x (Some y) c there same is whole = is
+    ∙ ap (cut_pair x) (sym (ap coordinate_in (drop-append-le x.size bytes more there) ∙ coordinate_stays (drop x.size bytes) more y same))
+
+move_stays : (bytes more : List ℕ) (x : Option Coordinate) (c : Cut) → coordinate_in bytes ≡ x → c ≡ cut_move x bytes
+    → is_whole c ≡ true → c ≡ cut_move (coordinate_in (bytes ++ more)) (bytes ++ more)
+move_stays bytes more None c same is whole = absurd (false≢true (sym (ap is_whole is) ∙ whole))
+move_stays bytes more (Some x) c same is whole =
+    let there : x.size ≤ length bytes = subst (λ y. size_of y ≤ length bytes) same (size_there bytes) in
+    pair_stays bytes more x _ c there refl is whole
+    ∙ ap (λ x. cut_move x (bytes ++ more)) (sym (coordinate_stays bytes more x same))
+
+-- one byte is no move
+lone_byte : (short : Bool) (first : ℕ)
+    → is_whole (cut_move (if short then Some (short_coordinate first) else None) (first ∷ [])) ≡ false
+lone_byte true first = refl
+lone_byte false first = refl
+
+one_stays : (ends : Bool) (first : ℕ) (c other : Cut)
+    → c ≡ (if ends then cut.End else cut_move (coordinate_in (first ∷ [])) (first ∷ [])) → is_whole c ≡ true
+    → c ≡ (if ends then cut.End else other)
+one_stays true first c other is whole = is
+one_stays false first c other is whole =
+    absurd (false≢true (sym (ap is_whole is ∙ lone_byte (nat_lt first 128) first) ∙ whole))
+
+two_stay : (ends stops : Bool) (first second : ℕ) (rest more : List ℕ) (c : Cut) → let bytes = first ∷ second ∷ rest in
+    c ≡ (if ends then cut.End else (if stops then cut_stop bytes else cut_move (coordinate_in bytes) bytes)) → is_whole c ≡ true
+    → c ≡ (if ends then cut.End else (if stops then cut_stop (bytes ++ more)
+    else cut_move (coordinate_in (bytes ++ more)) (bytes ++ more)))
+two_stay true stops first second rest more c is whole = is
+two_stay false true first second [] more c is whole = absurd (false≢true (sym (ap is_whole is) ∙ whole))
+two_stay false true first second (third ∷ rest) more c is whole = is
+two_stay false false first second rest more c is whole = move_stays (first ∷ second ∷ rest) more _ c refl is whole
+
+-- what is cut stays as it is, whatever bytes follow
+cut_stays : (bytes more : List ℕ) (c : Cut) → c ≡ cut_of bytes → is_whole c ≡ true → c ≡ cut_of (bytes ++ more)
+cut_stays [] more c is whole = absurd (false≢true (sym (ap is_whole is) ∙ whole))
+cut_stays (first ∷ []) more c is whole = one_stays (first == 255) first c
+    (if begins_stop (first ∷ more) then cut_stop (first ∷ more) else cut_move (coordinate_in (first ∷ more)) (first ∷ more)) is whole
+cut_stays (first ∷ second ∷ rest) more c is whole =
+    two_stay (first == 255) (first == 254 && second == 176) first second rest more c is whole
+
+-- what is cut is told of no bytes
+none_cut : (c : Cut) → c ≡ cut_of [] → is_whole c ≡ true → ⊥
+none_cut c is whole = false≢true (sym (ap is_whole is) ∙ whole)
+
 -- what is cut
 pub cuts_record : (at : ℕ) (bytes : List ℕ) (c : Cut) → c ≡ cut_of bytes → FitsIn bytes c
     → Cuts pec_records pec_records at bytes c
-cuts_record at [] (cut.Over ended) is fits = let none : ended ≡ false = cc in ap over (sym none)
-cuts_record at (byte ∷ rest) (cut.Over ended) is fits = cut_first at byte rest (cut.Over ended) is
-cuts_record at [] (cut.Refused f) is fits = cc
-cuts_record at (byte ∷ rest) (cut.Refused f) is fits = cut_first at byte rest (cut.Refused f) is
+cuts_record at [] cut.End is fits = absurd (none_cut cut.End is refl)
+cuts_record at (byte ∷ rest) cut.End is fits =
+    λ more. cut_first at byte (rest ++ more) cut.End (cut_stays (byte ∷ rest) more cut.End is refl)
+cuts_record at [] (cut.Wants ended) is fits = record {
+  few = fits;
+  same = λ at bytes. refl;
+  is = let none : ended ≡ false = cc in ap over (sym none);
+}
+cuts_record at (byte ∷ rest) (cut.Wants ended) is fits = record {
+  few = fits;
+  same = λ at bytes. refl;
+  is = cut_first at byte rest (cut.Wants ended) is;
+}
+cuts_record at [] (cut.Refused f) is fits = absurd (none_cut (cut.Refused f) is refl)
+cuts_record at (byte ∷ rest) (cut.Refused f) is fits =
+    λ more. cut_first at byte (rest ++ more) (cut.Refused f) (cut_stays (byte ∷ rest) more (cut.Refused f) is refl)
 cuts_record at bytes (cut.Record event size) is fits = record {
   some = fits.0;
   there = fits.1;
-  is = record_first at size event bytes is fits.0 fits.1;
+  is = λ more. record_first at size event (bytes ++ more) (cut_stays bytes more (cut.Record event size) is refl) fits.0
+      (omega (arith, fits.1, length-append bytes more))
+      ∙ ap (λ left. next at event (pec_records (at + size) left)) (drop-append-le size bytes more fits.1);
   small = fits.2;
 }

@@ -24,7 +24,7 @@ cut_of-pair first second rest x y small of_x of_y =
     let bytes = first ∷ second ∷ rest in
     let no_end : first ≡ 255 → ⊥ = λ is. omega (arith, is, small) in
     let no_stop : first ≡ 254 → ⊥ = λ is. omega (arith, is, small) in
-    ap (λ ends. if ends then cut.Over true else (if first == 254 && second == 176 then cut_stop bytes
+    ap (λ ends. if ends then cut.End else (if first == 254 && second == 176 then cut_stop bytes
     else cut_move (coordinate_in bytes) bytes)) (ne_eqb first 255 no_end)
     ∙ ap (λ stops. if stops && second == 176 then cut_stop bytes else cut_move (coordinate_in bytes) bytes)
     (ne_eqb first 254 no_stop)

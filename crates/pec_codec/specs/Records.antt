@@ -23,17 +23,17 @@ event_of x y =
 
 -- a record of two coordinates, where both are there
 abbrev pub cut_pair : Coordinate → Option Coordinate → Cut
-cut_pair x None = cut.Over false
+cut_pair x None = cut.Wants false
 cut_pair x (Some y) = cut.Record (event_of x y) (x.size + y.size)
 
 abbrev pub cut_move : Option Coordinate → List ℕ → Cut
-cut_move None bytes = cut.Over false
+cut_move None bytes = cut.Wants false
 cut_move (Some x) bytes = cut_pair x (coordinate_in (drop x.size bytes))
 
 -- a stop takes a third byte, whatever it is
 abbrev pub cut_stop : List ℕ → Cut
 cut_stop (first ∷ second ∷ third ∷ rest) = cut.Record event.Stop 3
-cut_stop _ = cut.Over false
+cut_stop _ = cut.Wants false
 
 -- the two bytes with which a stop begins
 abbrev pub begins_stop : List ℕ → Bool
@@ -48,19 +48,21 @@ begins_end (first ∷ rest) = first == 255
 -- what stands first in bytes
 abbrev pub cut_of : List ℕ → Cut
 cut_of bytes =
-    if begins_end bytes then cut.Over true
+    if begins_end bytes then cut.End
     else (if begins_stop bytes then cut_stop bytes
     else cut_move (coordinate_in bytes) bytes)
 
 -- the bytes of a record behind its first
 abbrev pub length_behind : Cut → ℕ
-length_behind (cut.Over ended) = 0
+length_behind cut.End = 0
+length_behind (cut.Wants ended) = 0
 length_behind (cut.Refused f) = 0
 length_behind (cut.Record event size) = size - 1
 
 -- what was cut, and the records behind it
 abbrev pub cut_before : Cut → ℕ → Records → Records
-cut_before (cut.Over ended) at rest = over ended
+cut_before cut.End at rest = over true
+cut_before (cut.Wants ended) at rest = over ended
 cut_before (cut.Refused f) at rest = refused f
 cut_before (cut.Record event size) at rest = next at event rest
 

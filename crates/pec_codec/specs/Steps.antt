@@ -7,15 +7,17 @@ use Rattle.design_model.specs.Points.{is_within}
 use Rattle.format_traits.specs.declared.fault.WriteFault.{WriteFault}
 use Rattle.format_traits.specs.declared.record_reader.Cut.{Cut}
 use Rattle.format_traits.specs.declared.record_reader.Cut.TheVariants as cut
-use Rattle.format_traits.specs.declared.record_reader.TheConstants.{GREATEST_STEP}
+use Rattle.format_traits.specs.declared.record_reader.TheConstants.{GREATEST_STEP, MOST_RECORD}
 use Rattle.format_traits.specs.Records.{moves_in}
 use Rattle.format_traits.specs.Refusals.{first_refusal, stops_of}
 use Rattle.format_traits.specs.Spellings.{RefusedAs}
 use Rattle.pec_codec.specs.Writing.{body_of, reach}
 
--- a record that was cut has some of the bytes, and moves no further than any format's may
+-- a record that was cut has some of the bytes, and moves no further than any format's may; where
+-- none was, the bytes are few
 abbrev pub FitsIn : List ℕ → Cut → Type 0
-FitsIn bytes (cut.Over ended) = Unit {0}
+FitsIn bytes cut.End = Unit {0}
+FitsIn bytes (cut.Wants ended) = length bytes < MOST_RECORD
 FitsIn bytes (cut.Refused f) = Unit {0}
 FitsIn bytes (cut.Record event size) = (0 < size) × (size ≤ length bytes)
     × IsTrue (list_all (λ move. is_within GREATEST_STEP move) (moves_in event))

@@ -1,4 +1,4 @@
-ghost use Rattle.std.specs.Prelude.{◌≡◌, ◌<◌, ◌≤◌, ◌*◌, length, unsigned_abs, IfSome};
+ghost use Rattle.std.specs.Prelude.{◌≡◌, ◌<◌, ◌≤◌, ◌*◌, length, unsigned_abs, IfNone, IfSome};
 ghost use Rattle.format_traits.specs.declared.record_reader.TheConstants.{GREATEST_STEP};
 ghost use Rattle.pec_codec.specs.Coordinates.{coordinate_in as coordinate_of, long_coordinate as long_of, short_coordinate as short_of, signed as signed_of};
 
@@ -17,6 +17,8 @@ pub struct Coordinate {
 pub fn coordinate_in(bytes: &[u8]) -> Option<Coordinate>
     ensures value { result ≡ coordinate_of bytes.now }
     ensures some { IfSome result (λ c. 0 < c.size) }
+    ensures most { IfSome result (λ c. c.size ≤ 2) }
+    ensures none { IfNone result (length bytes.now < 2) }
     ensures size { IfSome result (λ c. c.size ≤ length bytes.now) }
     ensures small { IfSome result (λ c. unsigned_abs c.number ≤ GREATEST_STEP) }
 {

@@ -1,7 +1,7 @@
-ghost use Rattle.std.specs.Prelude.{◌≡◌, ◌<◌, ◌≤◌, ◌^◌, ◌++◌, [], length, OnOk, IfOk};
+ghost use Rattle.std.specs.Prelude.{◌≡◌, ◌<◌, ◌≤◌, ◌^◌, ◌++◌, ℕ, List, [], length, OnOk, IfOk};
 ghost use Rattle.byteorder.specs.Endian.{little_bytes};
 ghost use Rattle.design_model.specs.declared.design.TheConstants.{MAX_THREADS};
-ghost use Rattle.design_model.specs.Designs.{with_label};
+ghost use Rattle.design_model.specs.Designs.{empty_design, with_label};
 ghost use Rattle.design_model.specs.Extents.{extent_of};
 ghost use Rattle.pec_codec.specs.declared.block.TheConstants.{HEADER_LENGTH, LABELS_LENGTH, MAX_STOPS};
 ghost use Rattle.pec_codec.specs.Header.{header_of, label_of, labels_of, distance_field, size_fields, threads_in, threads_of};
@@ -111,40 +111,41 @@ fn put_word24(out: &mut Bytes, word: u32) -> Result<(), Memory>
 }
 
 /// Takes in the label and the threads of a block.
-pub fn read_header(design: &mut Design, block: &[u8])
-    requires length { HEADER_LENGTH ≤ length block.now }
-    requires label { design.old.label ≡ [] }
-    requires threads { design.old.threads ≡ [] }
-    ensures { design.new ≡ record design.old {
-      label = label_of block.now;
-      threads = threads_in block.now;
+pub fn read_header(design: &mut Design, header: &[u8])
+    requires length { length header.now ≡ HEADER_LENGTH }
+    requires empty { design.old ≡ empty_design }
+    ensures { (more : List ℕ) → design.new ≡ record {
+      label = label_of (header.now ++ more);
+      threads = threads_in (header.now ++ more);
+      commands = [];
     } }
 {
-    keep_label(design, block);
-    keep_threads(design, threads_of_block(block));
+    keep_label(design, header);
+    keep_threads(design, threads_of_block(header));
 }
 
-fn keep_label(design: &mut Design, block: &[u8])
-    requires length { HEADER_LENGTH ≤ length block.now }
+fn keep_label(design: &mut Design, header: &[u8])
+    requires length { length header.now ≡ HEADER_LENGTH }
     requires fresh { design.old.label ≡ [] }
-    ensures { design.new ≡ with_label design.old (label_of block.now) }
+    ensures label { (more : List ℕ) → design.new ≡ with_label design.old (label_of (header.now ++ more)) }
+    ensures threads { design.new.threads ≡ design.old.threads }
 {
-    if block.starts_with(b"LA:") {
-        read_label(design, &block[3..3 + MAX_LABEL]);
+    if header.starts_with(b"LA:") {
+        read_label(design, &header[3..3 + MAX_LABEL]);
     }
 }
 
 /// The threads that a block names.
-fn threads_of_block(block: &[u8]) -> &[u8]
-    requires { HEADER_LENGTH ≤ length block.now }
-    ensures value { result.now ≡ threads_in block.now }
+fn threads_of_block(header: &[u8]) -> &[u8]
+    requires { length header.now ≡ HEADER_LENGTH }
+    ensures value { (more : List ℕ) → result.now ≡ threads_in (header.now ++ more) }
     ensures few { length result.now ≤ MAX_THREADS }
 {
-    let number = block[48];
+    let number = header[48];
     if number == 255 {
         return &[];
     }
-    &block[49..50 + number as usize]
+    &header[49..50 + number as usize]
 }
 
 fn keep_threads(design: &mut Design, threads: &[u8])

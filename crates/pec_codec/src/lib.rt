@@ -3,6 +3,7 @@
 #![tactic(auto)]
 
 mod block;
+mod block_reader;
 mod coordinate;
 mod header;
 mod laws;
@@ -15,6 +16,8 @@ mod tests;
 mod writing;
 
 pub use block::{HEADER_LENGTH, LABELS_LENGTH, LIMIT, MAX_STOPS, THUMBNAIL_LENGTH};
+pub use block_reader::{BlockReader, block_decoder};
 pub use laws::blocks_read_back;
+pub use pec_records::PecRecords;
 pub use reading::read_block;
 pub use writing::write_block;

@@ -1,7 +1,8 @@
-use crate::block::{LIMIT, MAX_STOPS};
+use crate::block::{HEADER_LENGTH, LIMIT, MAX_STOPS};
+use crate::header::read_header;
 use crate::record_cuts::cut;
 use crate::spelling::{put_jump, put_stitch, put_stop, put_trim};
-use design_model::{Bytes, Memory, Point};
+use design_model::{Bytes, Design, Memory, Point};
 use format_traits::{Cut, Reach, RecordReader, RecordWriter};
 
 /// The records of a block.
@@ -9,9 +10,24 @@ use format_traits::{Cut, Reach, RecordReader, RecordWriter};
 pub struct PecRecords;
 
 impl RecordReader for PecRecords {
+    ghost use Rattle.pec_codec.specs.Reading.{layout as pec_layout};
     ghost use Rattle.pec_codec.specs.Records.{pec_records};
 
+    ghost layout = { pec_layout };
+
     ghost records = { λ _. pec_records };
+
+    fn header_length(&self) -> usize {
+        HEADER_LENGTH
+    }
+
+    fn read_header(&self, design: &mut Design, header: &[u8]) {
+        read_header(design, header);
+    }
+
+    fn restart(&mut self) -> bool {
+        false
+    }
 
     #[tactic(auto, using(crate::proofs::RecordLemmas::cuts_record))]
     fn next(&mut self, _at: u64, bytes: &[u8]) -> Cut {

@@ -17,7 +17,7 @@ pub fn cut(bytes: &[u8]) -> Cut
     ensures fits { FitsIn bytes.now result }
 {
     match bytes {
-        [0xFF, ..] => Cut::Over { ended: true },
+        [0xFF, ..] => Cut::End,
         [0xFE, 0xB0, ..] => cut_stop(bytes),
         _ => cut_move(bytes),
     }
@@ -28,7 +28,7 @@ fn cut_stop(bytes: &[u8]) -> Cut
     ensures fits { FitsIn bytes.now result }
 {
     if bytes.len() < 3 {
-        return Cut::Over { ended: false };
+        return Cut::Wants { ended: false };
     }
     Cut::Record {
         event: Event::Stop,
@@ -41,10 +41,10 @@ fn cut_move(bytes: &[u8]) -> Cut
     ensures fits { FitsIn bytes.now result }
 {
     let Some(x) = coordinate_in(bytes) else {
-        return Cut::Over { ended: false };
+        return Cut::Wants { ended: false };
     };
     let Some(y) = coordinate_in(&bytes[x.size..]) else {
-        return Cut::Over { ended: false };
+        return Cut::Wants { ended: false };
     };
     Cut::Record {
         event: event_of(x, y),

@@ -1,5 +1,5 @@
 -- Formats whose files are a front and a block.
-use Rattle.std.proofs.Common.{◌≡◌, ℕ, false, IsTrue, nat_lt, List, [], ◌++◌, length, Result, Ok, Err, IfOk, IsOk, IsOkAnd, if◌then◌else◌, refl, ap, sym, subst, arith, length-append}
+use Rattle.std.proofs.Common.{◌≡◌, ℕ, ◌+◌, ◌≤◌, true, false, drop, IsTrue, nat_lt, List, [], ◌++◌, length, Result, Ok, Err, IfOk, IsOk, IsOkAnd, if◌then◌else◌, refl, ap, sym, subst, arith, length-append}
 use Rattle.std.proofs.lemmas.Bool.{le-ltb}
 use Rattle.std.specs.List.{list_all}
 use Rattle.design_model.specs.Designs.{DesignValue}
@@ -9,16 +9,18 @@ use Rattle.format_traits.specs.declared.fault.ReadFault.TheVariants as fault
 use Rattle.format_traits.specs.declared.fault.WriteFault.{WriteFault}
 use Rattle.format_traits.specs.declared.loaded.Loaded.{Loaded}
 use Rattle.format_traits.specs.Laws.{IsAgain, KeepsLaws, MovesWithin, ReadsAgain}
+use Rattle.format_traits.specs.Layouts.{reads_by}
 use Rattle.format_traits.specs.Meanings.{Meaning}
 use Rattle.format_traits.specs.PlainDesigns.{IsPlain}
 use Rattle.pec_codec.specs.declared.block.TheConstants.{LIMIT}
 use Rattle.pec_codec.specs.Laws.{Restores, KeepsBlockLaws, ReadsBack}
-use Rattle.pec_codec.specs.Reading.{moves_at, reads_at}
+use Rattle.pec_codec.specs.Reading.{layout, moves_at, reads_at}
 use Rattle.pec_codec.specs.Writing.{writes}
 use Rattle.pes_codec.specs.declared.front.TheConstants.{OFFSET_END}
 use Rattle.pes_codec.specs.Files.{pec_front, pes_front}
 use Rattle.pes_codec.specs.Formats.{pec, pes}
 use Rattle.pes_codec.specs.Laws.{ReadsWhole}
+use Rattle.pes_codec.specs.Openings.{Opening, pec_opening, pes_opening, reads_from}
 use Rattle.pes_codec.specs.Writing.{behind}
 
 -- the files of a format are a front and a block, and read as the block
@@ -72,8 +74,25 @@ reads_whole m front is d laws =
     (if_behind front (λ bytes. ReadsWhole m d bytes)
     (λ block. (before : List ℕ) → ReadsBack d block before) (whole_file m front is d) (writes d) laws.back)
 
+-- a front that is known, and the block behind it
+behind_front : (opening : Opening) (front block : List ℕ) → opening.known (front ++ block) ≡ true
+    → opening.length ≤ length front → opening.block (front ++ block) ≡ length front
+    → reads_from opening 0 (front ++ block) ≡ reads_at (length front) (front ++ block)
+behind_front opening front block known long is =
+    let bytes = front ++ block in
+    let both = length-append front block in
+    let whole : opening.length ≤ length bytes = omega (arith, long, both) in
+    let there : length front ≤ length bytes = omega (arith, both) in
+    rw (known, le-ltb (length bytes) opening.length whole, is, le-ltb (length bytes) (length front) there)
+    (ap (λ n. reads_by layout n (drop (length front) bytes)) (omega arith))
+
 pub pec_is_behind : IsBehind pec pec_front
-pec_is_behind = record { limit = refl; writes = λ d. refl; reads = λ block. refl; moves = λ block. refl }
+pec_is_behind = record {
+  limit = refl;
+  writes = λ d. refl;
+  reads = λ block. behind_front pec_opening pec_front block refl (omega arith) refl;
+  moves = λ block. refl;
+}
 
 -- a PES file that is written tells the offset of its block
 long_front : (block : List ℕ) → nat_lt (length (pes_front ++ block)) OFFSET_END ≡ false
@@ -83,7 +102,6 @@ pub pes_is_behind : IsBehind pes pes_front
 pes_is_behind = record {
   limit = refl;
   writes = λ d. refl;
-  reads = λ block. ap (λ short. if short then Err (fault.Short (length (pes_front ++ block)))
-      else reads_at 22 (pes_front ++ block)) (long_front block);
+  reads = λ block. behind_front pes_opening pes_front block refl (omega arith) refl;
   moves = λ block. ap (λ short. if short then [] else moves_at 22 (pes_front ++ block)) (long_front block);
 }

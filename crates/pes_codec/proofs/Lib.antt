@@ -1,2 +1,3 @@
 pub mod BehindLemmas
 mod FileFacts
+pub mod FileLemmas

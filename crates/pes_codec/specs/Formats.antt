@@ -2,7 +2,7 @@
 use Rattle.std.specs.Prelude.{codes}
 use Rattle.format_traits.specs.Meanings.{Meaning}
 use Rattle.pec_codec.specs.declared.block.TheConstants.{LIMIT}
-use Rattle.pes_codec.specs.Reading.{pec_moves, pec_reads, pes_moves, pes_reads}
+use Rattle.pes_codec.specs.Reading.{pec_moves, pec_reads, pec_shown, pes_moves, pes_reads, pes_shown}
 use Rattle.pes_codec.specs.Writing.{pec_writes, pes_writes}
 
 abbrev pub pec : Meaning
@@ -11,8 +11,8 @@ pec = record {
   limit = LIMIT;
   reads = pec_reads;
   writes = pec_writes;
-  moves =
-      pec_moves;
+  moves = pec_moves;
+  shown = pec_shown;
 }
 
 abbrev pub pes : Meaning
@@ -21,6 +21,6 @@ pes = record {
   limit = LIMIT;
   reads = pes_reads;
   writes = pes_writes;
-  moves =
-      pes_moves;
+  moves = pes_moves;
+  shown = pes_shown;
 }

@@ -1,6 +1,9 @@
 //! The formats PEC and PES: files whose design stands in a PEC block.
 #![tactic(auto)]
 
+mod file_decoder;
+mod file_front;
+mod file_stage;
 mod front;
 mod pec;
 mod pes;

@@ -4,15 +4,55 @@ ghost use Rattle.pes_codec.specs.Formats.{pec};
 ghost use Rattle.pes_codec.specs.Laws.{ReadsWhole};
 ghost use Rattle.pes_codec.specs.Reading.{pec_reads};
 
+use crate::file_decoder::FileDecoder;
+use crate::file_front::FileFront;
 use crate::front::{PEC_BLOCK, write_behind};
-use design_model::{Bytes, Design};
-use format_traits::{Format, Loaded, ReadFault, WriteFault};
-use pec_codec::{LIMIT, read_block};
+use design_model::{Bytes, Command, Design, Memory};
+use format_traits::{Fed, Feed, Format, Loaded, ReadFault, WriteFault, decode_whole};
+use pec_codec::LIMIT;
 use std::alloc::Global;
 
-/// The PEC format.
+/// The front of a PEC file.
 #[derive(Clone, Copy, Debug, PartialEq, Eq)]
-pub struct Pec;
+struct PecFront;
+
+impl FileFront for PecFront {
+    ghost use Rattle.pes_codec.specs.Openings.{pec_opening};
+
+    ghost opening = { pec_opening };
+
+    fn length(&self) -> usize {
+        PEC_BLOCK
+    }
+
+    fn is_known(&self, bytes: &[u8]) -> bool {
+        bytes.starts_with(b"#PEC")
+    }
+
+    fn block(&self, _bytes: &[u8]) -> u32 {
+        PEC_BLOCK as u32
+    }
+}
+
+/// The PEC format.
+#[derive(Drop)]
+pub struct Pec {
+    feed: Feed<FileDecoder<PecFront>>,
+}
+
+impl Pec {
+    ghost use Rattle.format_traits.specs.Feeding.{IsFresh};
+    ghost use Rattle.pes_codec.specs.Reading.{pec_reads, pec_shown};
+
+    /// The format object, to which nothing was fed. It takes no memory.
+    pub fn new(alloc: Global) -> Pec
+        ensures { IsFresh pec_reads pec_shown (⟦<Pec as Format>⟧.feeding result) }
+    {
+        Pec {
+            feed: Feed::new(FileDecoder::new(alloc, PecFront)),
+        }
+    }
+}
 
 impl Format for Pec {
     ghost use Rattle.std.specs.Prelude.{IfOk, IsOk};
@@ -23,6 +63,8 @@ impl Format for Pec {
 
     ghost meaning = { λ _. pec_meaning };
 
+    ghost feeding = { λ f. ⟦<Feed<FileDecoder<PecFront>> as Fed>⟧.feeding f.feed };
+
     fn ext(&self) -> &str {
         "pec"
     }
@@ -32,7 +74,7 @@ impl Format for Pec {
     }
 
     fn decode(&self, alloc: Global, bytes: &[u8]) -> Result<Loaded, ReadFault> {
-        read_file(alloc, bytes)
+        decode_whole(FileDecoder::new(alloc, PecFront), 0, bytes)
     }
 
     fn encode(&self, alloc: Global, design: &Design) -> Result<Bytes, WriteFault>
@@ -47,15 +89,26 @@ impl Format for Pec {
     {
         write_file(alloc, design)
     }
-}
 
-fn read_file(alloc: Global, bytes: &[u8]) -> Result<Loaded, ReadFault>
-    ensures { Reads (pec_reads bytes.now) result }
-{
-    if !bytes.starts_with(b"#PEC") {
-        return Err(ReadFault::Signature { at: 0 });
+    fn begin(&mut self) {
+        self.feed.begin(0);
     }
-    read_block(alloc, bytes, PEC_BLOCK as u64)
+
+    fn feed(&mut self, piece: &[u8]) -> Result<(), Memory> {
+        self.feed.feed(piece)
+    }
+
+    fn finish(&mut self) -> Result<Loaded, ReadFault> {
+        self.feed.finish()
+    }
+
+    fn taken(&self) -> u64 {
+        self.feed.taken
+    }
+
+    fn so_far(&self) -> &[Command] {
+        self.feed.so_far()
+    }
 }
 
 fn write_file(alloc: Global, design: &Design) -> Result<Bytes, WriteFault>

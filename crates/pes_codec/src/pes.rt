@@ -6,16 +6,56 @@ ghost use Rattle.pes_codec.specs.Formats.{pes};
 ghost use Rattle.pes_codec.specs.Laws.{ReadsWhole};
 ghost use Rattle.pes_codec.specs.Reading.{pes_reads};
 
+use crate::file_decoder::FileDecoder;
+use crate::file_front::FileFront;
 use crate::front::{OFFSET_END, write_behind};
 use byteorder::{ByteOrder, LittleEndian};
-use design_model::{Bytes, Design};
-use format_traits::{Format, Loaded, ReadFault, WriteFault};
-use pec_codec::{LIMIT, read_block};
+use design_model::{Bytes, Command, Design, Memory};
+use format_traits::{Fed, Feed, Format, Loaded, ReadFault, WriteFault, decode_whole};
+use pec_codec::LIMIT;
 use std::alloc::Global;
 
-/// The PES format: any version is read, and version 1 without sewing segments is written.
+/// The front of a PES file.
 #[derive(Clone, Copy, Debug, PartialEq, Eq)]
-pub struct Pes;
+struct PesFront;
+
+impl FileFront for PesFront {
+    ghost use Rattle.pes_codec.specs.Openings.{pes_opening};
+
+    ghost opening = { pes_opening };
+
+    fn length(&self) -> usize {
+        OFFSET_END
+    }
+
+    fn is_known(&self, bytes: &[u8]) -> bool {
+        bytes.starts_with(b"#PES")
+    }
+
+    fn block(&self, bytes: &[u8]) -> u32 {
+        LittleEndian::read_u32(&bytes[8..])
+    }
+}
+
+/// The PES format: any version is read, and version 1 without sewing segments is written.
+#[derive(Drop)]
+pub struct Pes {
+    feed: Feed<FileDecoder<PesFront>>,
+}
+
+impl Pes {
+    ghost use Rattle.format_traits.specs.Feeding.{IsFresh};
+    ghost use Rattle.pes_codec.specs.Reading.{pes_reads, pes_shown};
+
+    /// The format object, to which nothing was fed. It takes no memory.
+    pub fn new(alloc: Global) -> Pes
+        ensures { IsFresh pes_reads pes_shown (⟦<Pes as Format>⟧.feeding result) }
+    {
+        Pes {
+            feed: Feed::new(FileDecoder::new(alloc, PesFront)),
+        }
+    }
+}
 
 impl Format for Pes {
     ghost use Rattle.std.specs.Prelude.{IfOk, IsOk};
@@ -26,6 +66,8 @@ impl Format for Pes {
 
     ghost meaning = { λ _. pes_meaning };
 
+    ghost feeding = { λ f. ⟦<Feed<FileDecoder<PesFront>> as Fed>⟧.feeding f.feed };
+
     fn ext(&self) -> &str {
         "pes"
     }
@@ -35,7 +77,7 @@ impl Format for Pes {
     }
 
     fn decode(&self, alloc: Global, bytes: &[u8]) -> Result<Loaded, ReadFault> {
-        read_file(alloc, bytes)
+        decode_whole(FileDecoder::new(alloc, PesFront), 0, bytes)
     }
 
     fn encode(&self, alloc: Global, design: &Design) -> Result<Bytes, WriteFault>
@@ -50,28 +92,26 @@ impl Format for Pes {
     {
         write_file(alloc, design)
     }
-}
 
-fn read_file(alloc: Global, bytes: &[u8]) -> Result<Loaded, ReadFault>
-    ensures { Reads (pes_reads bytes.now) result }
-{
-    if !bytes.starts_with(b"#PES") {
-        return Err(ReadFault::Signature { at: 0 });
+    fn begin(&mut self) {
+        self.feed.begin(0);
     }
-    if bytes.len() < OFFSET_END {
-        return Err(ReadFault::Short {
-            at: bytes.len() as u64,
-        });
-    }
-    read_block(alloc, bytes, block_offset(bytes) as u64)
-}
 
-/// Where the block of a file begins.
-fn block_offset(bytes: &[u8]) -> u32
-    requires { OFFSET_END ≤ length bytes.now }
-    ensures { result ≡ block_offset_of bytes.now }
-{
-    LittleEndian::read_u32(&bytes[8..])
+    fn feed(&mut self, piece: &[u8]) -> Result<(), Memory> {
+        self.feed.feed(piece)
+    }
+
+    fn finish(&mut self) -> Result<Loaded, ReadFault> {
+        self.feed.finish()
+    }
+
+    fn taken(&self) -> u64 {
+        self.feed.taken
+    }
+
+    fn so_far(&self) -> &[Command] {
+        self.feed.so_far()
+    }
 }
 
 fn write_file(alloc: Global, design: &Design) -> Result<Bytes, WriteFault>

@@ -314,7 +314,7 @@ read_is_within_reach bytes = by_length (nat_lt (length bytes) HEADER_LENGTH)
     (loose_free (IsNear origin 0 origin false) beginning refl))
   where
     by_length : (b : Bool) (course : Result Course ReadFault) → IfOk course (λ c. IsWithin false beginning c.commands)
-        → IfOk (if b then Err (read.Short (length bytes)) else loaded_with (label_of bytes) [] course) (λ loaded. (number : ℕ)
+        → IfOk (if b then Err (read.Short (0 + length bytes)) else loaded_with (label_of bytes) [] course) (λ loaded. (number : ℕ)
         → (writes loaded.design ≢ Err (fault.StitchTooLong number)) × (writes loaded.design ≢ Err (fault.FloatTooLong number)))
     by_length true course within = tt
     by_length false (Err f) within = tt

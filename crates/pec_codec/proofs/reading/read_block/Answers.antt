@@ -1,12 +1,10 @@
-use Rattle.std.proofs.Common.{rules}
-use Rattle.pec_codec.proofs.ReadingLemmas.{loaded_block, refused_block}
+use Rattle.std.proofs.Common.{◌≡◌, drop, sym, subst, rules}
+use Rattle.format_traits.specs.Laws.{Reads}
+use Rattle.pec_codec.proofs.ReadingLemmas.{reads_there}
 use Rattle.pec_codec.proofs.reading.read_block.Goals as goal
 
-pub returns-in-Ok : goal.returns-in-Ok
-returns-in-Ok c = loaded_block c.args.at c.args.bytes.now c.in-Some.block.now c.behind_header.result.now
-    c.read_header.new.design c.read_records.new.design c.in-Ok.ended c.in-Some.ensures.there c.in-Some.ensures.value
-    c.behind_header.ensures (search rules) c.in-Ok.ensures
-
-pub returns-in-Err : goal.returns-in-Err
-returns-in-Err c = refused_block c.args.at c.args.bytes.now c.in-Some.block.now c.behind_header.result.now c.in-Err.fault
-    c.in-Some.ensures.there c.in-Some.ensures.value c.behind_header.ensures c.in-Err.ensures.1
+pub returns : goal.returns
+returns c =
+    let block : c.split_at.result.1.now ≡ drop c.args.at c.args.bytes.now = search rules in
+    subst (λ answer. Reads answer c.decode_whole.result) (reads_there c.args.at c.args.bytes.now _ block c.if-bytes-at.false)
+    c.decode_whole.ensures

@@ -1,0 +1,92 @@
+-- What bytes come to that are taken one part after another.
+use Rattle.std.proofs.Common.{◌≡◌, ℕ, ◌+◌, ◌-◌, ◌<◌, ◌≤◌, List, [], ◌++◌, length, drop, refl, ap, sym, ◌∙◌, subst, arith, length-append, append_assoc, append-nil}
+use Rattle.std.proofs.Math.Seq.{drop-append-add}
+use Rattle.std.proofs.lemmas.List.{length-drop}
+use Rattle.format_traits.specs.Streams.{ComesOn, IsSameStream, IsSettled, Passes, SoFar, Stream, Takes}
+
+-- behind no header is the whole file
+pub same_behind : (fresh new : Stream) (header : ℕ) → header ≡ 0 → ((at : ℕ) → ComesOn fresh new at (at + header) [] [])
+    → IsSameStream new fresh
+same_behind fresh new header none on =
+    let here : (at : ℕ) → at + header ≡ at = λ at. omega (arith, none) in
+    record {
+      rest = λ at bytes. sym ((on at).rest bytes ∙ ap (λ n. new.rest n bytes) (here at));
+      given = λ at bytes. sym ((on at).given bytes ∙ ap (λ n. new.given n bytes) (here at));
+    }
+
+-- what is taken behind a header that is whole
+pub takes_behind : (fresh middle new : Stream) (so_far : SoFar) (at least header size : ℕ) (bytes front back : List ℕ)
+    → bytes ≡ front ++ back → length front ≡ header → least ≡ header → ComesOn fresh middle at (at + least) front []
+    → Takes middle new so_far (at + header) back size → Takes fresh new so_far at bytes (header + size)
+takes_behind fresh middle new so_far at least header size bytes front back whole of_header of_least entered takes =
+    let on : ComesOn fresh middle at (at + header) front [] =
+    subst (λ n. ComesOn fresh middle at (at + n) front []) of_least entered in
+    let parts : length bytes ≡ header + length back =
+    ap length whole ∙ length-append front back ∙ ap (λ n. n + length back) of_header in
+    let there = takes.there in
+    let few = takes.few in
+    let far : at + (header + size) ≡ (at + header) + size = omega arith in
+    let left : drop (header + size) bytes ≡ drop size back =
+    ap (drop (header + size)) whole ∙ ap (λ n. drop (n + size) (front ++ back)) (sym of_header) ∙ drop-append-add front back size in
+    record {
+      there = omega (arith, parts, there);
+      few = omega (arith, parts, few);
+      on = record {
+        rest = λ more. ap (λ bytes. fresh.rest at (bytes ++ more)) whole ∙ ap (fresh.rest at) (append_assoc front back more)
+            ∙ on.rest (back ++ more) ∙ takes.on.rest more
+            ∙ ap (λ n. new.rest n (drop size back ++ more)) (sym far)
+            ∙ ap (λ left. new.rest (at + (header + size)) (left ++ more)) (sym left);
+        given = λ more. ap (λ bytes. fresh.given at (bytes ++ more)) whole ∙ ap (fresh.given at) (append_assoc front back more)
+            ∙ on.given (back ++ more) ∙ takes.on.given more
+            ∙ ap (λ n. new.given n (drop size back ++ more)) (sym far)
+            ∙ ap (λ left. new.given (at + (header + size)) (left ++ more)) (sym left);
+      };
+      settled = subst (λ n. IsSettled new so_far n (drop (header + size) bytes)) (sym far)
+          (subst (λ left. IsSettled new so_far ((at + header) + size) left) (sym left) takes.settled);
+    }
+
+-- bytes are taken off those that are pending, and others stand behind them
+pub passes_on : {old middle new : Stream} {so_far : SoFar} (start at size : ℕ) (whole pending rest left behind : List ℕ)
+    → ComesOn old middle start at whole (pending ++ rest) → Takes middle new so_far at pending size
+    → left ++ behind ≡ drop size pending ++ rest → ComesOn old new start (at + size) whole (left ++ behind)
+passes_on {old} {middle} {new} start at size whole pending rest left behind on takes same = record {
+  rest = λ more. on.rest more ∙ ap (middle.rest at) (append_assoc pending rest more) ∙ takes.on.rest (rest ++ more)
+      ∙ ap (new.rest (at + size)) (sym (append_assoc (drop size pending) rest more))
+      ∙ ap (λ bytes. new.rest (at + size) (bytes ++ more)) (sym same);
+  given = λ more. on.given more ∙ ap (middle.given at) (append_assoc pending rest more) ∙ takes.on.given (rest ++ more)
+      ∙ ap (new.given (at + size)) (sym (append_assoc (drop size pending) rest more))
+      ∙ ap (λ bytes. new.given (at + size) (bytes ++ more)) (sym same);
+}
+
+-- nothing stands behind what is left
+pub passes_end : {old middle new : Stream} {so_far : SoFar} (start at size : ℕ) (before piece pending rest left : List ℕ)
+    → ComesOn old middle start at (before ++ piece) (pending ++ rest) → Takes middle new so_far at pending size
+    → rest ≡ [] → left ≡ drop size pending → (at + length pending) + length rest ≡ (start + length before) + length piece
+    → start ≤ at → Passes old new so_far start before piece left
+passes_end {old} {middle} {new} {so_far} start at size before piece pending rest left on takes none of_left sum up =
+    let no_more : length rest ≡ 0 = ap length none in
+    let there = takes.there in
+    let fewer : length left ≡ length pending - size = ap length of_left ∙ length-drop size pending in
+    let on_left : ComesOn old new start (at + size) (before ++ piece) left =
+    subst (λ bytes. ComesOn old new start (at + size) (before ++ piece) bytes) (append-nil left)
+    (passes_on start at size (before ++ piece) pending rest left [] on takes
+    (ap (λ bytes. bytes ++ []) of_left ∙ ap (λ bytes. drop size pending ++ bytes) (sym none))) in
+    let here : (there : ℕ) → there + length left ≡ (start + length before) + length piece → at + size ≡ there =
+    λ there is. omega (arith, is, sum, no_more, fewer, takes.there) in
+    record {
+      few = omega (arith, sum, no_more, fewer, there, up);
+      on = λ there is. subst (λ n. ComesOn old new start n (before ++ piece) left) (here there is) on_left;
+      settled = λ there is. subst (λ n. IsSettled new so_far n left) (here there is)
+          (subst (λ bytes. IsSettled new so_far (at + size) bytes) (sym of_left) takes.settled);
+    }
+
+-- no byte is lost between those that are left and those that are added
+pub passes_sum : (start at size : ℕ) (before piece pending rest left behind : List ℕ)
+    → (at + length pending) + length rest ≡ (start + length before) + length piece → size ≤ length pending
+    → left ++ behind ≡ drop size pending ++ rest
+    → ((at + size) + length left) + length behind ≡ (start + length before) + length piece
+passes_sum start at size before piece pending rest left behind sum there same =
+    let parts : length left + length behind ≡ length (drop size pending) + length rest =
+    sym (length-append left behind) ∙ ap length same ∙ length-append (drop size pending) rest in
+    let fewer = length-drop size pending in
+    omega (arith, sum, there, parts, fewer)

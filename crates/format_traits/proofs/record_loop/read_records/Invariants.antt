@@ -1,0 +1,23 @@
+use Rattle.std.proofs.Common.{◌≡◌, ◌+◌, ◌-◌, ◌≤◌, IsTrue, false, length, drop}
+use Rattle.design_model.specs.declared.point.TheConstants.{JUMP_LIMIT}
+use Rattle.design_model.specs.Points.{is_within}
+use Rattle.format_traits.specs.declared.stage.Stage.TheVariants as stage
+use Rattle.format_traits.specs.RecordStreams.{stream_at}
+use Rattle.format_traits.specs.Streams.{ComesOn}
+use Rattle.format_traits.proofs.record_loop.read_records.Given as goal
+
+-- the design so far and the bytes that are left come to what the bytes from the start on come to
+abbrev pub invariant-loop-event : goal.invariant-loop-event
+invariant-loop-event g l = record {
+  at : l.at + length l.rest ≡ l.start + length l.bytes;
+  there : length l.rest ≤ length l.bytes;
+  left : l.rest ≡ drop (length l.bytes - length l.rest) l.bytes;
+  place : IsTrue (is_within JUMP_LIMIT l.place);
+  on : ComesOn
+      (stream_at g.R.RecordReader.layout (g.R.RecordReader.records l.fn.reader) l.fn.design l.fn.place (stage.Records false))
+      (stream_at g.R.RecordReader.layout (g.R.RecordReader.records l.reader) l.design l.place (stage.Records false))
+      l.start l.at l.bytes l.rest;
+}
+
+abbrev pub decreases-loop-event : goal.decreases-loop-event
+decreases-loop-event g l = length l.rest

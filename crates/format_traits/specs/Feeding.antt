@@ -1,0 +1,57 @@
+-- What it means to feed a format object: the state that contracts see, and what each call does to it.
+use Rattle.std.specs.Prelude.{◌≡◌, ℕ, ◌+◌, ◌-◌, Bool, true, false, List, [], ◌∷◌, ◌++◌, length, Result, Ok, Err}
+use Rattle.design_model.specs.declared.command.Command.{Command}
+use Rattle.design_model.specs.declared.memory.Memory.{Memory}
+use Rattle.format_traits.specs.declared.fault.ReadFault.{ReadFault}
+use Rattle.format_traits.specs.declared.fault.ReadFault.TheVariants as fault
+use Rattle.format_traits.specs.declared.loaded.Loaded.{Loaded}
+use Rattle.format_traits.specs.Laws.{Reads}
+use Rattle.format_traits.specs.Meanings.{Meaning}
+use Rattle.format_traits.specs.Streams.{SoFar, Stream}
+
+-- whether memory was wanted, the number of bytes fed, what the file reads as once those bytes more
+-- are fed, and the commands that it then gives
+pub record Feeding : Type 0 where
+  pub spoiled : Bool
+  pub taken : ℕ
+  pub rest : List ℕ → Result Loaded ReadFault
+  pub given : List ℕ → List Command
+
+-- nothing was fed of a file: what comes is the file
+pub record IsFresh (reads : List ℕ → Result Loaded ReadFault) (shown : List ℕ → List Command)
+    (f : Feeding) : Type 0 where
+  pub sound : f.spoiled ≡ false
+  pub taken : f.taken ≡ 0
+  pub rest : (more : List ℕ) → f.rest more ≡ reads more
+  pub given : (more : List ℕ) → f.given more ≡ shown more
+
+-- a piece was fed
+pub record IsFed (old : Feeding) (piece : List ℕ) (new : Feeding) : Type 0 where
+  pub was : old.spoiled ≡ false
+  pub sound : new.spoiled ≡ false
+  pub taken : new.taken ≡ old.taken + length piece
+  pub rest : (more : List ℕ) → new.rest more ≡ old.rest (piece ++ more)
+  pub given : (more : List ℕ) → new.given more ≡ old.given (piece ++ more)
+
+-- memory was wanted while a piece was fed
+pub record IsSpoiled (old : Feeding) (size : ℕ) (new : Feeding) : Type 0 where
+  pub spoiled : new.spoiled ≡ true
+  pub taken : new.taken ≡ old.taken + size
+
+-- what an answer of feeding means
+abbrev pub Feeds : {T : Type 0} → Feeding → List ℕ → Result T Memory → Feeding → Type 0
+Feeds old piece (Ok _) new = IsFed old piece new
+Feeds old piece (Err _) new = IsSpoiled old (length piece) new
+
+-- the file was told, and the next one may be fed
+pub record IsTold (reads : List ℕ → Result Loaded ReadFault) (shown : List ℕ → List Command)
+    (old : Feeding) (result : Result Loaded ReadFault) (new : Feeding) : Type 0 where
+  pub was : old.spoiled ≡ false
+  pub is : Reads (old.rest []) result
+  pub fresh : IsFresh reads shown new
+
+-- what an answer of finishing means
+abbrev pub Finishes : (List ℕ → Result Loaded ReadFault) → (List ℕ → List Command) → Feeding
+    → Result Loaded ReadFault → Feeding → Type 0
+Finishes reads shown old (Err fault.Memory) new = IsSpoiled old 0 new
+Finishes reads shown old result new = IsTold reads shown old result new

@@ -1,0 +1,97 @@
+ghost use Rattle.std.specs.Prelude.{◌≡◌, true, IsTrue, IfOk};
+ghost use Rattle.std.specs.List.{list_all};
+ghost use Rattle.design_model.specs.declared.point.TheConstants.{JUMP_LIMIT};
+ghost use Rattle.design_model.specs.Points.{is_within};
+ghost use Rattle.format_traits.specs.declared.record_reader.TheConstants.{GREATEST_STEP};
+ghost use Rattle.format_traits.specs.Keeping.{Keeps, SameButCommands};
+ghost use Rattle.format_traits.specs.Records.{commands_at, commands_of, cuts, moves_in, place_by};
+
+use crate::event::Event;
+use crate::fault::ReadFault;
+use crate::keeping::{keep, keep_both};
+use crate::placing::moved;
+use design_model::{Command, Design, Point};
+
+/// Adds the commands of the record at that offset, and gives the place after it.
+// A stitch goes the same way as the others, but in a copy of its own: LLVM then knows all along it
+// that the event is one.
+#[inline(always)]
+pub(crate) fn keep_event(design: &mut Design, at: u64, place: Point, event: Event) -> Result<Point, ReadFault>
+    requires place { IsTrue (is_within JUMP_LIMIT place) }
+    requires small { IsTrue (list_all (λ move. is_within GREATEST_STEP move) (moves_in event)) }
+    ensures value { Keeps at (commands_of event place) design.old result design.new }
+    ensures place { IfOk result (λ there. there ≡ place_by event place) }
+    ensures range { IfOk result (λ there. IsTrue (is_within JUMP_LIMIT there)) }
+    ensures others { SameButCommands design.old design.new }
+{
+    match event {
+        Event::Stitch(_) => keep_here(design, at, place, event),
+        _ => keep_here(design, at, place, event),
+    }
+}
+
+#[inline(always)]
+fn keep_here(design: &mut Design, at: u64, place: Point, event: Event) -> Result<Point, ReadFault>
+    requires place { IsTrue (is_within JUMP_LIMIT place) }
+    requires small { IsTrue (list_all (λ move. is_within GREATEST_STEP move) (moves_in event)) }
+    ensures value { Keeps at (commands_of event place) design.old result design.new }
+    ensures place { IfOk result (λ there. there ≡ place_by event place) }
+    ensures range { IfOk result (λ there. IsTrue (is_within JUMP_LIMIT there)) }
+    ensures others { SameButCommands design.old design.new }
+{
+    let there = place_after(place, event);
+    match keep_commands(design, at, event, there) {
+        Ok(()) => Ok(there),
+        Err(fault) => Err(fault),
+    }
+}
+
+/// The place after an event.
+fn place_after(place: Point, event: Event) -> Point
+    requires place { IsTrue (is_within JUMP_LIMIT place) }
+    requires small { IsTrue (list_all (λ move. is_within GREATEST_STEP move) (moves_in event)) }
+    ensures { result ≡ place_by event place }
+{
+    match event {
+        Event::Trim | Event::Stop => place,
+        Event::Stitch(step) | Event::Jump(step) | Event::TrimmedJump(step) | Event::StopBy(step) =>
+            moved(place, step),
+    }
+}
+
+/// Adds the commands of an event after which the hoop is there.
+#[inline(always)]
+fn keep_commands(design: &mut Design, at: u64, event: Event, there: Point) -> Result<(), ReadFault>
+    ensures value { Keeps at (commands_at event there) design.old result design.new }
+    ensures others { SameButCommands design.old design.new }
+{
+    match event {
+        Event::Stitch(_) => keep(design, at, Command::Stitch(there)),
+        Event::Jump(_) => keep(design, at, Command::Jump(there)),
+        Event::TrimmedJump(_) | Event::Trim | Event::Stop | Event::StopBy(_) => {
+            keep_cut(design, at, event, there)
+        }
+    }
+}
+
+/// The same for an event that trims or stops. These are few, and so apart from the readers' loops.
+#[cold]
+#[inline(never)]
+fn keep_cut(design: &mut Design, at: u64, event: Event, there: Point) -> Result<(), ReadFault>
+    requires { cuts event ≡ true }
+    ensures value { Keeps at (commands_at event there) design.old result design.new }
+    ensures others { SameButCommands design.old design.new }
+{
+    if let Event::TrimmedJump(_) = event {
+        return keep_both(design, at, Command::Trim, Command::Jump(there));
+    }
+    if let Event::Trim = event {
+        return keep(design, at, Command::Trim);
+    }
+    match event {
+        Event::StopBy(step) if step.x != 0 || step.y != 0 => {
+            keep_both(design, at, Command::Stop, Command::Jump(there))
+        }
+        _ => keep(design, at, Command::Stop),
+    }
+}

@@ -1,0 +1,89 @@
+ghost use Rattle.std.specs.Prelude.{◌≡◌, ◌+◌, ◌<◌, ◌≤◌, ◌^◌, ◌++◌, length, drop, IfOk, IsOk, OnOk};
+ghost use Rattle.format_traits.specs.declared.decoder.TheConstants.{MOST_PENDING};
+ghost use Rattle.format_traits.specs.Laws.{Reads};
+ghost use Rattle.format_traits.specs.Streams.{Passes, Takes};
+
+use crate::decoder::{Decoder, MOST_PENDING};
+use crate::fault::ReadFault;
+use crate::loaded::Loaded;
+use arrayvec::ArrayVec;
+use design_model::Memory;
+
+/// Passes on to a decoder what is pending at that offset and a piece behind it, as far as it takes them; what it
+/// leaves is pending then.
+pub(crate) fn pass_on<D: Decoder>(
+    decoder: &mut D,
+    pending: &mut ArrayVec<u8, MOST_PENDING>,
+    start: u64,
+    piece: &[u8],
+) -> Result<(), Memory>
+    requires { start + length pending.old.items + length piece.now < 2 ^ 64 }
+    ensures { OnOk result (Passes (D.stream decoder.old) (D.stream decoder.new) (D.so_far decoder.new)
+        start pending.old.items piece.now pending.new.items) }
+{
+    let mut at = start;
+    let mut rest = piece;
+    loop {
+        let size = take_pending(decoder, pending, at)?;
+        at += size as u64;
+        if rest.is_empty() {
+            return Ok(());
+        }
+        rest = fill(pending, rest);
+    }
+}
+
+/// What all bytes from that offset of a file on read as.
+pub fn decode_whole<D: Decoder + Drop>(
+    decoder: D,
+    start: u64,
+    bytes: &[u8],
+) -> Result<Loaded, ReadFault>
+    requires { start + length bytes.now < 2 ^ 64 }
+    ensures { Reads (D.fresh.rest start bytes.now) result }
+{
+    let mut decoder = decoder;
+    decoder.begin(start);
+    let mut pending = ArrayVec::new();
+    pass_on(&mut decoder, &mut pending, start, bytes)?;
+    decoder.finish()
+}
+
+/// Drops of what is pending at that offset what the decoder takes, so many bytes.
+fn take_pending<D: Decoder>(
+    decoder: &mut D,
+    pending: &mut ArrayVec<u8, MOST_PENDING>,
+    at: u64,
+) -> Result<usize, Memory>
+    requires { at + length pending.old.items < 2 ^ 64 }
+    ensures takes { IfOk result (λ size. Takes (D.stream decoder.old) (D.stream decoder.new)
+        (D.so_far decoder.new) at pending.old.items size) }
+    ensures left { IfOk result (λ size. pending.new.items ≡ drop size pending.old.items) }
+{
+    let size = decoder.take(at, pending.as_slice())?;
+    drop_first(pending, size);
+    Ok(size)
+}
+
+/// Drops the first bytes, so many of them.
+fn drop_first(bytes: &mut ArrayVec<u8, MOST_PENDING>, size: usize)
+    requires { size ≤ length bytes.old.items }
+    ensures { bytes.new.items ≡ drop size bytes.old.items }
+{
+    let mut left = ArrayVec::new();
+    left.try_extend_from_slice(&bytes.as_slice()[size..]).unwrap();
+    *bytes = left;
+}
+
+/// Adds as many bytes as there is room for, and gives those behind them.
+fn fill<'a>(bytes: &mut ArrayVec<u8, MOST_PENDING>, piece: &'a [u8]) -> &'a [u8]
+    requires room { length bytes.old.items < MOST_PENDING }
+    requires some { 0 < length piece.now }
+    ensures all { bytes.new.items ++ result.now ≡ bytes.old.items ++ piece.now }
+    ensures less { length result.now < length piece.now }
+{
+    let room = MOST_PENDING - bytes.len();
+    let (first, behind) = piece.split_at(room.min(piece.len()));
+    bytes.try_extend_from_slice(first).unwrap();
+    behind
+}

@@ -1,0 +1,74 @@
+ghost use Rattle.std.specs.Prelude.{◌≡◌, ◌+◌, ◌<◌, ◌^◌, IfOk, IsTrue, true, false, length};
+ghost use Rattle.design_model.specs.declared.point.TheConstants.{JUMP_LIMIT};
+ghost use Rattle.design_model.specs.Points.{is_within};
+ghost use Rattle.format_traits.specs.declared.stage.Stage.TheVariants as stage;
+ghost use Rattle.format_traits.specs.RecordStreams.{so_far_at, stream_at};
+ghost use Rattle.format_traits.specs.Streams.{Takes};
+
+use crate::event_keeping::keep_event;
+use crate::fault::ReadFault;
+use crate::record_reader::{Cut, RecordReader};
+use crate::stage::Stage;
+use design_model::{Design, Memory, Point};
+
+/// How far a reader of records came: through so many bytes, to a place of the hoop.
+#[derive(Clone, Copy, Debug, PartialEq, Eq)]
+pub struct Reached {
+    pub size: usize,
+    pub place: Point,
+    pub stage: Stage,
+}
+
+/// Adds the commands of the records in the bytes at an offset, as far as they are whole, from a place on.
+pub fn read_records<R: RecordReader>(
+    reader: &mut R,
+    design: &mut Design,
+    place: Point,
+    start: u64,
+    bytes: &[u8],
+) -> Result<Reached, Memory>
+    requires place { IsTrue (is_within JUMP_LIMIT place) }
+    requires start { start + length bytes.now < 2 ^ 64 }
+    ensures takes { IfOk result (λ r. Takes
+        (stream_at R.layout (R.records reader.old) design.old place (stage.Records false))
+        (stream_at R.layout (R.records reader.new) design.new r.place r.stage)
+        (so_far_at design.new r.stage) start bytes.now r.size) }
+    ensures place { IfOk result (λ r. IsTrue (is_within JUMP_LIMIT r.place)) }
+{
+    let mut at = start;
+    let mut place = place;
+    let mut rest = bytes;
+    loop {
+        match reader.next(at, rest) {
+            Cut::Record { event, size } => match keep_event(design, at, place, event) {
+                Ok(there) => {
+                    place = there;
+                    at += size as u64;
+                    rest = &rest[size..];
+                }
+                Err(ReadFault::Memory) => return Err(Memory),
+                Err(fault) => return Ok(stopped(bytes, place, Stage::Refused(fault))),
+            },
+            Cut::Wants { ended } => {
+                return Ok(Reached {
+                    size: bytes.len() - rest.len(),
+                    place,
+                    stage: Stage::Records(ended),
+                });
+            }
+            Cut::End => return Ok(stopped(bytes, place, Stage::Over)),
+            Cut::Refused(fault) => return Ok(stopped(bytes, place, Stage::Refused(fault))),
+        }
+    }
+}
+
+/// Nothing of the bytes is left where reading is over.
+fn stopped(bytes: &[u8], place: Point, stage: Stage) -> Reached
+    ensures { result ≡ record { size = length bytes.now; place = place; stage = stage } }
+{
+    Reached {
+        size: bytes.len(),
+        place,
+        stage,
+    }
+}

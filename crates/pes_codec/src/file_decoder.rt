@@ -1,0 +1,124 @@
+use crate::file_front::FileFront;
+use crate::file_stage::FileStage;
+use design_model::{Command, Memory};
+use format_traits::{Decoder, Loaded, ReadFault, RecordDecoder};
+use pec_codec::{PecRecords, block_decoder};
+use std::alloc::Global;
+
+/// The decoder of files whose block stands behind a front.
+#[derive(Drop)]
+pub struct FileDecoder<F: FileFront + Drop> {
+    front: F,
+    block: RecordDecoder<PecRecords>,
+    stage: FileStage,
+}
+
+impl<F: FileFront + Drop> FileDecoder<F> {
+    ghost use Rattle.std.specs.Prelude.{◌≡◌, ◌+◌, ◌<◌, ◌^◌, IfOk, length};
+    ghost use Rattle.format_traits.specs.Streams.{Takes};
+    ghost use Rattle.pes_codec.specs.FileStreams.{so_far_at, stream_at, stream_behind, stream_from};
+    ghost use Rattle.pes_codec.specs.Openings.{front_fault};
+
+    /// A decoder that has to begin.
+    pub fn new(alloc: Global, front: F) -> Self {
+        FileDecoder {
+            front,
+            block: block_decoder(alloc),
+            stage: FileStage::Block,
+        }
+    }
+
+    /// Why a file that ends in its front is not read.
+    fn front_fault(&self, at: u64, bytes: &[u8]) -> ReadFault
+        requires { at + length bytes.now < 2 ^ 64 }
+        ensures { result ≡ front_fault F.opening at bytes.now }
+    {
+        if self.front.is_known(bytes) {
+            ReadFault::Short {
+                at: at + bytes.len() as u64,
+            }
+        } else {
+            ReadFault::Signature { at }
+        }
+    }
+
+    fn take_front(&mut self, at: u64, bytes: &[u8]) -> Result<usize, Memory>
+        requires { at + length bytes.now < 2 ^ 64 }
+        ensures { IfOk result (λ size. Takes (stream_from F.opening)
+            (stream_at F.opening (⟦<RecordDecoder<PecRecords> as Decoder>⟧.stream self.new.block) self.new.stage)
+            (so_far_at (⟦<RecordDecoder<PecRecords> as Decoder>⟧.so_far self.new.block) self.new.stage)
+            at bytes.now size) }
+    {
+        if bytes.len() < self.front.length() {
+            self.stage = FileStage::Front(self.front_fault(at, bytes));
+            return Ok(0);
+        }
+        if !self.front.is_known(bytes) {
+            self.stage = FileStage::Refused(ReadFault::Signature { at });
+            return Ok(bytes.len());
+        }
+        let skip = self.front.block(bytes) as u64;
+        self.take_before(at, skip, bytes)
+    }
+
+    /// Goes on to the block, which begins behind so many bytes.
+    fn take_before(&mut self, at: u64, skip: u64, bytes: &[u8]) -> Result<usize, Memory>
+        requires { at + length bytes.now < 2 ^ 64 }
+        ensures { IfOk result (λ size. Takes (stream_behind skip)
+            (stream_at F.opening (⟦<RecordDecoder<PecRecords> as Decoder>⟧.stream self.new.block) self.new.stage)
+            (so_far_at (⟦<RecordDecoder<PecRecords> as Decoder>⟧.so_far self.new.block) self.new.stage)
+            at bytes.now size) }
+    {
+        let length = bytes.len() as u64;
+        if length < skip {
+            self.stage = FileStage::Before {
+                skip: skip - length,
+                end: at + length,
+            };
+            return Ok(bytes.len());
+        }
+        let block = bytes.split_at(skip as usize).1;
+        self.stage = FileStage::Block;
+        self.block.begin(at + skip);
+        let size = self.block.take(at + skip, block)?;
+        Ok(skip as usize + size)
+    }
+}
+
+impl<F: FileFront + Drop> Decoder for FileDecoder<F> {
+    ghost use Rattle.pes_codec.specs.FileStreams.{so_far_at, stream_at, stream_from};
+
+    ghost fresh = { stream_from F.opening };
+
+    ghost stream = { λ d. stream_at F.opening (⟦<RecordDecoder<PecRecords> as Decoder>⟧.stream d.block) d.stage };
+
+    ghost so_far = { λ d. so_far_at (⟦<RecordDecoder<PecRecords> as Decoder>⟧.so_far d.block) d.stage };
+
+    fn begin(&mut self, at: u64) {
+        self.stage = FileStage::Front(self.front_fault(at, &[]));
+    }
+
+    fn take(&mut self, at: u64, bytes: &[u8]) -> Result<usize, Memory> {
+        match self.stage {
+            FileStage::Front(_) => self.take_front(at, bytes),
+            FileStage::Before { skip, .. } => self.take_before(at, skip, bytes),
+            FileStage::Block => self.block.take(at, bytes),
+            FileStage::Refused(_) => Ok(bytes.len()),
+        }
+    }
+
+    fn finish(&mut self) -> Result<Loaded, ReadFault> {
+        match self.stage {
+            FileStage::Front(fault) | FileStage::Refused(fault) => Err(fault),
+            FileStage::Before { end, .. } => Err(ReadFault::Short { at: end }),
+            FileStage::Block => self.block.finish(),
+        }
+    }
+
+    fn so_far(&self) -> &[Command] {
+        match self.stage {
+            FileStage::Block => self.block.so_far(),
+            FileStage::Front(_) | FileStage::Before { .. } | FileStage::Refused(_) => &[],
+        }
+    }
+}
