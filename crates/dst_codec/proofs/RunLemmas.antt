@@ -28,6 +28,7 @@ cut_three run after at (a ∷ b ∷ c ∷ rest) k m result long of_kind of_move 
   where
     behind : List ℕ → Records
     behind more = records_from (run_after k run) (at + 3) (rest ++ more)
+
     by_cut : (result : Cut) → CutsAs k at run m result
         → Cuts (records_from run) (records_from after) at (a ∷ b ∷ c ∷ rest) result
     by_cut cut.End cuts = λ more. record_reads run at a b c (rest ++ more) k m of_kind of_move ∙ cuts (behind more)

@@ -1,6 +1,6 @@
 -- What a file reads as: its records behind the header. A fold over them keeps the number of jump
 -- records in the unbroken run that came just before, counted up to three.
-use Rattle.std.specs.Prelude.{ℕ, ◌+◌, min, true, false, nat_eq, nat_lt, List, [], ◌∷◌, length, take, drop, Result, Err, ◌==◌, codes, if◌then◌else◌}
+use Rattle.std.specs.Prelude.{ℕ, ◌+◌, min, true, false, nat_eq, List, [], ◌∷◌, take, drop, Result, ◌==◌, codes, if◌then◌else◌}
 use Rattle.std.specs.List.{starts_with}
 use Rattle.design_model.specs.declared.command.Command.{Command}
 use Rattle.design_model.specs.declared.design.TheConstants.{MAX_LABEL}

@@ -16,22 +16,27 @@ fed_on old new was now start taken before (byte ∷ bytes) after whether then fi
   rest = rest;
   given = given;
 } where
-    piece : List ℕ
-    piece = byte ∷ bytes
-    at : ℕ
-    at = start + (taken - length before)
-    there : ℕ
-    there = start + ((taken + length piece) - length after)
-    here : there + length after ≡ at + length before + length piece
-    here = let few = passes.few in omega (arith, fits, few)
-    rest : (more : List ℕ) → rest_of new now there after more ≡ rest_of old was at before (piece ++ more)
-    rest [] = sym (passes.settled there here).answer ∙ ap (new.rest there) (sym (append-nil after))
-        ∙ sym ((passes.on there here).rest []) ∙ ap (old.rest at) (append_assoc before piece [])
-    rest (m ∷ more) = sym ((passes.on there here).rest (m ∷ more)) ∙ ap (old.rest at) (append_assoc before piece (m ∷ more))
-    given : (more : List ℕ) → given_of new now there after more ≡ given_of old was at before (piece ++ more)
-    given [] = sym (passes.settled there here).commands ∙ ap (new.given there) (sym (append-nil after))
-        ∙ sym ((passes.on there here).given []) ∙ ap (old.given at) (append_assoc before piece [])
-    given (m ∷ more) = sym ((passes.on there here).given (m ∷ more)) ∙ ap (old.given at) (append_assoc before piece (m ∷ more))
+  piece : List ℕ
+  piece = byte ∷ bytes
+
+  at : ℕ
+  at = start + (taken - length before)
+
+  there : ℕ
+  there = start + ((taken + length piece) - length after)
+
+  here : there + length after ≡ at + length before + length piece
+  here = let few = passes.few in omega (arith, fits, few)
+
+  rest : (more : List ℕ) → rest_of new now there after more ≡ rest_of old was at before (piece ++ more)
+  rest [] = sym (passes.settled there here).answer ∙ ap (new.rest there) (sym (append-nil after))
+      ∙ sym ((passes.on there here).rest []) ∙ ap (old.rest at) (append_assoc before piece [])
+  rest (m ∷ more) = sym ((passes.on there here).rest (m ∷ more)) ∙ ap (old.rest at) (append_assoc before piece (m ∷ more))
+
+  given : (more : List ℕ) → given_of new now there after more ≡ given_of old was at before (piece ++ more)
+  given [] = sym (passes.settled there here).commands ∙ ap (new.given there) (sym (append-nil after))
+      ∙ sym ((passes.on there here).given []) ∙ ap (old.given at) (append_assoc before piece [])
+  given (m ∷ more) = sym ((passes.on there here).given (m ∷ more)) ∙ ap (old.given at) (append_assoc before piece (m ∷ more))
 
 -- the number of bytes that were pending is told by a call
 pub is_fed : (old new : Stream) (was now : SoFar) (start taken count : ℕ) (before piece after : List ℕ) (whether : Bool)

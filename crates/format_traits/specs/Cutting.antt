@@ -1,6 +1,6 @@
 -- What it means to cut the first record from the bytes that are left of a
 -- file, and to read them all.
-use Rattle.std.specs.Prelude.{◌≡◌, ℕ, ◌+◌, ◌<◌, ◌≤◌, Bool, true, List, ◌++◌, length, drop, Result, Ok, Err, IsTrue}
+use Rattle.std.specs.Prelude.{◌≡◌, ℕ, ◌+◌, ◌<◌, ◌≤◌, Bool, true, List, ◌++◌, length, drop, Result, Err, IsTrue}
 use Rattle.std.specs.List.{list_all}
 use Rattle.design_model.specs.Points.{is_within}
 use Rattle.format_traits.specs.declared.event.Event.{Event}

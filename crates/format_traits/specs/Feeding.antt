@@ -1,13 +1,11 @@
 -- What it means to feed a format object: the state that contracts see, and what each call does to it.
-use Rattle.std.specs.Prelude.{◌≡◌, ℕ, ◌+◌, ◌-◌, Bool, true, false, List, [], ◌∷◌, ◌++◌, length, Result, Ok, Err}
+use Rattle.std.specs.Prelude.{◌≡◌, ℕ, ◌+◌, Bool, true, false, List, [], ◌++◌, length, Result, Ok, Err}
 use Rattle.design_model.specs.declared.command.Command.{Command}
 use Rattle.design_model.specs.declared.memory.Memory.{Memory}
 use Rattle.format_traits.specs.declared.fault.ReadFault.{ReadFault}
 use Rattle.format_traits.specs.declared.fault.ReadFault.TheVariants as fault
 use Rattle.format_traits.specs.declared.loaded.Loaded.{Loaded}
 use Rattle.format_traits.specs.Laws.{Reads}
-use Rattle.format_traits.specs.Meanings.{Meaning}
-use Rattle.format_traits.specs.Streams.{SoFar, Stream}
 
 -- whether memory was wanted, the number of bytes fed, what the file reads as once those bytes more
 -- are fed, and the commands that it then gives

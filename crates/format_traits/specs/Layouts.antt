@@ -1,5 +1,5 @@
 -- A format of records behind a header, and what its bytes from an offset on come to.
-use Rattle.std.specs.Prelude.{ℕ, ◌+◌, List, [], length, drop, nat_lt, Result, Ok, Err, if◌then◌else◌}
+use Rattle.std.specs.Prelude.{ℕ, ◌+◌, List, [], length, drop, nat_lt, Result, Err, if◌then◌else◌}
 use Rattle.design_model.specs.declared.command.Command.{Command}
 use Rattle.format_traits.specs.declared.fault.ReadFault.{ReadFault}
 use Rattle.format_traits.specs.declared.fault.ReadFault.TheVariants as fault

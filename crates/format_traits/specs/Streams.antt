@@ -1,8 +1,7 @@
 -- What the bytes of a file come to while they are read in pieces. A stream is what is still to come:
 -- what the file reads as, and the commands that it gives, once the bytes from an offset on are known.
-use Rattle.std.specs.Prelude.{◌≡◌, ℕ, ◌+◌, ◌<◌, ◌≤◌, List, ◌++◌, length, drop, Result, Ok, Err}
+use Rattle.std.specs.Prelude.{◌≡◌, ℕ, ◌+◌, ◌<◌, ◌≤◌, List, ◌++◌, length, drop, Result}
 use Rattle.design_model.specs.declared.command.Command.{Command}
-use Rattle.design_model.specs.declared.memory.Memory.{Memory}
 use Rattle.format_traits.specs.declared.decoder.TheConstants.{MOST_PENDING}
 use Rattle.format_traits.specs.declared.fault.ReadFault.{ReadFault}
 use Rattle.format_traits.specs.declared.loaded.Loaded.{Loaded}

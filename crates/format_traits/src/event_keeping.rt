@@ -16,7 +16,12 @@ use design_model::{Command, Design, Point};
 // A stitch goes the same way as the others, but in a copy of its own: LLVM then knows all along it
 // that the event is one.
 #[inline(always)]
-pub(crate) fn keep_event(design: &mut Design, at: u64, place: Point, event: Event) -> Result<Point, ReadFault>
+pub(crate) fn keep_event(
+    design: &mut Design,
+    at: u64,
+    place: Point,
+    event: Event,
+) -> Result<Point, ReadFault>
     requires place { IsTrue (is_within JUMP_LIMIT place) }
     requires small { IsTrue (list_all (λ move. is_within GREATEST_STEP move) (moves_in event)) }
     ensures value { Keeps at (commands_of event place) design.old result design.new }

@@ -71,7 +71,8 @@ fn drop_first(bytes: &mut ArrayVec<u8, MOST_PENDING>, size: usize)
     ensures { bytes.new.items ≡ drop size bytes.old.items }
 {
     let mut left = ArrayVec::new();
-    left.try_extend_from_slice(&bytes.as_slice()[size..]).unwrap();
+    left.try_extend_from_slice(&bytes.as_slice()[size..])
+        .unwrap();
     *bytes = left;
 }
 

@@ -131,7 +131,7 @@ impl<R: RecordReader + Drop> Decoder for RecordDecoder<R> {
     fn so_far(&self) -> &[Command] {
         match self.stage {
             Stage::Header(_) => &[],
-            Stage::Records(_) | Stage::Over | Stage::Refused(_) => self.design.commands(),
+            _ => self.design.commands(),
         }
     }
 }

@@ -1,11 +1,10 @@
 -- Formats whose files are a front and a block.
-use Rattle.std.proofs.Common.{◌≡◌, ℕ, ◌+◌, ◌≤◌, true, false, drop, IsTrue, nat_lt, List, [], ◌++◌, length, Result, Ok, Err, IfOk, IsOk, IsOkAnd, if◌then◌else◌, refl, ap, sym, subst, arith, length-append}
+use Rattle.std.proofs.Common.{◌≡◌, ℕ, ◌≤◌, true, false, drop, IsTrue, nat_lt, List, [], ◌++◌, length, Result, Ok, Err, IfOk, IsOk, IsOkAnd, if◌then◌else◌, refl, ap, sym, subst, arith, length-append}
 use Rattle.std.proofs.lemmas.Bool.{le-ltb}
 use Rattle.std.specs.List.{list_all}
 use Rattle.design_model.specs.Designs.{DesignValue}
 use Rattle.design_model.specs.Points.{is_within}
 use Rattle.format_traits.specs.declared.fault.ReadFault.{ReadFault}
-use Rattle.format_traits.specs.declared.fault.ReadFault.TheVariants as fault
 use Rattle.format_traits.specs.declared.fault.WriteFault.{WriteFault}
 use Rattle.format_traits.specs.declared.loaded.Loaded.{Loaded}
 use Rattle.format_traits.specs.Laws.{IsAgain, KeepsLaws, MovesWithin, ReadsAgain}

@@ -1,5 +1,5 @@
 -- What the bytes of a file come to, up to its block and from there on.
-use Rattle.std.proofs.Common.{◌≡◌, ℕ, ◌+◌, ◌-◌, ◌<◌, ◌≤◌, Bool, true, false, List, [], ◌++◌, length, drop, nat_lt, Result, Ok, Err, IfOk, if◌then◌else◌, refl, ap, sym, subst, ◌∙◌, arith, length-append}
+use Rattle.std.proofs.Common.{◌≡◌, ℕ, ◌+◌, ◌-◌, ◌<◌, ◌≤◌, Bool, true, false, List, [], ◌++◌, length, drop, nat_lt, Result, Ok, Err, IfOk, if◌then◌else◌, refl, ap, sym, ◌∙◌, arith, length-append}
 use Rattle.std.proofs.Math.Seq.{drop-append-add}
 use Rattle.std.proofs.lemmas.Bool.{le-ltb, lt-ltb, ltb-false, ltb-true}
 use Rattle.std.proofs.lemmas.List.{drop-append-le, drop-drop, drop_all, length-drop}
@@ -7,7 +7,7 @@ use Rattle.design_model.specs.declared.memory.Memory.{Memory}
 use Rattle.format_traits.specs.declared.fault.ReadFault.{ReadFault}
 use Rattle.format_traits.specs.declared.fault.ReadFault.TheVariants as fault
 use Rattle.format_traits.specs.Layouts.{given_by, reads_by, stream_by}
-use Rattle.format_traits.specs.Streams.{ComesOn, IsSameStream, IsSettled, SoFar, Stream, Takes}
+use Rattle.format_traits.specs.Streams.{IsSameStream, SoFar, Stream, Takes}
 use Rattle.pec_codec.specs.Reading.{layout}
 use Rattle.pes_codec.specs.declared.file_stage.FileStage.TheVariants as stage
 use Rattle.pes_codec.specs.FileStreams.{so_far_at, stream_at, stream_behind, stream_from}
@@ -81,18 +81,6 @@ front_known opening new so_far at skip bytes (Ok size) long known is takes =
       settled = takes.settled;
     }
 
--- what stands before the block is the same, whatever offset it ended at
-pub before_again : (opening : Opening) (block new : Stream) (so_far : SoFar) (at skip end : ℕ) (bytes : List ℕ) (result : Result ℕ Memory)
-    → IfOk result (λ size. Takes (stream_behind skip) new so_far at bytes size)
-    → IfOk result (λ size. Takes (stream_at opening block (stage.Before skip end)) new so_far at bytes size)
-before_again opening block new so_far at skip end bytes (Err f) takes = tt
-before_again opening block new so_far at skip end bytes (Ok size) takes = record {
-  there = takes.there;
-  few = takes.few;
-  on = record { rest = takes.on.rest; given = takes.on.given };
-  settled = takes.settled;
-}
-
 -- fewer bytes than stand before the block
 test_on : (l m skip : ℕ) → l < skip → nat_lt (l + m) skip ≡ nat_lt m (skip - l)
 test_on l m skip less = by_test (nat_lt m (skip - l)) refl
@@ -140,7 +128,7 @@ pub before_short : (opening : Opening) (block : Stream) (so_far : SoFar) (at ski
     Takes (stream_behind skip) (stream_at opening block far) (so_far_at so_far far) at bytes (length bytes)
 before_short opening block so_far at skip bytes less =
     let l = length bytes in
-    let none : drop l bytes ≡ [] = drop_all bytes in
+    let none : drop l bytes ≡ [] = drop_all l bytes (omega arith) in
     let some : 0 < skip - l = omega (arith, less) in
     let end : (at + l) + 0 ≡ at + l = omega arith in
     record {

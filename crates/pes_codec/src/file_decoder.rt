@@ -101,7 +101,10 @@ impl<F: FileFront + Drop> Decoder for FileDecoder<F> {
     fn take(&mut self, at: u64, bytes: &[u8]) -> Result<usize, Memory> {
         match self.stage {
             FileStage::Front(_) => self.take_front(at, bytes),
-            FileStage::Before { skip, .. } => self.take_before(at, skip, bytes),
+            FileStage::Before { skip, .. } => {
+                let size = self.take_before(at, skip, bytes)?;
+                Ok(size)
+            }
             FileStage::Block => self.block.take(at, bytes),
             FileStage::Refused(_) => Ok(bytes.len()),
         }

@@ -1,4 +1,4 @@
-use Rattle.std.proofs.Common.{◌≡◌, drop, sym, subst, rules}
+use Rattle.std.proofs.Common.{◌≡◌, drop, subst, rules}
 use Rattle.format_traits.specs.Laws.{Reads}
 use Rattle.pec_codec.proofs.ReadingLemmas.{reads_there}
 use Rattle.pec_codec.proofs.reading.read_block.Goals as goal

@@ -1,4 +1,4 @@
-use Rattle.std.proofs.Common.{◌≡◌, ◌<◌, ◌≤◌, length, rules}
+use Rattle.std.proofs.Common.{◌<◌, ◌≤◌, length, rules}
 use Rattle.format_traits.proofs.FeedLemmas.{is_fed}
 use Rattle.format_traits.proofs.feed.Feed.feed.Goals as goal
 

@@ -1,9 +1,15 @@
 use Rattle.std.proofs.Common.{◌≡◌, drop, rules}
+use Rattle.format_traits.specs.RecordStreams.{so_far_at, stream_at}
+use Rattle.pec_codec.specs.Reading.{layout}
+use Rattle.pec_codec.specs.Records.{pec_records}
 use Rattle.pes_codec.proofs.FileLemmas.{before_long, before_short}
 use Rattle.pes_codec.proofs.file_decoder.FileDecoder.take_before.Goals as goal
 
 pub returns-then-length-skip : goal.returns-then-length-skip
-returns-then-length-skip g c = before_short g.F.FileFront.opening _ _ c.args.at c.args.skip c.args.bytes.now c.if-length-skip.true
+returns-then-length-skip g c =
+    let block = c.args.self.now.block in
+    before_short g.F.FileFront.opening (stream_at layout pec_records block.design block.place block.stage) (so_far_at block.design block.stage)
+    c.args.at c.args.skip c.args.bytes.now c.if-length-skip.true
 
 pub returns : goal.returns
 returns g c =

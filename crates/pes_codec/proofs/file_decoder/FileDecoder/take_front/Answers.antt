@@ -1,9 +1,15 @@
-use Rattle.std.proofs.Common.{◌≡◌, ◌≤◌, ◌++◌, ◌∙◌, true, List, ℕ, length, rules}
+use Rattle.std.proofs.Common.{◌≤◌, ◌∙◌, length, rules}
+use Rattle.format_traits.specs.RecordStreams.{so_far_at, stream_at}
+use Rattle.pec_codec.specs.Reading.{layout}
+use Rattle.pec_codec.specs.Records.{pec_records}
 use Rattle.pes_codec.proofs.FileLemmas.{front_known, front_short}
 use Rattle.pes_codec.proofs.file_decoder.FileDecoder.take_front.Goals as goal
 
 pub returns-then-bytes-length : goal.returns-then-bytes-length
-returns-then-bytes-length g c = front_short g.F.FileFront.opening _ _ c.args.at _ c.args.bytes.now _ c.if-bytes-length.true
+returns-then-bytes-length g c =
+    let block = c.args.self.now.block in
+    front_short g.F.FileFront.opening (stream_at layout pec_records block.design block.place block.stage) (so_far_at block.design block.stage)
+    c.args.at _ c.args.bytes.now _ c.if-bytes-length.true
     c.length.ensures.value c.length.ensures.few c.front_fault.ensures
 
 pub returns : goal.returns
