@@ -21,8 +21,8 @@ use Rattle.route_core.specs.declared.verdict.Verdict.TheVariants as verdict
 use Rattle.route_core.specs.Verdicts.{verdict_of}
 use Rattle.stitch_cli.specs.declared.halt.Halt.{Halt}
 use Rattle.stitch_cli.specs.declared.halt.Halt.TheVariants as halt
-use Rattle.stitch_cli.specs.declared.status.Status.{Status}
-use Rattle.stitch_cli.specs.declared.status.Status.TheVariants as status
+use Rattle.program_texts.specs.declared.status.Status.{Status}
+use Rattle.program_texts.specs.declared.status.Status.TheVariants as status
 use Rattle.stitch_cli.specs.Checks.{IsDisproved, IsProved, check_cert, check_design, check_drawing}
 use Rattle.stitch_cli.specs.Commands.{plan_of}
 use Rattle.stitch_cli.specs.DoubleRuns.{double_above, double_read}

@@ -15,13 +15,13 @@ use Rattle.line_graph.specs.Walks.{needles_of_walk}
 use Rattle.route_core.specs.declared.routed.Routed.{Routed}
 use Rattle.route_core.specs.Doubles.{IsDoubleOver, IsDoubled}
 use Rattle.route_core.specs.Routes.{walks_of}
-use Rattle.stitch_cli.specs.DoubleReports.{double_report}
+use Rattle.program_texts.specs.DoubleReports.{double_report}
 use Rattle.stitch_cli.specs.DoubleRuns.{DoubleMakes}
 use Rattle.stitch_cli.specs.OrderNames.{RouteOrder}
 use Rattle.stitch_cli.specs.Products.{ProductValue, two_outputs}
-use Rattle.stitch_cli.specs.Reports.{penetrations_of}
-use Rattle.stitch_cli.specs.RouteSteps.{reports_from}
-use Rattle.stitch_cli.specs.Routes.{SewsIn, piece_report, piece_reports}
+use Rattle.program_texts.specs.Reports.{penetrations_of}
+use Rattle.program_texts.specs.PieceReports.{reports_from, piece_report}
+use Rattle.stitch_cli.specs.Routes.{SewsIn, piece_reports}
 use Rattle.stitch_cli.proofs.ReportLemmas.{reports_are}
 use Rattle.stitch_cli.proofs.RouteLemmas.{lines_count}
 use Rattle.stitch_cli.proofs.SewnDesigns.{runs_are_plain}

@@ -15,7 +15,7 @@ use Rattle.line_graph.specs.Drawings.{DrawingValue}
 use Rattle.outside_io.specs.Files.{Files}
 use Rattle.stitch_cli.specs.declared.halt.Halt.{Halt}
 use Rattle.stitch_cli.specs.declared.halt.Halt.TheVariants as halt
-use Rattle.stitch_cli.specs.declared.status.Status.{Status}
+use Rattle.program_texts.specs.declared.status.Status.{Status}
 use Rattle.stitch_cli.specs.Checks.{check_cert, check_design, check_drawing}
 use Rattle.stitch_cli.specs.Commands.{plan_of}
 use Rattle.stitch_cli.specs.DoubleRuns.{double_above, double_read}

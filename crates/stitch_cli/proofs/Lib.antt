@@ -1,4 +1,3 @@
-mod PutLemmas
 mod DeliveryLemmas
 mod PlanLemmas
 mod EditLemmas
@@ -13,9 +12,8 @@ mod RouteLemmas
 mod DoubleLemmas
 mod SampleLemmas
 mod OrderFacts
-mod ShowFacts
+mod HoopFacts
 mod RouteFacts
-mod DoubleFacts
 mod TextFacts
 mod ReasonFacts
 mod SampleFacts

@@ -1,5 +1,5 @@
 -- What comes of a rewriting, from what comes of its steps.
-use Rattle.std.proofs.Common.{◌≡◌, ℕ, List, Result, Ok, Err, refl, subst, ◌∙◌, sym}
+use Rattle.std.proofs.Common.{◌≡◌, ℕ, Result, Ok, Err, refl, subst, sym}
 use Rattle.design_model.specs.Designs.{DesignValue}
 use Rattle.format_traits.specs.declared.loaded.Loaded.{Loaded}
 use Rattle.outside_io.specs.Sights.{StoreSight}

@@ -3,11 +3,11 @@ use Rattle.std.proofs.Common.{◌≡◌, ℕ, pos, [], ◌∷◌, ◌++◌, refl
 use Rattle.std.specs.Fmt.{digits}
 use Rattle.std.specs.Prelude.{codes}
 use Rattle.cut_certificate.specs.declared.certificate.PieceCert.{PieceCert}
-use Rattle.certificate_text.specs.CertificateTexts.{line_end}
+use Rattle.program_texts.specs.TextLines.{line_end}
 use Rattle.design_model.specs.declared.point.Point.{Point}
 use Rattle.line_graph.specs.Drawings.{DrawingValue}
 use Rattle.stitch_cli.specs.Routes.{piece_reports}
-use Rattle.stitch_cli.specs.Reports.{route_report}
+use Rattle.program_texts.specs.Reports.{route_report}
 
 abbrev at : ℕ → ℕ → Point
 at x y = record { x = pos x; y = pos y }

@@ -1,25 +1,24 @@
 -- What the end of a run means.
-use Rattle.std.proofs.Common.{◌≡◌, ℕ, inl, inr, Bool, true, false, List, Option, Some, None, Ok, Err, Result, refl, sym, subst, bytes_eq, if◌then◌else◌}
-use Rattle.command_words.specs.Changes.{Change}
-use Rattle.format_traits.specs.Meanings.{Meaning}
+use Rattle.std.proofs.Common.{◌≡◌, ℕ, inl, inr, List, Option, Some, None, Ok, Err, Result, refl, subst}
 use Rattle.outside_io.specs.Sights.{SinkSight, StoreSight}
 use Rattle.stitch_cli.specs.declared.halt.Halt.{Halt}
 use Rattle.stitch_cli.specs.declared.halt.Halt.TheVariants as halt
 use Rattle.stitch_cli.specs.declared.product.Product.{Product}
-use Rattle.stitch_cli.specs.declared.status.Status.{Status}
-use Rattle.stitch_cli.specs.declared.status.Status.TheVariants as status
+use Rattle.program_texts.specs.declared.status.Status.{Status}
+use Rattle.program_texts.specs.declared.status.Status.TheVariants as status
 use Rattle.stitch_cli.specs.Commands.{plan_of}
-use Rattle.stitch_cli.specs.Endings.{Answers, Delivers, Ends, Halts, IsPrepared, OrderEnds, Tells, all, but_report, halted, made, status_of, up_to}
-use Rattle.stitch_cli.specs.OrderNames.{hoop_order, show_order}
-use Rattle.stitch_cli.specs.Orders.{Order, are_apart, hooping, hooping_by, rewriting, rewriting_by, routing, routing_to, showing, showing_by}
+use Rattle.stitch_cli.specs.Endings.{Answers, Delivers, Ends, Halts, IsPrepared, all, but_report, halted, made, status_of, up_to}
+use Rattle.program_texts.specs.Puts.{Tells}
+use Rattle.stitch_cli.specs.Orders.{Order}
 use Rattle.stitch_cli.specs.Plans.{Makes}
 use Rattle.stitch_cli.specs.Products.{ProductValue, product_of}
 use Rattle.stitch_cli.specs.Refusals.{refusal_of}
 use Rattle.stitch_cli.specs.RunSights.{Sights, seen}
 use Rattle.stitch_cli.specs.RunFailures.{missing, not_read, not_written, unprinted}
 use Rattle.stitch_cli.specs.Runs.{CallsFor, IsDone, IsFault, IsMemory, IsRefused, IsUsage, RunEnds, failed, memory, refused, usage}
-use Rattle.stitch_cli.specs.UsageText.{usage_text}
-use Rattle.stitch_cli.specs.Texts.{halt_text, memory_line, refusal_line, unprinted_line, unread_line, unwritten_line}
+use Rattle.program_texts.specs.UsageText.{usage_text}
+use Rattle.stitch_cli.specs.Texts.{halt_text, refusal_line}
+use Rattle.program_texts.specs.Messages.{memory_line, unprinted_line, unread_line, unwritten_line}
 use Rattle.line_graph.specs.OnePieces.{PiecesAreOne}
 use Rattle.stitch_cli.proofs.DecisionLemmas.{decided}
 use Rattle.stitch_cli.proofs.KeepLemmas.{keeps_others}

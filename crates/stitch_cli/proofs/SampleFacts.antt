@@ -1,13 +1,13 @@
 -- Worked values of what a sample tells.
-use Rattle.std.proofs.Common.{◌≡◌, ℕ, ℤ, pos, negsuc, [], ◌∷◌, ◌++◌, refl}
+use Rattle.std.proofs.Common.{◌≡◌, ℤ, pos, negsuc, [], ◌∷◌, ◌++◌, refl}
 use Rattle.std.specs.Fmt.{digits}
 use Rattle.std.specs.Prelude.{codes}
 use Rattle.cut_certificate.specs.declared.certificate.PieceCert.{PieceCert}
-use Rattle.certificate_text.specs.CertificateTexts.{line_end}
+use Rattle.program_texts.specs.TextLines.{line_end}
 use Rattle.design_model.specs.declared.point.Point.{Point}
 use Rattle.line_graph.specs.Drawings.{DrawingValue}
 use Rattle.stitch_cli.specs.Samples.{summary_of}
-use Rattle.stitch_cli.specs.Reports.{summary_text}
+use Rattle.program_texts.specs.Reports.{summary_text}
 
 abbrev at : ℤ → ℤ → Point
 at x y = record { x = x; y = y }

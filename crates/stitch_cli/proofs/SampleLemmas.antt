@@ -14,15 +14,15 @@ use Rattle.line_graph.specs.PieceGraphs.{PieceValue, piece_of}
 use Rattle.line_graph.specs.PieceWalks.{piece_cost}
 use Rattle.route_core.specs.declared.routed.Routed.{Routed}
 use Rattle.route_core.specs.Routes.{IsBest, IsRouteOver}
-use Rattle.stitch_cli.specs.declared.reports.PieceReport.{PieceReport}
-use Rattle.stitch_cli.specs.declared.summary.Summary.{Summary}
+use Rattle.program_texts.specs.declared.reports.PieceReport.{PieceReport}
+use Rattle.program_texts.specs.declared.summary.Summary.{Summary}
 use Rattle.stitch_cli.specs.OrderNames.{SampleOrder}
 use Rattle.stitch_cli.specs.Products.{ProductValue, one_output}
-use Rattle.stitch_cli.specs.RouteSteps.{reports_from}
-use Rattle.stitch_cli.specs.Routes.{piece_report, piece_reports}
-use Rattle.stitch_cli.specs.SampleSteps.{junction_sum, odd_sum, summed}
+use Rattle.program_texts.specs.PieceReports.{reports_from, piece_report}
+use Rattle.stitch_cli.specs.Routes.{piece_reports}
+use Rattle.stitch_cli.specs.SampleSteps.{summed}
 use Rattle.stitch_cli.specs.Samples.{TellsOf, cut_sum, junction_count, odd_count, over_pieces, retraced_sum, summary_of}
-use Rattle.stitch_cli.specs.Reports.{penetrations_of, summary_text}
+use Rattle.program_texts.specs.Reports.{penetrations_of, summary_text}
 use Rattle.stitch_cli.proofs.ReportLemmas.{reports_are}
 
 -- a sum over pieces that are cut from a drawing is one over their lines

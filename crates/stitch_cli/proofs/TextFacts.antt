@@ -1,85 +1,23 @@
--- Each line on the standard error, to the letter.
+-- The line of each refusal, to the letter.
 use Rattle.std.proofs.Common.{◌≡◌, ◌++◌, refl}
 use Rattle.std.specs.Fmt.{digits}
 use Rattle.std.specs.Prelude.{codes}
-use Rattle.certificate_text.specs.CertificateTexts.{line_end}
+use Rattle.program_texts.specs.TextLines.{line_end}
 use Rattle.format_traits.specs.declared.fault.ReadFault.TheVariants as read
 use Rattle.format_traits.specs.declared.fault.WriteFault.TheVariants as write
 use Rattle.line_graph.specs.declared.draw_kind.DrawKind.TheVariants as kind
 use Rattle.stitch_cli.specs.declared.changing.ChangeFault.TheVariants as reason
 use Rattle.stitch_trace.specs.declared.trace_fault.TraceFault.TheVariants as trace
 use Rattle.stitch_cli.specs.Refusals.{step_too_long, too_large, too_long, unchanged, undrawn, unread, untraced, unwritten}
-use Rattle.stitch_cli.specs.Texts.{draw_text, memory_line, refusal_line, unprinted_line, unread_line, unwritten_line}
-
--- what the outside did not do
-pub known_unread : unread_line (codes "a") ≡ codes "stitch: cannot read a" ++ line_end
-known_unread = refl
-
-pub known_unwritten : unwritten_line (codes "a") ≡ codes "stitch: cannot write a" ++ line_end
-known_unwritten = refl
-
-pub known_unprinted : unprinted_line ≡ codes "stitch: cannot print" ++ line_end
-known_unprinted = refl
-
-pub known_memory : memory_line ≡ codes "stitch: out of memory" ++ line_end
-known_memory = refl
+use Rattle.stitch_cli.specs.Texts.{refusal_line}
 
 -- a design that has no traced drawing
 pub known_untraced : refusal_line (untraced (codes "a") trace.NoLinks) ≡ codes "stitch: a: nothing is sewn" ++ line_end
 known_untraced = refl
 
-pub known_long_link : refusal_line (untraced (codes "a") (trace.LinkTooLong 12))
-    ≡ codes "stitch: a: command 12: link longer than 2047" ++ line_end
-unfolding digits
-known_long_link = refl
-
-pub known_many_chains : refusal_line (untraced (codes "a") (trace.Limit kind.TooManyLines))
-    ≡ codes "stitch: a: more than 1024 lines" ++ line_end
-known_many_chains = refl
-
 -- an input that is too long
 pub known_too_long : refusal_line (too_long (codes "a")) ≡ codes "stitch: a: longer than 67108864 bytes" ++ line_end
 known_too_long = refl
-
--- each fault of a drawing
-pub known_bad_header : draw_text kind.BadHeader ≡ codes "not a redwork drawing"
-known_bad_header = refl
-
-pub known_bad_word : draw_text kind.BadWord ≡ codes "word not understood"
-known_bad_word = refl
-
-pub known_bad_number : draw_text kind.BadNumber ≡ codes "not a number"
-known_bad_number = refl
-
-pub known_out_of_range : draw_text kind.OutOfRange ≡ codes "number out of range"
-known_out_of_range = refl
-
-pub known_few_points : draw_text kind.FewPoints ≡ codes "too few points"
-known_few_points = refl
-
-pub known_repeated : draw_text kind.RepeatedPoint ≡ codes "point repeated"
-known_repeated = refl
-
-pub known_no_block : draw_text kind.NoBlock ≡ codes "no block"
-known_no_block = refl
-
-pub known_many_lines : draw_text kind.TooManyLines ≡ codes "more than 1024 lines"
-known_many_lines = refl
-
-pub known_many_points : draw_text kind.TooManyPoints ≡ codes "more than 65536 points"
-known_many_points = refl
-
-pub known_many_blocks : draw_text kind.TooManyBlocks ≡ codes "more than 255 blocks"
-known_many_blocks = refl
-
-pub known_much_cost : draw_text kind.TooMuchCost ≡ codes "more than 200000 steps"
-known_much_cost = refl
-
-pub known_no_junction : draw_text kind.NoJunction ≡ codes "not a junction"
-known_no_junction = refl
-
-pub known_end_repeated : draw_text kind.EndRepeated ≡ codes "start or end repeated"
-known_end_repeated = refl
 
 -- a block without a line is told at the line that opened it
 pub known_draw_line : refusal_line (undrawn (codes "a.rw") (record { number = 2; kind = kind.EmptyBlock }))
@@ -93,51 +31,16 @@ pub known_step : refusal_line (step_too_long (codes "a.rw") 125 121 (codes "dst"
 unfolding digits
 known_step = refl
 
--- each fault of a file that is read
+-- a file that is none of its format
 pub known_short : refusal_line (unread (codes "a") (read.Short 511)) ≡ codes "stitch: a: byte 511: file too short" ++ line_end
 unfolding digits
 known_short = refl
 
-pub known_signature : refusal_line (unread (codes "a") (read.Signature 0)) ≡ codes "stitch: a: byte 0: signature not known" ++ line_end
-unfolding digits
-known_signature = refl
-
-pub known_sequin : refusal_line (unread (codes "a") (read.Sequin 512)) ≡ codes "stitch: a: byte 512: sequin" ++ line_end
-unfolding digits
-known_sequin = refl
-
-pub known_control : refusal_line (unread (codes "a") (read.Control 7)) ≡ codes "stitch: a: byte 7: control code not known" ++ line_end
-unfolding digits
-known_control = refl
-
-pub known_range : refusal_line (unread (codes "a") (read.Range 1253)) ≡ codes "stitch: a: byte 1253: point out of range" ++ line_end
-unfolding digits
-known_range = refl
-
-pub known_too_many : refusal_line (unread (codes "a") (read.TooMany 9)) ≡ codes "stitch: a: byte 9: more than 1000000 commands" ++ line_end
-unfolding digits
-known_too_many = refl
-
--- each fault of a design that is written
+-- a design that a format can't write
 pub known_long_stitch : refusal_line (unwritten (codes "b") 121 (write.StitchTooLong 2))
     ≡ codes "stitch: b: command 2: stitch longer than 121" ++ line_end
 unfolding digits
 known_long_stitch = refl
-
-pub known_long_float : refusal_line (unwritten (codes "b") 121 (write.FloatTooLong 6))
-    ≡ codes "stitch: b: command 6: float too long" ++ line_end
-unfolding digits
-known_long_float = refl
-
-pub known_many_stops : refusal_line (unwritten (codes "b") 121 (write.TooManyStops 300))
-    ≡ codes "stitch: b: command 300: too many stops" ++ line_end
-unfolding digits
-known_many_stops = refl
-
-pub known_much_written : refusal_line (unwritten (codes "b") 121 (write.TooLong 8))
-    ≡ codes "stitch: b: command 8: more than 1000000 commands written" ++ line_end
-unfolding digits
-known_much_written = refl
 
 -- a refit is told of the output, an edit of the input
 pub known_refit : refusal_line (unchanged (codes "a") (codes "b") (reason.RefitTooMany 5))

@@ -10,7 +10,7 @@ use Rattle.line_graph.specs.Drawings.{DrawingValue}
 use Rattle.line_graph.specs.Pieces.{ArePieces}
 use Rattle.route_core.specs.Doubles.{IsDoubled}
 use Rattle.route_core.specs.Routes.{walks_of}
-use Rattle.stitch_cli.specs.DoubleReports.{double_report}
+use Rattle.program_texts.specs.DoubleReports.{double_report}
 use Rattle.stitch_cli.specs.OrderNames.{RouteOrder}
 use Rattle.stitch_cli.specs.Plans.{Plan, accepts, reads, refuses}
 use Rattle.stitch_cli.specs.Products.{ProductValue, two_outputs}

@@ -1,6 +1,5 @@
 -- How the inner steps of a run end. No public clause cites this file.
-use Rattle.std.specs.Prelude.{◌≡◌, ◌⊎◌, ℕ, List, ◌++◌, Option, Some, None, Result, Ok, Err, OnErr, OnOk}
-use Rattle.outside_io.specs.declared.store.Failed.{Failed}
+use Rattle.std.specs.Prelude.{◌≡◌, ◌⊎◌, ℕ, List, Option, Some, None, Result, Ok, Err}
 use Rattle.outside_io.specs.Blames.{read_of}
 use Rattle.outside_io.specs.Causes.{Faults}
 use Rattle.outside_io.specs.Files.{Lacks}
@@ -8,16 +7,17 @@ use Rattle.outside_io.specs.Sights.{SinkSight, StoreSight}
 use Rattle.stitch_cli.specs.declared.halt.Halt.{Halt}
 use Rattle.stitch_cli.specs.declared.halt.Halt.TheVariants as halt
 use Rattle.stitch_cli.specs.declared.product.Product.{Product}
-use Rattle.stitch_cli.specs.declared.status.Status.{Status}
-use Rattle.stitch_cli.specs.declared.status.Status.TheVariants as status
+use Rattle.program_texts.specs.declared.status.Status.{Status}
+use Rattle.program_texts.specs.declared.status.Status.TheVariants as status
 use Rattle.stitch_cli.specs.Commands.{plan_of}
 use Rattle.stitch_cli.specs.Orders.{Order}
 use Rattle.stitch_cli.specs.Plans.{ComesTo, IsInput, IsTooLong, Makes, Misses, Plan, Refuses}
 use Rattle.stitch_cli.specs.Products.{AreApart, AreNamed, ProductValue, Wrote, WroteUpTo, product_of}
-use Rattle.stitch_cli.specs.Puts.{Broke, fed}
+use Rattle.program_texts.specs.Puts.{Broke, fed, Tells}
 use Rattle.stitch_cli.specs.Refusals.{refusal_of, too_long}
 use Rattle.stitch_cli.specs.RunSights.{Sights}
-use Rattle.stitch_cli.specs.Texts.{halt_text, unprinted_line, unwritten_line}
+use Rattle.stitch_cli.specs.Texts.{halt_text}
+use Rattle.program_texts.specs.Messages.{unprinted_line, unwritten_line}
 
 -- the status of an order that came to no product
 abbrev pub status_of : Halt → Status
@@ -26,19 +26,6 @@ status_of (halt.Missing name) = status.Fault
 status_of (halt.NotRead name) = status.Fault
 status_of (halt.Refused why) = status.Refused
 status_of halt.Memory = status.Memory
-
--- the text is on the standard error and the status is as planned; or it could not be put there,
--- and the status is `Fault`
-abbrev pub Tells : List ℕ → Status → SinkSight → SinkSight → Status → Type 0
-Tells text planned err err' s =
-    ((s ≡ planned) × (err' ≡ fed err text)) ⊎ ((s ≡ status.Fault) × Broke err err' text)
-
--- of these bytes some first ones were put and the others are in the line; or a
--- put failed on their way
-pub record Gathers {T : Type 0} (bytes line : List ℕ) (before after : SinkSight)
-    (result : Result T Failed) : Type 0 where
-  pub ok : OnOk result ((first : List ℕ) × (first ++ line ≡ bytes) × (after ≡ fed before first))
-  pub err : OnErr result (Broke before after bytes)
 
 -- what each reason means for which a plan came to no product
 abbrev pub Halts : Plan → StoreSight → StoreSight → Halt → Type 0

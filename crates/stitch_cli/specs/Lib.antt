@@ -2,17 +2,24 @@
 pub use Rattle.command_words.specs.Changes
 pub use Rattle.command_words.specs.Requests
 pub use Rattle.certificate_text.specs.CertificateTexts
+pub use Rattle.program_texts.specs.DesignFaults
+pub use Rattle.program_texts.specs.DesignReports
+pub use Rattle.program_texts.specs.DoubleReports
+pub use Rattle.program_texts.specs.LimitLines
+pub use Rattle.program_texts.specs.Messages
+pub use Rattle.program_texts.specs.Puts
+pub use Rattle.program_texts.specs.Reasons
+pub use Rattle.program_texts.specs.Reports
+pub use Rattle.program_texts.specs.PieceReports
+pub use Rattle.program_texts.specs.TextFaults
+pub use Rattle.program_texts.specs.TextLines
+pub use Rattle.program_texts.specs.UsageText
 pub mod Refusals
 pub mod Products
-pub mod Puts
 pub mod Plans
 pub mod ChangedDesigns
 pub mod OrderNames
 pub mod Orders
-pub mod Reasons
-pub mod Reports
-pub mod DoubleReports
-pub mod UsageText
 pub mod TraceTexts
 pub mod Texts
 -- read these first: what each command does, and what each status of the program means
@@ -31,5 +38,4 @@ pub mod RunFailures
 pub mod Runs
 pub mod Endings
 pub mod RewriteSteps
-pub mod RouteSteps
 pub mod SampleSteps

@@ -10,7 +10,7 @@ use Rattle.stitch_cli.specs.OrderNames.{MigrateOrder}
 use Rattle.stitch_cli.specs.Plans.{Plan, accepts, reads, refuses}
 use Rattle.stitch_cli.specs.Products.{ProductValue, one_output}
 use Rattle.stitch_cli.specs.Refusals.{undrawn}
-use Rattle.stitch_cli.specs.Reports.{migrate_report}
+use Rattle.program_texts.specs.Reports.{migrate_report}
 
 -- a drawing is written in its plain spelling of version 2, and the report counts its lines and its
 -- pieces and tells what the lines cost

@@ -4,7 +4,6 @@ use Rattle.command_words.specs.declared.requests.CheckNames.{CheckNames}
 use Rattle.command_words.specs.declared.requests.Names.{Names}
 use Rattle.command_words.specs.declared.requests.RouteNames.{RouteNames}
 use Rattle.command_words.specs.Changes.{Change}
-use Rattle.command_words.specs.Requests.{check, hoop, route, sample}
 use Rattle.format_traits.specs.Meanings.{Meaning}
 
 -- the files that a route or a double run names, and what the format of its output means

@@ -21,7 +21,7 @@ use Rattle.stitch_cli.specs.ChangedDesigns.{Becomes, BecomesAll}
 use Rattle.stitch_cli.specs.Products.{ProductValue, one_output}
 use Rattle.stitch_cli.specs.Refusals.{RefusalValue, refusal_of, unwritten}
 use Rattle.stitch_cli.specs.Refusals as refused
-use Rattle.stitch_cli.specs.Rewrites.{written_report}
+use Rattle.program_texts.specs.DesignReports.{written_report}
 
 -- the words of a rewriting's changes spell edits
 abbrev pub AreSound : Changes → Type 0

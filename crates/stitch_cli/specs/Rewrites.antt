@@ -1,24 +1,18 @@
 -- What the commands `convert` and `edit` come to: a design is read, changed, and written.
-use Rattle.std.specs.Prelude.{◌≡◌, ℕ, List, ◌++◌, Result, Ok, Err, codes}
+use Rattle.std.specs.Prelude.{◌≡◌, ℕ, List, Result, Ok, Err}
 use Rattle.design_model.specs.Counts.{counts_of}
-use Rattle.design_model.specs.declared.tally.Counts.{Counts}
 use Rattle.design_model.specs.Designs.{DesignValue}
 use Rattle.format_traits.specs.declared.fault.ReadFault.{ReadFault}
 use Rattle.format_traits.specs.declared.fault.WriteFault.{WriteFault}
 use Rattle.format_traits.specs.declared.loaded.Loaded.{Loaded}
 use Rattle.format_traits.specs.Laws.{MovesWithin, ReadsAgain}
+use Rattle.program_texts.specs.DesignReports.{written_report}
 use Rattle.stitch_cli.specs.declared.changing.ChangeFault.{ChangeFault}
 use Rattle.stitch_cli.specs.ChangedDesigns.{BecomesAll}
 use Rattle.stitch_cli.specs.OrderNames.{RewriteOrder}
 use Rattle.stitch_cli.specs.Plans.{Plan, decides, reads, refuses}
 use Rattle.stitch_cli.specs.Products.{ProductValue, one_output}
 use Rattle.stitch_cli.specs.Refusals.{RefusalValue, unchanged, unread, unwritten}
-use Rattle.stitch_cli.specs.Shows.{number_line, number_text}
-
--- the report on a design that was written
-abbrev pub written_report : Counts → List ℕ
-written_report counts = number_text (codes "needles ") counts.needles
-    ++ (number_text (codes " trims ") counts.trims ++ number_line (codes " stops ") counts.stops)
 
 -- the design becomes another by the changes, and that is written: what is written reads again as
 -- the same acts, and no record of it moves farther than the limit

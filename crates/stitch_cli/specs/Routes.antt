@@ -1,5 +1,5 @@
 -- What the command `route` comes to. Costs count steps.
-use Rattle.std.specs.Prelude.{◌≡◌, ℕ, ◌+◌, nat_lt, Bool, true, false, List, [], ◌∷◌, length, Result, Ok, Err, IsOkAnd}
+use Rattle.std.specs.Prelude.{◌≡◌, ℕ, ◌+◌, nat_lt, Bool, true, false, List, [], ◌∷◌, Result, Ok, Err, IsOkAnd}
 use Rattle.std.specs.List.{AllZip}
 use Rattle.cut_certificate.specs.declared.certificate.PieceCert.{PieceCert}
 use Rattle.certificate_text.specs.CertificateTexts.{certificate_text}
@@ -8,19 +8,19 @@ use Rattle.format_traits.specs.Laws.{MovesWithin}
 use Rattle.format_traits.specs.Meanings.{Meaning}
 use Rattle.line_graph.specs.declared.pass.Pass.{Pass}
 use Rattle.line_graph.specs.Drawings.{DrawingValue}
-use Rattle.line_graph.specs.PieceGraphs.{PieceValue, piece_of}
+use Rattle.line_graph.specs.PieceGraphs.{piece_of}
 use Rattle.line_graph.specs.Pieces.{ArePieces}
-use Rattle.line_graph.specs.PieceWalks.{piece_cost}
 use Rattle.line_graph.specs.Runs.{Sews, sewn_design}
 use Rattle.drawing_text.specs.declared.draw_fault.DrawFault.{DrawFault}
 use Rattle.drawing_text.specs.DrawingText.{drawing_of}
 use Rattle.route_core.specs.Routes.{IsBest, walks_of}
-use Rattle.stitch_cli.specs.declared.reports.PieceReport.{PieceReport}
+use Rattle.program_texts.specs.declared.reports.PieceReport.{PieceReport}
 use Rattle.stitch_cli.specs.OrderNames.{RouteOrder}
 use Rattle.stitch_cli.specs.Plans.{Plan, accepts, reads, refuses}
 use Rattle.stitch_cli.specs.Products.{ProductValue, two_outputs}
 use Rattle.stitch_cli.specs.Refusals.{step_too_long, undrawn}
-use Rattle.stitch_cli.specs.Reports.{route_report}
+use Rattle.program_texts.specs.Reports.{route_report}
+use Rattle.program_texts.specs.PieceReports.{piece_report}
 
 -- the bytes are what the format writes for the sewn design; read by the format's meaning they have
 -- an end and sew the drawing by the walks, and no record moves farther than the format's limit
@@ -30,16 +30,6 @@ pub record SewsIn (format : Meaning) (d : DrawingValue) (walks : List (List Pass
   pub read : IsOkAnd (format.reads bytes)
       (λ loaded. (loaded.ended ≡ true) × Sews d walks (acts_of loaded.design))
   pub within : MovesWithin format bytes
-
--- what the report says of a piece with that number
-abbrev pub piece_report : PieceValue → ℕ → PieceCert → PieceReport
-piece_report p number cert = record {
-  block = p.block + 1;
-  piece = number;
-  lines = length p.lines;
-  cost = piece_cost p;
-  retraced = cert.retraced;
-}
 
 -- what the report says of pieces of a drawing, each with its certificate,
 -- numbered from that number on

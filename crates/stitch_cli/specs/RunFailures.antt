@@ -6,8 +6,8 @@ use Rattle.stitch_cli.specs.Commands.{plan_of}
 use Rattle.stitch_cli.specs.Orders.{Order}
 use Rattle.stitch_cli.specs.Plans.{ComesTo, Makes, Misses}
 use Rattle.stitch_cli.specs.Products.{ProductValue, Wrote, WroteUpTo}
-use Rattle.stitch_cli.specs.Puts.{Broke}
-use Rattle.stitch_cli.specs.Texts.{unprinted_line, unread_line, unwritten_line}
+use Rattle.program_texts.specs.Puts.{Broke}
+use Rattle.program_texts.specs.Messages.{unprinted_line, unread_line, unwritten_line}
 use Rattle.stitch_cli.specs.RunSights.{Sights, IsUntouched}
 
 -- a file that the order came to read is not there: nothing changed

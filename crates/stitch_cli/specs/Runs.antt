@@ -1,16 +1,17 @@
 -- What each status of the program means.
 use Rattle.std.specs.Prelude.{◌≡◌, ℕ, ◌⊎◌, List, Option, Some, None, IsSome}
 use Rattle.outside_io.specs.Files.{Files}
-use Rattle.stitch_cli.specs.declared.status.Status.{Status}
-use Rattle.stitch_cli.specs.declared.status.Status.TheVariants as status
+use Rattle.program_texts.specs.declared.status.Status.{Status}
+use Rattle.program_texts.specs.declared.status.Status.TheVariants as status
 use Rattle.stitch_cli.specs.Commands.{plan_of}
 use Rattle.stitch_cli.specs.Orders.{Order, outputs_of}
 use Rattle.stitch_cli.specs.Plans.{IsAccepted, Makes, Misses, Refuses}
 use Rattle.stitch_cli.specs.Products.{ChangesAmong, ProductValue, Wrote}
-use Rattle.stitch_cli.specs.Puts.{Broke, fed}
+use Rattle.program_texts.specs.Puts.{Broke, fed}
 use Rattle.stitch_cli.specs.Refusals.{RefusalValue}
-use Rattle.stitch_cli.specs.UsageText.{usage_text}
-use Rattle.stitch_cli.specs.Texts.{memory_line, refusal_line}
+use Rattle.program_texts.specs.UsageText.{usage_text}
+use Rattle.program_texts.specs.Messages.{memory_line}
+use Rattle.stitch_cli.specs.Texts.{refusal_line}
 use Rattle.stitch_cli.specs.RunSights.{Sights, IsUntouched, IsQuietRun}
 use Rattle.stitch_cli.specs.RunFailures.{Fails}
 

@@ -2,10 +2,10 @@
 use Rattle.std.specs.Prelude.{ℕ, ◌*◌, List, length, sum_by}
 use Rattle.line_graph.specs.declared.piece.Piece.{Piece}
 use Rattle.line_graph.specs.CutPieces.{graph_of}
-use Rattle.stitch_cli.specs.declared.reports.PieceReport.{PieceReport}
-use Rattle.stitch_cli.specs.declared.summary.Summary.{Summary}
+use Rattle.program_texts.specs.declared.reports.PieceReport.{PieceReport}
+use Rattle.program_texts.specs.declared.summary.Summary.{Summary}
 use Rattle.stitch_cli.specs.Samples.{junction_count, odd_count}
-use Rattle.stitch_cli.specs.Reports.{penetrations_of}
+use Rattle.program_texts.specs.Reports.{penetrations_of}
 
 -- the junctions of pieces
 abbrev pub junction_sum : List Piece → ℕ

@@ -10,11 +10,11 @@ use Rattle.line_graph.specs.Pieces.{ArePieces}
 use Rattle.line_graph.specs.PieceWalks.{piece_cost}
 use Rattle.route_core.specs.Routes.{IsBest}
 use Rattle.sample_drawings.specs.Samples.{sample_of}
-use Rattle.stitch_cli.specs.declared.summary.Summary.{Summary}
+use Rattle.program_texts.specs.declared.summary.Summary.{Summary}
 use Rattle.stitch_cli.specs.OrderNames.{SampleOrder}
 use Rattle.stitch_cli.specs.Plans.{Plan, accepts}
 use Rattle.stitch_cli.specs.Products.{ProductValue, one_output}
-use Rattle.stitch_cli.specs.Reports.{summary_text}
+use Rattle.program_texts.specs.Reports.{summary_text}
 
 -- the sum of a number over pieces of a drawing
 abbrev pub over_pieces : (PieceValue → ℕ) → DrawingValue → List (List ℕ) → ℕ

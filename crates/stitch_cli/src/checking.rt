@@ -12,7 +12,6 @@ ghost use Rattle.stitch_cli.specs.Plans.{decides};
 use crate::halt::{Halt, Refusal};
 use crate::product::{Product, only_report};
 use crate::reading::read_input;
-use crate::reports::bytes_of;
 use certificate_text::{CertFault, read_cert};
 use command_words::CheckNames;
 use cut_certificate::Cert;
@@ -21,6 +20,7 @@ use drawing_text::{DrawFault, read_drawing};
 use format_traits::{Format, Loaded, ReadFault, decode_by};
 use line_graph::{DrawKind, Drawing};
 use outside_io::Store;
+use program_texts::bytes_of;
 use route_core::{Verdict, judge};
 use std::alloc::Global;
 

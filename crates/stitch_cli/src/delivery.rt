@@ -5,11 +5,9 @@ ghost use Rattle.stitch_cli.specs.Endings.{CanBeDelivered, Delivers, Prints};
 ghost use Rattle.stitch_cli.specs.Products.{AreApart, AreNamed, Wrote, WroteUpTo, all_written, product_of};
 ghost use Rattle.stitch_cli.specs.RunSights.{seen};
 
-use crate::messages::{tell_unprinted, tell_unwritten};
 use crate::product::{Output, Product};
-use crate::putting::put_one;
-use crate::status::Status;
 use outside_io::{Failed, Sink, Store};
+use program_texts::{Status, put_one, tell_unprinted, tell_unwritten};
 
 /// Writes the outputs of a product in order, and then puts its report. What fails has its line on `err`.
 pub(crate) fn deliver<S: Store, O: Sink, E: Sink>(

@@ -7,7 +7,6 @@ ghost use Rattle.stitch_cli.specs.Endings.{Prepares, Settles};
 ghost use Rattle.stitch_cli.specs.OrderNames.{route_order};
 ghost use Rattle.stitch_cli.specs.Products.{product_of};
 
-use crate::double_reports::print_double;
 use crate::halt::{Halt, Refusal};
 use crate::product::{Output, Product, two_outputs};
 use crate::reading::read_input;
@@ -19,6 +18,7 @@ use drawing_text::{DrawFault, read_drawing};
 use format_traits::{Format, ext_of, limit_of};
 use line_graph::{DrawKind, Drawing, pieces};
 use outside_io::Store;
+use program_texts::print_double;
 use route_core::double_pieces;
 use std::alloc::Global;
 

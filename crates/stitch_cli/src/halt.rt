@@ -1,11 +1,11 @@
 ghost use Rattle.std.specs.Prelude.{◌≡◌};
 
 use crate::changing::ChangeFault;
-use crate::status::Status;
 use command_words::Names;
 use design_model::Memory;
 use drawing_text::DrawFault;
 use format_traits::{ReadFault, WriteFault};
+use program_texts::Status;
 use route_core::Reason;
 use stitch_trace::TraceFault;
 

@@ -7,10 +7,10 @@ ghost use Rattle.stitch_cli.specs.OrderNames.{hoop_order};
 use crate::halt::{Halt, Refusal};
 use crate::product::{Product, only_report};
 use crate::reading::read_input;
-use crate::reports::bytes_of;
 use format_traits::{Format, ReadFault, decode_by};
 use hoop_check::{Fit, fits};
 use outside_io::Store;
+use program_texts::bytes_of;
 use std::alloc::Global;
 
 /// Whether a file's design fits into a hoop, whose sides are in tenths of a millimetre.

@@ -1,4 +1,4 @@
-ghost use Rattle.std.specs.Prelude.{◌≡◌, ◌≤◌, IfOk, length, string_bytes};
+ghost use Rattle.std.specs.Prelude.{◌≤◌, IfOk, length};
 ghost use Rattle.drawing_text.specs.DrawingText.{IsWhole, drawing_as2};
 ghost use Rattle.outside_io.specs.declared.limits.TheConstants.{MAX_FILE};
 ghost use Rattle.outside_io.specs.Files.{IsName};
@@ -6,15 +6,15 @@ ghost use Rattle.stitch_cli.specs.Endings.{Prepares, Settles};
 ghost use Rattle.stitch_cli.specs.Migrations.{IsMigrated, migrate_plan, migrate_read};
 ghost use Rattle.stitch_cli.specs.OrderNames.{migrate_order};
 ghost use Rattle.stitch_cli.specs.Products.{product_of};
-ghost use Rattle.stitch_cli.specs.Reports.{migrate_report};
 
 use crate::halt::{Halt, Refusal};
 use crate::product::{Output, Product, one_output};
 use crate::reading::read_input;
-use design_model::{Bytes, Memory};
+use design_model::Memory;
 use drawing_text::{DrawFault, print_drawing2, read_as2};
 use line_graph::{DrawKind, Drawing, drawing_cost, pieces};
 use outside_io::Store;
+use program_texts::print_migration;
 use std::alloc::Global;
 
 /// A drawing as version 2 of its text, in the plain spelling of that version, and what is told of it.
@@ -64,7 +64,7 @@ fn migrated<'a>(alloc: Global, output: &'a str, drawing: &Drawing) -> Result<Pro
     ensures { IfOk result (λ product. IsMigrated output.now drawing.now (product_of product)) }
 {
     let pieces = pieces(alloc, drawing)?;
-    let report = report_of(
+    let report = print_migration(
         alloc,
         drawing.line_count(),
         pieces.len(),
@@ -77,20 +77,4 @@ fn migrated<'a>(alloc: Global, output: &'a str, drawing: &Drawing) -> Result<Pro
     };
     let product = one_output(alloc, written, report)?;
     Ok(product)
-}
-
-fn report_of(alloc: Global, lines: u32, pieces: usize, cost: u32) -> Result<Bytes, Memory>
-    ensures { IfOk result (λ text. text ≡ migrate_report lines pieces cost) }
-{
-    let line = report_line(alloc, lines, pieces, cost)?;
-    let mut text = Bytes::new(alloc);
-    text.append(line.as_bytes())?;
-    Ok(text)
-}
-
-fn report_line(alloc: Global, lines: u32, pieces: usize, cost: u32) -> Result<String, Memory>
-    ensures { IfOk result (λ text. string_bytes text ≡ migrate_report lines pieces cost) }
-{
-    let text = format!(in alloc; "lines {lines} pieces {pieces} cost {cost}\n")?;
-    Ok(text)
 }

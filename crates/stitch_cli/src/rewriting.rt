@@ -8,7 +8,6 @@ ghost use Rattle.stitch_cli.specs.Rewrites.{RewriteOf, rewrite_plan, rewrite_rea
 ghost use Rattle.stitch_cli.specs.Plans.{decides};
 
 use crate::changing::{Changes, Unchanged, changed};
-use crate::design_reports::print_written;
 use crate::halt::{Halt, Refusal};
 use crate::product::{Output, Product, one_output};
 use crate::reading::read_input;
@@ -16,6 +15,7 @@ use command_words::Names;
 use design_model::{Design, counts};
 use format_traits::{Format, Loaded, ReadFault, WriteFault, decode_by, encode_by, limit_of};
 use outside_io::Store;
+use program_texts::print_written;
 use std::alloc::Global;
 
 /// The design of a file, after changes, as another file.

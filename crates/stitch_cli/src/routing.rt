@@ -13,7 +13,6 @@ ghost use Rattle.stitch_cli.specs.Products.{product_of};
 use crate::halt::{Halt, Refusal};
 use crate::product::{Output, Product, two_outputs};
 use crate::reading::read_input;
-use crate::reports::print_route;
 use certificate_text::print_cert;
 use command_words::RouteNames;
 use design_model::{Bytes, Memory};
@@ -21,6 +20,7 @@ use drawing_text::{DrawFault, read_drawing};
 use format_traits::{Format, WriteFault, encode_by, ext_of, limit_of};
 use line_graph::{DrawKind, Drawing, pieces, runs_are_sewn};
 use outside_io::Store;
+use program_texts::print_route;
 use route_core::{Routed, route_pieces};
 use std::alloc::Global;
 

@@ -7,10 +7,10 @@ ghost use Rattle.stitch_cli.specs.Runs.{RunEnds};
 use crate::commands::make;
 use crate::delivery::deliver;
 use crate::messages::tell_halt;
-use crate::status::Status;
 use format_traits::Format;
 use line_graph::pieces_are_one;
 use outside_io::{Sink, Store};
+use program_texts::Status;
 use std::alloc::Global;
 
 /// Does what the words ask for: reads the inputs from the store, and where nothing is refused writes the

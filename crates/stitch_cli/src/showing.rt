@@ -3,12 +3,12 @@ ghost use Rattle.stitch_cli.specs.Endings.{Prepares, Settles};
 ghost use Rattle.stitch_cli.specs.OrderNames.{show_order};
 ghost use Rattle.stitch_cli.specs.Shows.{show_plan, show_read};
 
-use crate::design_reports::print_loaded;
 use crate::halt::{Halt, Refusal};
 use crate::product::{Product, only_report};
 use crate::reading::read_input;
 use format_traits::{Format, ReadFault, decode_by, ext_of};
 use outside_io::Store;
+use program_texts::print_loaded;
 use std::alloc::Global;
 
 /// The report on what a file holds.

@@ -1,5 +1,5 @@
 use Rattle.std.proofs.Common.{◌≡◌, ◌+◌, ◌<◌, ◌^◌, drop, sum_by}
-use Rattle.stitch_cli.specs.Reports.{penetrations_of}
+use Rattle.program_texts.specs.Reports.{penetrations_of}
 use Rattle.stitch_cli.proofs.sampling.cost_sums.Given as goal
 
 -- the sums so far and those of the reports that are left are the whole, and no more than the needle goes down

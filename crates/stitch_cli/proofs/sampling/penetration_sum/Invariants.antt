@@ -1,5 +1,5 @@
 use Rattle.std.proofs.Common.{◌≡◌, ◌+◌, drop, sum_by}
-use Rattle.stitch_cli.specs.Reports.{penetrations_of}
+use Rattle.program_texts.specs.Reports.{penetrations_of}
 use Rattle.stitch_cli.proofs.sampling.penetration_sum.Given as goal
 
 -- the sum so far and that of the reports that are left are the whole

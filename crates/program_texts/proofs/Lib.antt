@@ -1,0 +1,6 @@
+mod PutLemmas
+mod ReportLemmas
+mod TextFacts
+mod ReasonFacts
+mod ReportFacts
+mod DesignFacts

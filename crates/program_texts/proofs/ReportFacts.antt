@@ -1,0 +1,58 @@
+-- Worked values of what reports print of pieces and drawings.
+use Rattle.std.proofs.Common.{◌≡◌, List, [], ◌∷◌, ◌++◌, refl}
+use Rattle.std.specs.Fmt.{digits}
+use Rattle.std.specs.Prelude.{codes}
+use Rattle.program_texts.specs.declared.reports.PieceReport.{PieceReport}
+use Rattle.program_texts.specs.declared.summary.Summary.{Summary}
+use Rattle.program_texts.specs.DoubleReports.{double_report}
+use Rattle.program_texts.specs.Reports.{migrate_report, route_report, summary_text}
+use Rattle.program_texts.specs.TextLines.{line_end}
+
+-- two pieces, of which each walk makes twelve and five steps, and then four more and none
+abbrev pieces : List PieceReport
+pieces = record { block = 1; piece = 1; lines = 3; cost = 12; retraced = 4 }
+    ∷ record { block = 2; piece = 2; lines = 1; cost = 5; retraced = 0 } ∷ []
+
+-- the needle goes down once more often than a walk makes steps
+pub known_route : route_report pieces
+    ≡ codes "block 1 piece 1 lines 3 cost 12 retraced 4 penetrations 17" ++ (line_end
+    ++ (codes "block 2 piece 2 lines 1 cost 5 retraced 0 penetrations 6" ++ (line_end
+    ++ (codes "pieces 2 penetrations 23" ++ line_end))))
+unfolding digits
+known_route = refl
+
+-- the needle goes down once more often than twice the cost
+pub known_double : double_report (record { block = 1; piece = 1; lines = 3; cost = 12; retraced = 12 }
+    ∷ record { block = 2; piece = 2; lines = 1; cost = 4; retraced = 4 } ∷ [])
+    ≡ codes "block 1 piece 1 lines 3 cost 12 penetrations 25" ++ (line_end
+    ++ (codes "block 2 piece 2 lines 1 cost 4 penetrations 9" ++ (line_end
+    ++ (codes "pieces 2 penetrations 34" ++ line_end))))
+unfolding digits
+known_double = refl
+
+-- no two of the numbers are equal, so that none stands for another
+abbrev sample : Summary
+sample = record {
+  number = 7;
+  lines = 4;
+  junctions = 3;
+  odd = 2;
+  pieces = 1;
+  cost = 13;
+  retraced = 5;
+  penetrations = 19;
+  cuts = 10;
+}
+
+pub known_sample : summary_text sample
+    ≡ codes "sample 7" ++ (line_end
+    ++ (codes "lines 4" ++ (line_end ++ (codes "junctions 3" ++ (line_end
+    ++ (codes "odd 2" ++ (line_end ++ (codes "pieces 1" ++ (line_end
+    ++ (codes "cost 13" ++ (line_end ++ (codes "retraced 5" ++ (line_end
+    ++ (codes "penetrations 19" ++ (line_end ++ (codes "cuts 10" ++ line_end))))))))))))))))
+unfolding digits
+known_sample = refl
+
+pub known_migration : migrate_report 30 2 405 ≡ codes "lines 30 pieces 2 cost 405" ++ line_end
+unfolding digits
+known_migration = refl

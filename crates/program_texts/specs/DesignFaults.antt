@@ -1,0 +1,42 @@
+-- The lines that tell why a design was not read, not written or not traced.
+use Rattle.std.specs.Prelude.{ℕ, List, codes, decimal}
+use Rattle.format_traits.specs.declared.fault.ReadFault.{ReadFault}
+use Rattle.format_traits.specs.declared.fault.ReadFault.TheVariants as read
+use Rattle.format_traits.specs.declared.fault.WriteFault.{WriteFault}
+use Rattle.format_traits.specs.declared.fault.WriteFault.TheVariants as write
+use Rattle.stitch_trace.specs.declared.trace_fault.TraceFault.{TraceFault}
+use Rattle.stitch_trace.specs.declared.trace_fault.TraceFault.TheVariants as trace
+use Rattle.program_texts.specs.TextLines.{line_about, byte_line, command_line}
+use Rattle.program_texts.specs.Messages.{memory_line}
+use Rattle.program_texts.specs.LimitLines.{long_text}
+use Rattle.program_texts.specs.TextFaults.{draw_text}
+
+-- why a file was not read; want of memory has a line of its own
+abbrev pub read_line : List ℕ → ReadFault → List ℕ
+read_line name (read.Short at) = byte_line name at (codes "file too short")
+read_line name (read.Signature at) = byte_line name at (codes "signature not known")
+read_line name (read.Sequin at) = byte_line name at (codes "sequin")
+read_line name (read.Control at) = byte_line name at (codes "control code not known")
+read_line name (read.Range at) = byte_line name at (codes "point out of range")
+read_line name (read.TooMany at) = byte_line name at (codes "more than 1000000 commands")
+read_line name read.Memory = memory_line
+
+-- why a design was not written, the limit of its format being that; want of
+-- memory has a line of its own
+abbrev pub write_line : List ℕ → ℕ → WriteFault → List ℕ
+write_line name limit (write.StitchTooLong number) = long_text name (decimal number) (decimal limit)
+write_line name limit (write.FloatTooLong number) =
+    command_line name number (codes "float too long")
+write_line name limit (write.TooManyStops number) =
+    command_line name number (codes "too many stops")
+write_line name limit (write.TooLong number) =
+    command_line name number (codes "more than 1000000 commands written")
+write_line name limit write.Memory = memory_line
+
+-- why a design has no traced drawing; want of memory has a line of its own
+abbrev pub trace_line : List ℕ → TraceFault → List ℕ
+trace_line name trace.NoLinks = line_about name (codes "nothing is sewn")
+trace_line name (trace.LinkTooLong number) =
+    command_line name number (codes "link longer than 2047")
+trace_line name (trace.Limit why) = line_about name (draw_text why)
+trace_line name trace.Memory = memory_line

@@ -1,0 +1,25 @@
+-- What a report says of pieces, each with its certificate. Costs count steps.
+use Rattle.std.specs.Prelude.{ℕ, ◌+◌, List, [], ◌∷◌, length}
+use Rattle.cut_certificate.specs.declared.certificate.PieceCert.{PieceCert}
+use Rattle.line_graph.specs.PieceGraphs.{PieceValue}
+use Rattle.line_graph.specs.PieceWalks.{piece_cost}
+use Rattle.program_texts.specs.declared.reports.PieceReport.{PieceReport}
+use Rattle.line_graph.specs.declared.piece.Piece.{Piece}
+use Rattle.line_graph.specs.CutPieces.{graph_of}
+
+-- what the report says of a piece with that number
+abbrev pub piece_report : PieceValue → ℕ → PieceCert → PieceReport
+piece_report p number cert = record {
+  block = p.block + 1;
+  piece = number;
+  lines = length p.lines;
+  cost = piece_cost p;
+  retraced = cert.retraced;
+}
+
+-- what the report says of pieces, each with its certificate, numbered from that number on
+abbrev pub reports_from : ℕ → List Piece → List PieceCert → List PieceReport
+reports_from number [] certs = []
+reports_from number (p ∷ pieces) [] = []
+reports_from number (p ∷ pieces) (cert ∷ certs) =
+    piece_report (graph_of p) number cert ∷ reports_from (number + 1) pieces certs

@@ -1,0 +1,23 @@
+-- The lines that tell of a file. A name is the bytes of a file's name.
+use Rattle.std.specs.Prelude.{ℕ, List, [], ◌∷◌, ◌++◌, codes, decimal}
+
+-- the end of a line
+abbrev pub line_end : List ℕ
+line_end = 10 ∷ []
+
+-- a line about a file
+abbrev pub line_about : List ℕ → List ℕ → List ℕ
+line_about name text = codes "stitch: " ++ (name ++ (codes ": " ++ (text ++ line_end)))
+
+-- a line about a file, at a place that has a number
+abbrev pub line_at : (name word digits text : List ℕ) → List ℕ
+line_at name word digits text =
+    codes "stitch: " ++ (name ++ (word ++ (digits ++ (codes ": " ++ (text ++ line_end)))))
+
+-- a line about a byte of a file, counted from 0
+abbrev pub byte_line : List ℕ → ℕ → List ℕ → List ℕ
+byte_line name offset text = line_at name (codes ": byte ") (decimal offset) text
+
+-- a line about a command of a design, counted from 1
+abbrev pub command_line : List ℕ → ℕ → List ℕ → List ℕ
+command_line name number text = line_at name (codes ": command ") (decimal number) text

@@ -1,0 +1,81 @@
+ghost use Rattle.std.specs.Prelude.{◌≡◌, ◌++◌, OnErr, OnOk, map};
+ghost use Rattle.std.specs.List.{concat};
+ghost use Rattle.program_texts.specs.declared.status.Status.TheVariants as status;
+ghost use Rattle.program_texts.specs.PutSteps.{Gathers};
+ghost use Rattle.program_texts.specs.Puts.{Tells, Puts};
+
+use crate::status::Status;
+use arrayvec::ArrayVec;
+use outside_io::{Failed, Sink};
+
+/// The room for a line: the longest name, and what else a line about it says.
+const LINE_ROOM: usize = 4_608;
+
+/// Puts one text.
+pub fn put_one<E: Sink>(err: &mut E, text: &[u8]) -> Result<(), Failed>
+    ensures { Puts text.now (E.sight err.old) (E.sight err.new) result }
+{
+    err.put(text)?;
+    Ok(())
+}
+
+/// Puts pieces of a text, in one put where they fit into the room for a line.
+fn put_all<E: Sink>(err: &mut E, pieces: &[&[u8]]) -> Result<(), Failed>
+    ensures { Puts (concat (map (λ piece. piece.now) pieces.now)) (E.sight err.old)
+        (E.sight err.new) result }
+{
+    let mut line = ArrayVec::new();
+    for piece in pieces {
+        gather(err, &mut line, piece)?;
+    }
+    put_one(err, line.as_slice())
+}
+
+/// Adds a piece to the line. Where it has no room, the line is put, and then the piece.
+fn gather<E: Sink>(
+    err: &mut E,
+    line: &mut ArrayVec<u8, LINE_ROOM>,
+    piece: &[u8],
+) -> Result<(), Failed>
+    ensures { Gathers (line.old.items ++ piece.now) line.new.items (E.sight err.old)
+        (E.sight err.new) result }
+{
+    match line.try_extend_from_slice(piece) {
+        Ok(()) => Ok(()),
+        Err(_) => put_both(err, line, piece),
+    }
+}
+
+/// Puts the line and then a piece, and empties the line.
+fn put_both<E: Sink>(
+    err: &mut E,
+    line: &mut ArrayVec<u8, LINE_ROOM>,
+    piece: &[u8],
+) -> Result<(), Failed>
+    ensures { Gathers (line.old.items ++ piece.now) line.new.items (E.sight err.old)
+        (E.sight err.new) result }
+{
+    put_one(err, line.as_slice())?;
+    line.clear();
+    put_one(err, piece)
+}
+
+/// Puts the pieces of a text, and answers the status that is planned where that went well.
+pub(crate) fn tell<E: Sink>(err: &mut E, pieces: &[&[u8]], planned: Status) -> Status
+    ensures { Tells (concat (map (λ piece. piece.now) pieces.now)) planned
+        (E.sight err.old) (E.sight err.new) result }
+{
+    let put = put_all(err, pieces);
+    told(put, planned)
+}
+
+/// The status that is planned, where its text was put.
+fn told(put: Result<(), Failed>, planned: Status) -> Status
+    ensures ok { OnOk put (result ≡ planned) }
+    ensures err { OnErr put (result ≡ status.Fault) }
+{
+    match put {
+        Ok(()) => planned,
+        Err(Failed) => Status::Fault,
+    }
+}

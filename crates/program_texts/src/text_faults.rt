@@ -1,0 +1,56 @@
+ghost use Rattle.std.specs.Prelude.{◌≡◌, codes, decimal};
+ghost use Rattle.program_texts.specs.declared.status.Status.TheVariants as status;
+ghost use Rattle.program_texts.specs.Puts.{Tells};
+ghost use Rattle.program_texts.specs.TextLines.{line_at};
+ghost use Rattle.program_texts.specs.TextFaults.{draw_line, draw_text as draw_text_of};
+
+use crate::status::Status;
+use crate::text_lines::tell_at;
+use drawing_text::DrawFault;
+use itoa::Buffer;
+use line_graph::DrawKind;
+use outside_io::Sink;
+
+/// Tells what is wrong with the text of a drawing.
+pub fn tell_draw_fault<E: Sink>(err: &mut E, name: &str, fault: DrawFault) -> Status
+    ensures { Tells (draw_line name.now fault) status.Refused (E.sight err.old)
+        (E.sight err.new) result }
+{
+    let mut buffer = Buffer::new();
+    let digits = buffer.format(fault.number).as_bytes();
+    tell_at(err, name, b": line ", digits, draw_text(fault.kind))
+}
+
+/// Tells that a line of a text, counted from 1, is none of a certificate.
+pub fn tell_uncertified<E: Sink>(err: &mut E, name: &str, number: u32) -> Status
+    ensures { Tells (line_at name.now (codes ": line ") (decimal number)
+        (codes "not a certificate"))
+        status.Refused (E.sight err.old) (E.sight err.new) result }
+{
+    let mut buffer = Buffer::new();
+    let digits = buffer.format(number).as_bytes();
+    tell_at(err, name, b": line ", digits, b"not a certificate")
+}
+
+/// What is wrong with a drawing text.
+pub(crate) fn draw_text(kind: DrawKind) -> &'static [u8]
+    ensures { result.now ≡ draw_text_of kind }
+{
+    match kind {
+        DrawKind::BadHeader => b"not a redwork drawing",
+        DrawKind::BadWord => b"word not understood",
+        DrawKind::BadNumber => b"not a number",
+        DrawKind::OutOfRange => b"number out of range",
+        DrawKind::FewPoints => b"too few points",
+        DrawKind::RepeatedPoint => b"point repeated",
+        DrawKind::EmptyBlock => b"block without a line",
+        DrawKind::NoBlock => b"no block",
+        DrawKind::TooManyLines => b"more than 1024 lines",
+        DrawKind::TooManyPoints => b"more than 65536 points",
+        DrawKind::TooManyBlocks => b"more than 255 blocks",
+        DrawKind::TooMuchCost => b"more than 200000 steps",
+        DrawKind::NoJunction => b"not a junction",
+        DrawKind::EndRepeated => b"start or end repeated",
+        DrawKind::Memory => b"out of memory",
+    }
+}

@@ -1,0 +1,60 @@
+ghost use Rattle.program_texts.specs.declared.status.Status.TheVariants as status;
+ghost use Rattle.program_texts.specs.Puts.{Tells};
+ghost use Rattle.program_texts.specs.TextLines.{byte_line, command_line, line_about, line_at};
+
+use crate::putting::tell;
+use crate::status::Status;
+use itoa::Buffer;
+use outside_io::Sink;
+
+/// Tells of a file.
+pub fn tell_about<E: Sink>(err: &mut E, name: &str, text: &[u8]) -> Status
+    ensures { Tells (line_about name.now text.now) status.Refused (E.sight err.old)
+        (E.sight err.new) result }
+{
+    let pieces: [&[u8]; 5] = [b"stitch: ", name.as_bytes(), b": ", text, b"\n"];
+    tell(err, &pieces, Status::Refused)
+}
+
+/// Tells of a command of a design, counted from 1.
+pub fn tell_command<E: Sink>(err: &mut E, name: &str, number: u32, text: &[u8]) -> Status
+    ensures { Tells (command_line name.now number text.now) status.Refused (E.sight err.old)
+        (E.sight err.new) result }
+{
+    let mut buffer = Buffer::new();
+    let digits = buffer.format(number).as_bytes();
+    tell_at(err, name, b": command ", digits, text)
+}
+
+/// Tells of a byte of a file, counted from 0.
+pub(crate) fn tell_byte<E: Sink>(err: &mut E, name: &str, offset: u64, text: &[u8]) -> Status
+    ensures { Tells (byte_line name.now offset text.now) status.Refused (E.sight err.old)
+        (E.sight err.new) result }
+{
+    let mut buffer = Buffer::new();
+    let digits = buffer.format(offset).as_bytes();
+    tell_at(err, name, b": byte ", digits, text)
+}
+
+/// Tells of a place in a file that has a number.
+pub(crate) fn tell_at<E: Sink>(
+    err: &mut E,
+    name: &str,
+    word: &[u8],
+    digits: &[u8],
+    text: &[u8],
+) -> Status
+    ensures { Tells (line_at name.now word.now digits.now text.now) status.Refused (E.sight err.old)
+        (E.sight err.new) result }
+{
+    let pieces: [&[u8]; 7] = [
+        b"stitch: ",
+        name.as_bytes(),
+        word,
+        digits,
+        b": ",
+        text,
+        b"\n",
+    ];
+    tell(err, &pieces, Status::Refused)
+}

@@ -1,4 +1,0 @@
-use Rattle.stitch_cli.proofs.messages.tell_step_digits.Goals as goal
-
-pub returns : goal.returns
-returns g c = rw (c.as_bytes.ensures.value, c.as_bytes-2.ensures.value) at c.tell.ensures
