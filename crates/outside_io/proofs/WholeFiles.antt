@@ -3,11 +3,8 @@ use Rattle.std.proofs.Common.{◌≡◌, ℕ, ◌+◌, ◌<◌, ◌≤◌, ◌++
 use Rattle.std.proofs.Math.Seq.{take-add}
 use Rattle.std.proofs.lemmas.List.{take_all, length-take, length-take-le}
 use Rattle.outside_io.specs.Causes.{ReadsFrom, IsLonger, Stays}
+use Rattle.outside_io.specs.FileParts.{Begins}
 use Rattle.outside_io.specs.Sights.{StoreSight}
-
--- the bytes are the first ones of the content, where there is one
-abbrev pub Begins : Option (List ℕ) → List ℕ → Type 0
-Begins file bytes = (content : List ℕ) → file ≡ Some content → bytes ≡ take (length bytes) content
 
 -- what stayed twice stayed
 pub stays_on : {old mid new : StoreSight} → Stays old mid → Stays mid new → Stays old new

@@ -4,6 +4,7 @@ pub mod Blames
 pub mod Files
 pub mod Sights
 pub mod Causes
+pub mod FileParts
 pub mod MemStores
 pub mod Places
 pub mod MemSinks

@@ -28,4 +28,4 @@ pub use mem_store::MemStore;
 pub use sink::Sink;
 pub use std_sink::StdSink;
 pub use store::{Failed, ReadStop, Store};
-pub use whole_files::{GetFault, read_whole};
+pub use whole_files::{GetFault, READ_SIZE, read_next, read_whole};

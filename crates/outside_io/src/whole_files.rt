@@ -1,6 +1,7 @@
-ghost use Rattle.std.specs.Prelude.{◌≡◌, ◌≤◌};
+ghost use Rattle.std.specs.Prelude.{◌≡◌, ◌<◌, ◌≤◌, length};
 ghost use Rattle.outside_io.specs.Causes.{GivesOrMemory, ReadsWhole, whole_answer};
 ghost use Rattle.outside_io.specs.Counts.{IsQuiet};
+ghost use Rattle.outside_io.specs.FileParts.{ReadsNext};
 ghost use Rattle.outside_io.specs.Files.{IsName, WhereTold};
 
 use crate::limits::MAX_FILE;
@@ -9,7 +10,7 @@ use design_model::{Bytes, Memory};
 use std::alloc::Global;
 
 /// How many bytes a read asks for.
-const READ_SIZE: usize = 16_384;
+pub const READ_SIZE: usize = 16_384;
 
 /// Why a whole file wasn't read.
 #[derive(Clone, Copy, Debug, PartialEq, Eq)]
@@ -67,17 +68,37 @@ fn read_in_order<S: Store>(
     let mut bytes = Bytes::new(alloc);
     let mut buffer = [0u8; READ_SIZE];
     loop {
-        let count = match store.read_at(name, bytes.len() as u64, &mut buffer) {
-            Ok(count) => count,
-            Err(ReadStop::Missing) => return Err(GetFault::Missing),
-            Err(ReadStop::Failed) => return Err(GetFault::Failed),
-        };
+        let count = read_next(store, name, bytes.len() as u64, limit, &mut buffer)?;
         if count == 0 {
             return Ok(bytes);
         }
         bytes.append(&buffer[..count])?;
-        if bytes.len() as u64 > limit {
-            return Err(GetFault::TooLong);
-        }
     }
+}
+
+/// Reads the next part of a file, from that offset on, into the buffer, and answers how many bytes it has; 0 is
+/// the file's end. A file that has more than `limit` bytes is refused by its first part that goes beyond.
+pub fn read_next<S: Store>(
+    store: &mut S,
+    name: &str,
+    at: u64,
+    limit: u64,
+    buffer: &mut [u8],
+) -> Result<usize, GetFault>
+    requires name { IsName name.now }
+    requires limit { limit ≤ MAX_FILE }
+    requires at { at ≤ limit }
+    requires room { 0 < length buffer.old }
+    ensures reads { ReadsNext name.now at limit (S.sight store.old) (S.sight store.new) buffer.new result }
+    ensures same { (S.sight store.new).files ≡ (S.sight store.old).files }
+{
+    let count = match store.read_at(name, at, buffer) {
+        Ok(count) => count,
+        Err(ReadStop::Missing) => return Err(GetFault::Missing),
+        Err(ReadStop::Failed) => return Err(GetFault::Failed),
+    };
+    if count as u64 > limit - at {
+        return Err(GetFault::TooLong);
+    }
+    Ok(count)
 }

@@ -1,40 +1,25 @@
-use Rattle.std.proofs.Common.{◌≡◌, ◌<◌, ◌∙◌, ◌++◌, length, take, arith, rules}
-use Rattle.outside_io.proofs.WholeFiles.{whole_at_end, begins_more, longer_than, stays_on}
+use Rattle.std.proofs.Common.{◌≡◌, ◌≤◌, ◌+◌, ℕ, List, ◌++◌, ◌∙◌, length, take, ap, sym, subst, arith, length-append, rules}
+use Rattle.std.proofs.lemmas.List.{length-take-le}
+use Rattle.outside_io.specs.FileParts.{Begins}
+use Rattle.outside_io.proofs.WholeFiles.{stays_on}
 use Rattle.outside_io.proofs.whole_files.read_in_order.Goals as goal
 
-pub returns-then-count-eq0-clause-reads : goal.returns-then-count-eq0-clause-reads
-returns-then-count-eq0-clause-reads g c =
-    let kept = c.loop-count.invariant in
-    let room : 0 < length c.read_at.new.buf = omega arith in (
-      kept.short,
-      λ told is.
-          whole_at_end (told c.args.name.now) _ _ _ _ (kept.begins told is) c.len.ensures
-          (c.in-Ok.ensures.gives told (kept.same ∙ is)) room c.if-count-eq0.true,
-      stays_on kept.stays c.in-Ok.ensures.cause,
-    )
-
-pub returns-then-len-limit-clause-reads : goal.returns-then-len-limit-clause-reads
-returns-then-len-limit-clause-reads g c =
-    let kept = c.loop-count.invariant in
-    let added : c.append.new.self ≡ c.loop-count.bytes ++ take c.in-Ok.count c.read_at.new.buf = search rules in
-    let over : c.args.limit < length c.append.new.self = omega arith in (
-      λ told is.
-          longer_than (told c.args.name.now) _ _ _ _ _ _ (kept.begins told is) c.len.ensures
-          (c.in-Ok.ensures.gives told (kept.same ∙ is)) c.in-Ok.ensures.bound added over,
-      stays_on kept.stays c.in-Ok.ensures.cause,
-    )
-
-pub loop-count-preserved : goal.loop-count-preserved
-loop-count-preserved g c =
-    let kept = c.loop-count.invariant in
-    let added : c.append.new.self ≡ c.loop-count.bytes ++ take c.in-Ok.count c.read_at.new.buf = search rules in
+pub loop-bytes-preserved : goal.loop-bytes-preserved
+loop-bytes-preserved g c =
+    let kept = c.loop-bytes.invariant in
+    let reads = c.in_ok-count.ensures.reads in
+    let bytes = c.loop-bytes.bytes in
+    let buffer = c.read_next.new.buffer in
+    let place : length bytes ≡ c.len.result = sym c.len.ensures in
+    let added : c.append.new.self ≡ bytes ++ take c.in_ok-count.count buffer = search rules in
+    let both : length c.append.new.self ≡ length bytes + c.in_ok-count.count =
+    ap length added ∙ length-append bytes (take c.in_ok-count.count buffer)
+    ∙ ap (λ n. length bytes + n) (length-take-le c.in_ok-count.count buffer reads.2) in
+    let next = reads.3 bytes place (λ told is. kept.begins told (sym kept.same ∙ is)) in
     record {
-      same = c.in-Ok.ensures.same ∙ kept.same;
-      stays = stays_on kept.stays c.in-Ok.ensures.cause;
-      short = omega arith;
+      same = c.in_ok-count.ensures.same ∙ kept.same;
+      stays = stays_on kept.stays reads.0;
+      short = omega (arith, both, place, reads.1);
       room = search rules;
-      begins =
-          λ told is.
-          begins_more (told c.args.name.now) _ _ _ _ _ (kept.begins told is) c.len.ensures
-          (c.in-Ok.ensures.gives told (kept.same ∙ is)) c.in-Ok.ensures.bound added;
+      begins = λ told is. subst (λ (b : List ℕ). Begins (told c.args.name.now) b) (sym added) (next.on told (kept.same ∙ is));
     }

@@ -1,0 +1,2 @@
+-- read this one first: what loading a file means
+pub mod Loading

@@ -1,0 +1,45 @@
+-- What it means to load a file, and to feed it whole.
+use Rattle.std.specs.Prelude.{◌≡◌, ℕ, ◌+◌, ◌≤◌, false, List, [], ◌++◌, length, Option, Result, Ok, Err}
+use Rattle.outside_io.specs.declared.limits.TheConstants.{MAX_FILE}
+use Rattle.outside_io.specs.declared.whole_files.GetFault.{GetFault}
+use Rattle.outside_io.specs.Causes.{ReadsWhole, Stays}
+use Rattle.outside_io.specs.Sights.{StoreSight}
+use Rattle.format_traits.specs.declared.fault.ReadFault.{ReadFault}
+use Rattle.format_traits.specs.declared.loaded.Loaded.{Loaded}
+use Rattle.format_traits.specs.Feeding.{Feeding}
+use Rattle.design_files.specs.declared.loading.LoadFault.{LoadFault}
+use Rattle.design_files.specs.declared.loading.LoadFault.TheVariants as load
+
+-- the file is read whole, and its bytes read as that
+pub record IsLoaded (reads : List ℕ → Result Loaded ReadFault) (name : List ℕ) (old new : StoreSight)
+    (answer : Result Loaded ReadFault) : Type 0 where
+  pub bytes : List ℕ
+  pub whole : ReadsWhole name MAX_FILE old new (Ok bytes)
+  pub is : reads bytes ≡ answer
+
+-- what each answer of loading means
+abbrev pub Loads : (List ℕ → Result Loaded ReadFault) → List ℕ → StoreSight → StoreSight
+    → Result Loaded LoadFault → Type 0
+Loads reads name old new (Ok loaded) = IsLoaded reads name old new (Ok loaded)
+Loads reads name old new (Err (load.Read f)) = IsLoaded reads name old new (Err f)
+Loads reads name old new (Err (load.Get f)) = ReadsWhole name MAX_FILE old new (Err f)
+
+-- these bytes were fed to an object that reads so
+pub record IsFedWith (reads : List ℕ → Result Loaded ReadFault) (bytes : List ℕ)
+    (f : Feeding) : Type 0 where
+  pub sound : f.spoiled ≡ false
+  pub taken : f.taken ≡ length bytes
+  pub rest : (more : List ℕ) → f.rest more ≡ reads (bytes ++ more)
+
+-- the file was read whole and fed
+pub record IsWholeFed (reads : List ℕ → Result Loaded ReadFault) (name : List ℕ) (old new : StoreSight)
+    (f : Feeding) : Type 0 where
+  pub bytes : List ℕ
+  pub whole : ReadsWhole name MAX_FILE old new (Ok bytes)
+  pub fed : IsFedWith reads bytes f
+
+-- what each answer of feeding a file means
+abbrev pub FeedsWhole : {T : Type 0} → (List ℕ → Result Loaded ReadFault) → List ℕ → StoreSight → StoreSight
+    → Result T GetFault → Feeding → Type 0
+FeedsWhole reads name old new (Ok _) f = IsWholeFed reads name old new f
+FeedsWhole reads name old new (Err fault) f = ReadsWhole name MAX_FILE old new (Err fault)

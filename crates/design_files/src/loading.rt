@@ -1,0 +1,75 @@
+ghost use Rattle.std.specs.Prelude.{◌≡◌};
+ghost use Rattle.design_files.specs.Loading.{FeedsWhole, Loads};
+ghost use Rattle.format_traits.specs.Feeding.{IsFresh};
+ghost use Rattle.outside_io.specs.Files.{IsName};
+
+use design_model::Memory;
+use format_traits::{Format, Loaded, ReadFault, begin_by, feed_by, finish_by};
+use outside_io::{GetFault, MAX_FILE, READ_SIZE, Store, read_next};
+
+/// Why no design was loaded.
+#[derive(Clone, Copy, Debug, PartialEq, Eq)]
+pub enum LoadFault {
+    /// The file was not read; also where memory was wanted.
+    Get(GetFault),
+    /// The file is none of its format; never for want of memory.
+    Read(ReadFault),
+}
+
+impl From<GetFault> for LoadFault {
+    ghost use Rattle.design_files.specs.declared.loading.LoadFault.TheVariants as load;
+
+    ghost from_gives = { λ g e. e ≡ load.Get g };
+
+    fn from(fault: GetFault) -> LoadFault {
+        LoadFault::Get(fault)
+    }
+}
+
+/// What the named file reads as by a format. A file that is not there, that is too long, or of which a read
+/// fails is told before a refusal of its bytes. All files stay, and so does the meaning of the format.
+pub fn load<S: Store>(
+    store: &mut S,
+    name: &str,
+    format: &mut Box<dyn Format>,
+) -> Result<Loaded, LoadFault>
+    requires { IsName name.now }
+    ensures loads { Loads (meaning format.old).reads name.now (S.sight store.old) (S.sight store.new) result }
+    ensures files { (S.sight store.new).files ≡ (S.sight store.old).files }
+    ensures same { meaning format.new ≡ meaning format.old }
+{
+    begin_by(format);
+    feed_file(store, name, format)?;
+    match finish_by(format) {
+        Ok(loaded) => Ok(loaded),
+        Err(ReadFault::Memory) => Err(LoadFault::Get(GetFault::Memory)),
+        Err(fault) => Err(LoadFault::Read(fault)),
+    }
+}
+
+/// Feeds the named file to a format to which nothing was fed.
+fn feed_file<S: Store>(
+    store: &mut S,
+    name: &str,
+    format: &mut Box<dyn Format>,
+) -> Result<(), GetFault>
+    requires name { IsName name.now }
+    requires fresh { IsFresh (meaning format.old).reads (meaning format.old).shown (feeding format.old) }
+    ensures feeds { FeedsWhole (meaning format.old).reads name.now (S.sight store.old) (S.sight store.new)
+        result (feeding format.new) }
+    ensures files { (S.sight store.new).files ≡ (S.sight store.old).files }
+    ensures same { meaning format.new ≡ meaning format.old }
+{
+    let mut at = 0;
+    let mut buffer = [0u8; READ_SIZE];
+    loop {
+        let count = read_next(store, name, at, MAX_FILE, &mut buffer)?;
+        if count == 0 {
+            return Ok(());
+        }
+        match feed_by(format, &buffer[..count]) {
+            Ok(()) => at += count as u64,
+            Err(Memory) => return Err(GetFault::Memory),
+        }
+    }
+}
