@@ -1,4 +1,5 @@
 use std::alloc::Global;
+use std::fs::Metadata;
 use std::io::ErrorKind;
 use std::path::{Path, PathBuf};
 use std::rt::Files;
@@ -39,12 +40,28 @@ fn found_at<R: Files>(rt: &R, path: &str) -> io::Result<Found> {
     if path.starts_with("/proc/") || path.starts_with("/dev/fd/") {
         return Ok(Found::Special);
     }
-    match fs::symlink_metadata(rt, path) {
-        Ok(found) if found.is_symlink() => Ok(Found::Link),
-        Ok(found) if found.is_file() => Ok(Found::Regular),
-        Ok(_) => Ok(Found::Special),
-        Err(error) if error.kind() == ErrorKind::NotFound => Ok(Found::Regular),
-        Err(error) => Err(error),
+    let seen = fs::symlink_metadata(rt, path);
+    if failed_as(&seen, ErrorKind::NotFound) {
+        return Ok(Found::Regular);
+    }
+    Ok(found_in(&seen?))
+}
+
+fn found_in(seen: &Metadata) -> Found {
+    if seen.is_symlink() {
+        Found::Link
+    } else if seen.is_file() {
+        Found::Regular
+    } else {
+        Found::Special
+    }
+}
+
+/// The call failed, and in that way.
+pub(crate) fn failed_as<T>(answer: &io::Result<T>, kind: ErrorKind) -> bool {
+    match answer {
+        Ok(_) => false,
+        Err(error) => error.kind() == kind,
     }
 }
 

@@ -1,7 +1,7 @@
 ghost use Rattle.std.specs.Prelude.{◌≤◌, length};
 
 use crate::limits::MAX_NAME;
-use crate::links::regular_path;
+use crate::links::{failed_as, regular_path};
 use crate::writing::write_all;
 use arrayvec::ArrayVec;
 use std::alloc::Global;
@@ -36,12 +36,19 @@ struct Move {
 pub(crate) fn begin<R: Files>(alloc: Global, rt: &R, name: &str) -> io::Result<NewFile<R::File>>
     requires { length name.now ≤ MAX_NAME }
 {
-    match begin_beside(alloc, rt, name) {
-        Ok(Some(new)) => return Ok(new),
-        Ok(None) => {}
-        Err(error) if is_refused(error.kind()) => {}
-        Err(error) => return Err(error),
+    let new = begin_beside(alloc, rt, name);
+    if is_refused(&new) {
+        return begin_in_place(rt, name);
     }
+    match new? {
+        Some(new) => Ok(new),
+        None => begin_in_place(rt, name),
+    }
+}
+
+fn begin_in_place<R: Files>(rt: &R, name: &str) -> io::Result<NewFile<R::File>>
+    requires { length name.now ≤ MAX_NAME }
+{
     let file = fs::create(rt, name)?;
     Ok(named(name, file, None))
 }
@@ -59,8 +66,8 @@ fn named<F: Drop>(name: &str, file: F, to: Option<Move>) -> NewFile<F>
 }
 
 /// The folder takes no new file, or none of that length.
-fn is_refused(kind: ErrorKind) -> bool {
-    kind == ErrorKind::PermissionDenied || kind == ErrorKind::InvalidFilename
+fn is_refused<T>(answer: &io::Result<T>) -> bool {
+    failed_as(answer, ErrorKind::PermissionDenied) || failed_as(answer, ErrorKind::InvalidFilename)
 }
 
 fn begin_beside<R: Files>(alloc: Global, rt: &R, name: &str) -> io::Result<Option<NewFile<R::File>>>
@@ -89,11 +96,11 @@ fn begin_beside<R: Files>(alloc: Global, rt: &R, name: &str) -> io::Result<Optio
 fn old_file<R: Files>(rt: &R, path: &str) -> io::Result<Option<Metadata>> {
     let mut options = File::options();
     options.write(true);
-    match options.open(rt, path) {
-        Ok(file) => Ok(Some(file.metadata()?)),
-        Err(error) if error.kind() == ErrorKind::NotFound => Ok(None),
-        Err(error) => Err(error),
+    let opened = options.open(rt, path);
+    if failed_as(&opened, ErrorKind::NotFound) {
+        return Ok(None);
     }
+    Ok(Some(opened?.metadata()?))
 }
 
 /// An empty file beside that path, under the first name that is free.
@@ -101,10 +108,9 @@ fn file_beside<R: Files>(alloc: Global, rt: &R, path: Path<'_>) -> io::Result<(P
     for number in 0..MAX_BESIDE {
         let name = format!(in alloc; ".stitch-{number}")?;
         let beside = path.with_file_name(alloc, name.as_str())?;
-        match File::create_new(rt, beside.as_str()) {
-            Ok(file) => return Ok((beside, file)),
-            Err(error) if error.kind() == ErrorKind::AlreadyExists => {}
-            Err(error) => return Err(error),
+        let created = File::create_new(rt, beside.as_str());
+        if !failed_as(&created, ErrorKind::AlreadyExists) {
+            return Ok((beside, created?));
         }
     }
     Err(ErrorKind::AlreadyExists.into())
