@@ -3,7 +3,7 @@ use Rattle.std.proofs.Common.{◌≡◌, ◌≢◌, ℕ, ◌∷◌, [], List, Bo
 use Rattle.std.proofs.lemmas.Slice.Eq.{bytes_eq-Decides}
 use Rattle.std.specs.Str.{bytes_eq}
 use Rattle.outside_io.specs.Files.{Files, WhereTold}
-use Rattle.outside_io.specs.MemStores.{EntryValue, entry_in, file_in, put_in, with_content, with_file, with_room}
+use Rattle.outside_io.specs.MemEntries.{EntryValue, entry_in, file_in, put_in, with_content, with_file, with_room}
 
 -- what holds of the files that are told holds where they are told
 pub where_told : (P : Files → Type 0) (files : Files) → P files → WhereTold (Some files) P

@@ -6,7 +6,7 @@ use Rattle.std.proofs.lemmas.Option.{slice_get-get_or}
 use Rattle.std.proofs.lemmas.Slice.Eq.{bytes_eq-Decides}
 use Rattle.std.specs.List.{slice_get}
 use Rattle.std.specs.Str.{bytes_eq}
-use Rattle.outside_io.specs.MemStores.{EntryValue, entry_in, put_in}
+use Rattle.outside_io.specs.MemEntries.{EntryValue, entry_in, put_in}
 use Rattle.outside_io.specs.Places.{IsPlace}
 
 -- none of the first entries has that name

@@ -2,7 +2,8 @@
 -- three, and the name `b` (98) has room for two bytes and no file.
 use Rattle.std.proofs.Common.{◌≡◌, ℕ, List, [], ◌∷◌, Some, None, true, false, refl}
 use Rattle.outside_io.specs.MemSinks.{MemSinkValue, refuses}
-use Rattle.outside_io.specs.MemStores.{EntryValue, file_in, room_in, is_listed, overflows, with_added, with_content, with_file, with_room}
+use Rattle.outside_io.specs.MemEntries.{EntryValue, file_in, room_in, overflows, with_added, with_content, with_file, with_room}
+use Rattle.outside_io.specs.MemStores.{is_listed}
 
 pub two : List EntryValue
 two =

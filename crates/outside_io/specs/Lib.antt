@@ -5,6 +5,7 @@ pub mod Files
 pub mod Sights
 pub mod Causes
 pub mod FileParts
+pub mod MemEntries
 pub mod MemStores
 pub mod Places
 pub mod MemSinks

@@ -1,6 +1,6 @@
 -- Stores in memory: an entry for each name that has a file or room, the numbers of the calls that
 -- are to fail, the number of calls so far, and the faults.
-use Rattle.std.specs.Prelude.{◌≡◌, ℕ, ◌+◌, ◌==◌, Bool, true, false, not, ◌||◌, List, [], ◌∷◌, ◌++◌, length, take, drop, Option, Some, None, Result, Ok, Err, if◌then◌else◌, is_some, nat_lt, max, min, unwrap_or, option_map, option_and_then, find, bytes_eq}
+use Rattle.std.specs.Prelude.{◌≡◌, ℕ, ◌==◌, Bool, true, false, not, ◌||◌, List, [], ◌++◌, length, take, drop, Option, Some, None, Result, Ok, Err, is_some, min, unwrap_or}
 use Rattle.std.specs.List.{list_any}
 use Rattle.outside_io.specs.declared.store.Failed.{Failed}
 use Rattle.outside_io.specs.declared.store.ReadStop.{ReadStop}
@@ -8,13 +8,8 @@ use Rattle.outside_io.specs.declared.store.ReadStop.TheVariants as stop
 use Rattle.outside_io.specs.Blames.{Blame, read_of, write_of}
 use Rattle.outside_io.specs.Counts.{counted_on}
 use Rattle.outside_io.specs.Files.{Files}
+use Rattle.outside_io.specs.MemEntries.{EntryValue, file_in, overflows, room_in, with_added, with_content, with_file, with_room}
 use Rattle.outside_io.specs.Sights.{StoreSight}
-
--- a name, the content of its file, where there is one, and its room in bytes
-pub record EntryValue : Type 0 where
-  pub name : List ℕ
-  pub content : Option (List ℕ)
-  pub room : ℕ
 
 -- the entries, the numbers of the calls that are to fail, the calls and the faults so far
 pub record MemStoreValue : Type 0 where
@@ -27,23 +22,6 @@ pub record MemStoreValue : Type 0 where
 -- no files, no room, no faults, and nothing that is to fail
 abbrev pub empty_store : MemStoreValue
 empty_store = record { entries = []; failing = []; calls = 0; faults = 0; blame = None }
-
--- the entry of a name, where there is one
-abbrev pub entry_in : List EntryValue → List ℕ → Option EntryValue
-entry_in entries name = find (λ e. bytes_eq e.name name) entries
-
--- the content of the file of that name, where there is one
-abbrev pub file_in : List EntryValue → List ℕ → Option (List ℕ)
-file_in entries name = option_and_then (λ e. e.content) (entry_in entries name)
-
--- the room of a name, where it has room
-abbrev pub room_in : List EntryValue → List ℕ → Option ℕ
-room_in entries name = option_map (λ e. e.room) (entry_in entries name)
-
--- the entries with this one in the place of the one of its name, else at the end
-abbrev pub put_in : List EntryValue → EntryValue → List EntryValue
-put_in [] entry = entry ∷ []
-put_in (e ∷ rest) entry = if bytes_eq e.name entry.name then entry ∷ rest else e ∷ put_in rest entry
 
 -- the files of a store
 abbrev pub files_of : MemStoreValue → Files
@@ -61,54 +39,9 @@ store_seen store = record { files = told_by store; faults = store.faults; blame 
 abbrev pub rooms_of : MemStoreValue → List ℕ → Option ℕ
 rooms_of store name = room_in store.entries name
 
--- a room that is at least so large
-abbrev pub raised : Option ℕ → ℕ → ℕ
-raised room least = max (unwrap_or room 0) least
-
--- the entries where the file of that name has this content, in the room that the name has
-abbrev pub with_content : List EntryValue → List ℕ → List ℕ → List EntryValue
-with_content entries name content =
-    put_in entries (record {
-      name = name;
-      content = Some content;
-      room =
-          unwrap_or (room_in entries name) 0;
-    })
-
--- the entries where these bytes stand behind the content of the file of that name
-abbrev pub with_added : List EntryValue → List ℕ → List ℕ → List EntryValue
-with_added entries name bytes = with_content entries name
-    (unwrap_or (file_in entries name) [] ++ bytes)
-
--- the entries where the file of that name has this content, and room for it
-abbrev pub with_file : List EntryValue → List ℕ → List ℕ → List EntryValue
-with_file entries name content =
-    put_in entries (record {
-      name = name;
-      content = Some content;
-      room =
-          raised (room_in entries name) (length content);
-    })
-
--- the entries where the name has at least that room
-abbrev pub with_room : List EntryValue → List ℕ → ℕ → List EntryValue
-with_room entries name room =
-    put_in entries (record {
-      name = name;
-      content = file_in entries name;
-      room =
-          raised (room_in entries name) room;
-    })
-
 -- the number of the next call is one of those that are to fail
 abbrev pub is_listed : List ℕ → ℕ → Bool
 is_listed failing calls = list_any (λ n. n == counted_on calls) failing
-
--- the bytes don't fit behind the content of the file of that name
-abbrev pub overflows : List EntryValue → List ℕ → List ℕ → Bool
-overflows entries name bytes =
-    nat_lt (unwrap_or (room_in entries name) 0)
-    (length (unwrap_or (file_in entries name) []) + length bytes)
 
 -- the store after the file of that name was set
 abbrev pub file_set : MemStoreValue → List ℕ → List ℕ → MemStoreValue

@@ -1,6 +1,6 @@
 -- Where an entry stands among the entries of a store in memory.
 use Rattle.std.specs.Prelude.{◌≡◌, ℕ, ◌<◌, List, [], ◌∷◌, ◌++◌, length, None, slice_get, slice_set, IfSome}
-use Rattle.outside_io.specs.MemStores.{EntryValue, entry_in, put_in}
+use Rattle.outside_io.specs.MemEntries.{EntryValue, entry_in, put_in}
 
 -- the entry of that name stands at that index: it is found there, and replaced there
 pub record IsPlace (entries : List EntryValue) (name : List ℕ) (place : ℕ) : Type 0 where

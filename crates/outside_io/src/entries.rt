@@ -1,6 +1,6 @@
 ghost use Rattle.std.specs.Prelude.{◌≡◌, [], not, IfSome, IfNone, OnOk, OnErr, is_some, IsSome};
 ghost use Rattle.std.specs.Bool.{OnTrue, OnFalse};
-ghost use Rattle.outside_io.specs.MemStores.{file_in, overflows, room_in, with_added, with_content, with_file, with_room};
+ghost use Rattle.outside_io.specs.MemEntries.{file_in, overflows, room_in, with_added, with_content, with_file, with_room};
 ghost use Rattle.outside_io.specs.Places.{IsFree, IsPlace};
 
 use crate::entry::Entry;

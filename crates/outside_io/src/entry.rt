@@ -15,7 +15,7 @@ pub(crate) struct Entry {
 
 impl Model for Entry {
     ghost use Rattle.std.specs.Prelude.{◌≤◌, Some, None, vec_len, vec_capacity, if◌then◌else◌};
-    ghost use Rattle.outside_io.specs.MemStores.{EntryValue};
+    ghost use Rattle.outside_io.specs.MemEntries.{EntryValue};
 
     ghost Value = { EntryValue };
 

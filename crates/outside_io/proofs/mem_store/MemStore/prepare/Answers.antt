@@ -1,5 +1,5 @@
 use Rattle.std.proofs.Common.{◌≡◌, rules}
-use Rattle.outside_io.specs.MemStores.{with_room}
+use Rattle.outside_io.specs.MemEntries.{with_room}
 use Rattle.outside_io.proofs.EntryFiles.{file_in-with_room}
 use Rattle.outside_io.proofs.mem_store.MemStore.prepare.Goals as goal
 

@@ -1,5 +1,5 @@
 use Rattle.std.proofs.Common.{◌≡◌, rules}
-use Rattle.outside_io.specs.MemStores.{with_file}
+use Rattle.outside_io.specs.MemEntries.{with_file}
 use Rattle.outside_io.proofs.EntryFiles.{file_in-with_file, file_in-with_file_other}
 use Rattle.outside_io.proofs.mem_store.MemStore.put_file.Goals as goal
 

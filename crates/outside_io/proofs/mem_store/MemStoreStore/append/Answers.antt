@@ -1,6 +1,6 @@
 use Rattle.std.proofs.Common.{◌≡◌, ◌++◌, ◌∙◌, [], Some, ap, refl, rules, true}
 use Rattle.std.specs.Option.{is_some, unwrap_or}
-use Rattle.outside_io.specs.MemStores.{file_in, with_content}
+use Rattle.outside_io.specs.MemEntries.{file_in, with_content}
 use Rattle.outside_io.proofs.EntryFiles.{where_told, file_in-with_content, file_in-with_content_other}
 use Rattle.outside_io.proofs.mem_store.MemStoreStore.append.Goals as goal
 

@@ -1,5 +1,5 @@
 use Rattle.std.proofs.Common.{◌≡◌, [], rules}
-use Rattle.outside_io.specs.MemStores.{with_content}
+use Rattle.outside_io.specs.MemEntries.{with_content}
 use Rattle.outside_io.proofs.EntryFiles.{where_told, file_in-with_content, file_in-with_content_other}
 use Rattle.outside_io.proofs.mem_store.MemStoreStore.create.Goals as goal
 
