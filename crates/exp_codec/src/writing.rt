@@ -15,8 +15,6 @@ pub fn write_file(alloc: Global, design: &Design) -> Result<Bytes, WriteFault>
 {
     written_reads_again();
     let mut file = Bytes::new(alloc);
-    match put_acts(&UnitWriter, &mut file, design.commands()) {
-        Ok(_) => Ok(file),
-        Err(fault) => Err(fault),
-    }
+    put_acts(&UnitWriter, &mut file, design.commands())?;
+    Ok(file)
 }
