@@ -7,6 +7,7 @@ ghost use Rattle.pec_codec.specs.declared.block.TheConstants.{HEADER_LENGTH, LAB
 ghost use Rattle.pec_codec.specs.Header.{header_of, label_of, labels_of, distance_field, size_fields, threads_in, threads_of};
 
 use crate::block::{HEADER_LENGTH, LABELS_LENGTH, MAX_STOPS};
+use crate::laws::designs_keep_limits;
 use byteorder::{ByteOrder, LittleEndian};
 use design_model::{Bytes, Design, MAX_LABEL, Memory, extent, height, width};
 use format_traits::{put_label, put_spaces, read_label};
@@ -77,7 +78,7 @@ fn put_distance(out: &mut Bytes, distance: u32) -> Result<(), Memory>
 fn put_sizes(out: &mut Bytes, design: &Design) -> Result<(), Memory>
     ensures { OnOk result (out.new ≡ out.old ++ size_fields (extent_of design.now)) }
 {
-    let _commands = design.commands();
+    designs_keep_limits(design);
     let extent = extent(design);
     put_word16(out, size_word(width(extent)))?;
     put_word16(out, size_word(height(extent)))?;

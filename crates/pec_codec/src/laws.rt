@@ -1,5 +1,7 @@
+ghost use Rattle.design_model.specs.Designs.{KeepsLimits};
 ghost use Rattle.pec_codec.specs.Laws.{BlocksKeepLaws};
 
+use design_model::Design;
 use format_traits::{
     an_accepted_design_is_small, codecs_keep_the_laws, label_fields_read_back,
     spelled_acts_read_again,
@@ -15,4 +17,11 @@ pub fn blocks_read_back()
     an_accepted_design_is_small();
     codecs_keep_the_laws();
     label_fields_read_back();
+}
+
+/// A design is within its limits.
+pub(crate) fn designs_keep_limits(design: &Design)
+    ensures { KeepsLimits design.now }
+{
+    design.commands();
 }

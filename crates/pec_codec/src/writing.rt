@@ -9,7 +9,7 @@ ghost use Rattle.pec_codec.specs.Writing.{body_of, thumbnails_of, writes};
 
 use crate::block::{HEADER_LENGTH, LABELS_LENGTH, THUMBNAIL_LENGTH};
 use crate::header::new_header;
-use crate::laws::blocks_read_back;
+use crate::laws::{blocks_read_back, designs_keep_limits};
 use crate::pec_records::PecRecords;
 use design_model::{Bytes, Design, Memory};
 use format_traits::{WriteFault, an_accepted_design_is_small, put_acts, put_spaces};
@@ -28,7 +28,7 @@ pub fn write_block(alloc: Global, design: &Design) -> Result<Bytes, WriteFault>
     ensures laws { KeepsBlockLaws design.now }
 {
     blocks_read_back();
-    let _commands = design.commands();
+    designs_keep_limits(design);
     new_block(alloc, design)
 }
 
@@ -38,10 +38,7 @@ fn new_block(alloc: Global, design: &Design) -> Result<Bytes, WriteFault>
 {
     let mut body = Bytes::new(alloc);
     put_spaces(&mut body, HEADER_LENGTH)?;
-    let stops = match put_body(&mut body, design) {
-        Ok(stops) => stops,
-        Err(fault) => return Err(fault),
-    };
+    let stops = put_body(&mut body, design)?;
     let mut block = with_header(alloc, body, design, stops)?;
     put_thumbnails(&mut block, stops)?;
     Ok(block)
@@ -55,10 +52,7 @@ fn put_body(out: &mut Bytes, design: &Design) -> Result<u32, WriteFault>
 {
     an_accepted_design_is_small();
     let commands = design.commands();
-    let standing = match put_acts(&PecRecords, out, commands) {
-        Ok(standing) => standing,
-        Err(fault) => return Err(fault),
-    };
+    let standing = put_acts(&PecRecords, out, commands)?;
     out.push(END)?;
     Ok(standing.stops)
 }
