@@ -19,10 +19,7 @@ pub fn write_behind(alloc: Global, front: &[u8], design: &Design) -> Result<Byte
     ensures value { Writes (behind front.now (writes design.now)) result }
     ensures laws { KeepsBlockLaws design.now }
 {
-    let block = match write_block(alloc, design) {
-        Ok(block) => block,
-        Err(fault) => return Err(fault),
-    };
+    let block = write_block(alloc, design)?;
     let mut file = Bytes::new(alloc);
     file.append(front)?;
     file.append(block.as_slice())?;
