@@ -58,7 +58,8 @@ pub fn step(o: &mut Outing, p: &Piece) -> Result<bool, Memory>
 fn at_the_start(alloc: Global, p: &Piece) -> Result<Outing, Memory>
     ensures keeps { IfOk result (KeepsOuting (graph_of p.now)) }
     ensures ready { IfOk result (IsReady (graph_of p.now)) }
-    ensures first { IfOk result (λ o. LeadsFrom p.now.edges o.passed.items o.at (record { place = 0; back = false })) }
+    ensures first { IfOk result (λ o. LeadsFrom p.now.edges o.passed.items o.at
+        (record { place = 0; back = false })) }
     ensures blank { IfOk result (λ o. o.walk ≡ []) }
 {
     Ok(Outing {
