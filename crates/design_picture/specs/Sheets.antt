@@ -1,5 +1,5 @@
--- The picture of a design: an SVG text whose unit is a tenth of a millimetre, and which is shown
--- in its true size. See <https://www.w3.org/TR/SVG11/>.
+-- The picture of a design: a text of SVG 1.1, the standard of the World Wide Web Consortium, whose
+-- unit is a tenth of a millimetre, and which is shown in its true size.
 use Rattle.std.specs.Prelude.{ℕ, ◌+◌, ◌*◌, List, [], ◌∷◌, ◌++◌, Option, codes, max}
 use Rattle.std.specs.Fmt.{decimal, signed_decimal}
 use Rattle.design_model.specs.declared.bounds.Extent.{Extent}

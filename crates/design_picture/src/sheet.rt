@@ -28,7 +28,10 @@ pub(crate) fn put_head(text: &mut Bytes, extent: Option<Extent>) -> Result<(), M
 fn put_size(text: &mut Bytes, width: u64, height: u64) -> Result<(), Memory>
     ensures { OnOk result (text.new ≡ text.old ++ size_text width height) }
 {
-    text.append(b"<svg xmlns='http://www.w3.org/2000/svg' width='")?;
+    text.append(
+        b"<svg xmlns='http://\
+        www.w3.org/2000/svg' width='",
+    )?;
     put_mm(text, width)?;
     text.append(b"mm' height='")?;
     put_mm(text, height)?;

@@ -13,9 +13,8 @@ use crate::sheet::put_head;
 use design_model::{Act, ActWalk, Bytes, Counts, Design, Extent, Memory, Point, counts, extent};
 use std::alloc::Global;
 
-/// The picture of a design, an SVG text. A unit is a tenth of a millimetre.
-///
-/// See <https://www.w3.org/TR/SVG11/>.
+/// The picture of a design, a text of SVG 1.1, the standard of the World Wide Web Consortium. A unit is a
+/// tenth of a millimetre.
 pub fn picture(alloc: Global, design: &Design) -> Result<Bytes, Memory>
     ensures { IfOk result (λ text. text ≡ picture_of design.now) }
 {

@@ -41,7 +41,8 @@ fn a_picture_shows_the_acts_in_order(rt: HostRuntime) -> Result<(), Fail> {
                 stitch(at(30_000, 30_000)),
                 Command::Stop,
             ],
-            "<svg xmlns='http://www.w3.org/2000/svg' width='6010.0mm' height='6022.0mm' viewBox='-30000 -30000 60100 60220'>\n",
+            "<svg xmlns='http://\
+            www.w3.org/2000/svg' width='6010.0mm' height='6022.0mm' viewBox='-30000 -30000 60100 60220'>\n",
         ),
     ];
     for (commands, part) in table {
