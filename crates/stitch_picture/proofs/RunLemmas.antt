@@ -1,5 +1,6 @@
 -- Runs that change no file.
-use Rattle.std.proofs.Common.{◌≡◌, ℕ, List, Option, Some, None, Err, inl, inr}
+use Rattle.std.proofs.Common.{◌≡◌, ℕ, List, Option, Some, None, Result, Ok, Err, inl, inr, subst, sym}
+use Rattle.std.specs.Result.{IsErrAnd}
 use Rattle.format_traits.specs.Meanings.{Meaning}
 use Rattle.outside_io.specs.declared.limits.TheConstants.{MAX_FILE}
 use Rattle.outside_io.specs.Causes.{IsLonger}
@@ -44,9 +45,15 @@ longer : (m : Meaning) (content : Option (List ℕ)) → IsLonger content MAX_FI
 longer m None is = absurd is
 longer m (Some content) is = inl is
 
--- bytes that there aren't show nothing
-pub not_given : (m : Meaning) (input : List ℕ) (files : Option Files) (why : Halt) → GivesBytes input files (Err why)
+not_shown : (m : Meaning) (input : List ℕ) (files : Option Files) (why : Halt) → GivesBytes input files (Err why)
     → ShowsFile m input files (Err why)
-not_given m input files halt.Refused gives = λ told is. longer m (told input) (gives told is)
-not_given m input files halt.NotRead gives = tt
-not_given m input files halt.Memory gives = tt
+not_shown m input files halt.Refused gives = λ told is. longer m (told input) (gives told is)
+not_shown m input files halt.NotRead gives = tt
+not_shown m input files halt.Memory gives = tt
+
+-- bytes that there aren't show nothing, for the same reason
+pub not_given : (m : Meaning) (input : List ℕ) (files : Option Files) (why : Halt) (result : Result (List ℕ) Halt)
+    → IsErrAnd result (λ (told : Halt). told ≡ why) → GivesBytes input files (Err why) → ShowsFile m input files result
+not_given m input files why (Ok text) is gives = absurd is
+not_given m input files why (Err told) is gives =
+    subst (λ (h : Halt). ShowsFile m input files (Err h)) (sym is) (not_shown m input files why gives)

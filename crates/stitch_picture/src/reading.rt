@@ -20,10 +20,8 @@ pub(crate) fn picture_in<S: Store>(
     ensures shown { ShowsFile (meaning format.now) input.now (S.sight store.old).files result }
     ensures same { (S.sight store.new).files ≡ (S.sight store.old).files }
 {
-    match bytes_of(alloc, input, store) {
-        Ok(bytes) => show(alloc, format, bytes.as_slice()),
-        Err(why) => Err(why),
-    }
+    let bytes = bytes_of(alloc, input, store)?;
+    show(alloc, format, bytes.as_slice())
 }
 
 fn bytes_of<S: Store>(alloc: Global, input: &str, store: &mut S) -> Result<Bytes, Halt>
