@@ -6,6 +6,7 @@ use cut_certificate::Cert;
 use design_model::{Bytes, Memory};
 use line_graph::Pass;
 use std::alloc::Global;
+use std::process::Abort;
 use std::test::Fail;
 
 fn cert(alloc: Global, text: &[u8]) -> Result<Cert, CertFault>
@@ -69,8 +70,19 @@ fn repeated(
     Ok(text)
 }
 
+/// Of each text behind a first line the first line that doesn't fit is that one, or 0 where all do.
+fn tells_each(rt: &impl Abort, alloc: Global, table: &[(&str, u32)]) -> Result<(), Fail> {
+    for (rest, number) in table {
+        let text = repeated(alloc, "redwork-certificate 1\n", rest, 1, "")
+            .ok()
+            .ok_or("no memory")?;
+        assert!(rt; bad_line(alloc, text.as_slice()) == Some(*number), "{rest}");
+    }
+    Ok(())
+}
+
 #[test]
-fn the_first_line_that_does_not_fit_is_told(rt: HostRuntime) -> Result<(), Fail> {
+fn the_first_line_that_is_no_piece_is_told(rt: HostRuntime) -> Result<(), Fail> {
     let table = [
         ("piece 01\nwalk 1\nend\n", 2),
         ("piece 4294967296\nwalk 1\nend\n", 2),
@@ -81,6 +93,13 @@ fn the_first_line_that_does_not_fit_is_told(rt: HostRuntime) -> Result<(), Fail>
         ("piece\nwalk 1\nend\n", 2),
         ("walk 1\nend\n", 2),
         ("cut 1 1\nend\n", 2),
+    ];
+    tells_each(&rt, rt.alloc(), &table)
+}
+
+#[test]
+fn the_first_line_of_a_walk_that_does_not_fit_is_told(rt: HostRuntime) -> Result<(), Fail> {
+    let table = [
         ("piece 0\nend\n", 3),
         ("piece 0\npiece 0\nwalk 1\nend\n", 3),
         ("piece 0\ncut 1 1\nwalk 1\nend\n", 3),
@@ -95,6 +114,13 @@ fn the_first_line_that_does_not_fit_is_told(rt: HostRuntime) -> Result<(), Fail>
         ("piece 0\nwalk 1\r\nend\n", 3),
         ("piece 0\nwalk 4294967296\nend\n", 3),
         ("piece 0\nwalk 1", 3),
+    ];
+    tells_each(&rt, rt.alloc(), &table)
+}
+
+#[test]
+fn the_first_line_behind_a_walk_that_does_not_fit_is_told(rt: HostRuntime) -> Result<(), Fail> {
+    let table = [
         ("piece 0\nwalk 1\n", 4),
         ("piece 0\nwalk 1\nwalk 1\nend\n", 4),
         ("piece 0\nwalk 1\ncut\nend\n", 4),
@@ -110,16 +136,7 @@ fn the_first_line_that_does_not_fit_is_told(rt: HostRuntime) -> Result<(), Fail>
             0,
         ),
     ];
-    for (rest, number) in table {
-        let text = repeated(rt.alloc(), "redwork-certificate 1\n", rest, 1, "")
-            .ok()
-            .ok_or("no memory")?;
-        assert!(rt;
-            bad_line(rt.alloc(), text.as_slice()) == Some(number),
-            "{rest}"
-        );
-    }
-    Ok(())
+    tells_each(&rt, rt.alloc(), &table)
 }
 
 const TWO_PIECES: &str = "redwork-certificate 1
