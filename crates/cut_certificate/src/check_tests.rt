@@ -6,6 +6,7 @@ use crate::{Cut, CutFault, Cuts, WalkFault, check_cuts, check_walk};
 use design_model::{Items, Memory, Numbers, Point, Points};
 use line_graph::{Edge, Pass, Piece};
 use std::alloc::Global;
+use std::process::Abort;
 use std::test::Fail;
 
 fn edge(a: u32, b: u32, cost: u32) -> Edge
@@ -192,46 +193,72 @@ fn members_of(alloc: Global, numbers: &[u8]) -> Result<Numbers, Memory>
     Ok(members)
 }
 
+/// No cut.
+const NONE: (u32, [u8; 3]) = (0, [0, 0, 0]);
+
+/// Round the second junction.
+const SECOND: (u32, [u8; 3]) = (4, [2, 0, 0]);
+
+/// Round the third junction.
+const THIRD: (u32, [u8; 3]) = (6, [3, 0, 0]);
+
+/// Of each of these tables of cuts of the star the check says what stands beside it.
+fn says_each(
+    rt: &impl Abort,
+    alloc: Global,
+    cases: &[([(u32, [u8; 3]); 4], Result<(), CutFault>)],
+) -> Result<(), Fail> {
+    let p = star(alloc, None, None).ok().ok_or("no memory")?;
+    for (table, says) in cases {
+        let answer = said(alloc, &p, 6, *table).ok().ok_or("no memory")?;
+        assert_eq!(rt; answer, *says);
+    }
+    Ok(())
+}
+
 #[test]
-fn the_first_fault_of_cuts_is_told(rt: HostRuntime) -> Result<(), Fail> {
-    let p = star(rt.alloc(), None, None).ok().ok_or("no memory")?;
-    let none = (0, [0, 0, 0]);
-    let second = (4, [2, 0, 0]);
-    let third = (6, [3, 0, 0]);
+fn cuts_are_to_weigh_what_is_needed(rt: HostRuntime) -> Result<(), Fail> {
     let cases = [
-        ([second, third, (2, [4, 0, 0]), none], Ok(())),
+        ([SECOND, THIRD, (2, [4, 0, 0]), NONE], Ok(())),
         (
-            [(1, [2, 2, 0]), (3, [2, 0, 0]), third, (2, [4, 0, 0])],
+            [(1, [2, 2, 0]), (3, [2, 0, 0]), THIRD, (2, [4, 0, 0])],
             Ok(()),
         ),
         (
-            [third, second, (1, [4, 0, 0]), none],
+            [THIRD, SECOND, (1, [4, 0, 0]), NONE],
             Err(CutFault::Total {
                 sum: 11,
                 needed: 12,
             }),
         ),
         (
-            [none, none, none, none],
+            [NONE, NONE, NONE, NONE],
             Err(CutFault::Total { sum: 0, needed: 12 }),
         ),
+    ];
+    says_each(&rt, rt.alloc(), &cases)
+}
+
+#[test]
+fn the_first_fault_of_cuts_is_told(rt: HostRuntime) -> Result<(), Fail> {
+    let cases = [
         (
-            [second, (6, [3, 5, 8]), none, none],
+            [SECOND, (6, [3, 5, 8]), NONE, NONE],
             Err(CutFault::Stranger {
                 cut: 2,
                 junction: 5,
             }),
         ),
         (
-            [second, (6, [3, 1, 0]), none, none],
+            [SECOND, (6, [3, 1, 0]), NONE, NONE],
             Err(CutFault::EvenCut { cut: 2, odd: 2 }),
         ),
         (
-            [(4, [2, 2, 4]), (6, [9, 0, 0]), none, none],
+            [(4, [2, 2, 4]), (6, [9, 0, 0]), NONE, NONE],
             Err(CutFault::EvenCut { cut: 1, odd: 2 }),
         ),
         (
-            [second, (2, [4, 0, 0]), (1, [1, 2, 3]), none],
+            [SECOND, (2, [4, 0, 0]), (1, [1, 2, 3]), NONE],
             Err(CutFault::Overload {
                 line: 6,
                 load: 3,
@@ -239,7 +266,7 @@ fn the_first_fault_of_cuts_is_told(rt: HostRuntime) -> Result<(), Fail> {
             }),
         ),
         (
-            [(3, [4, 0, 0]), (9, [3, 0, 0]), none, none],
+            [(3, [4, 0, 0]), (9, [3, 0, 0]), NONE, NONE],
             Err(CutFault::Overload {
                 line: 3,
                 load: 9,
@@ -247,20 +274,15 @@ fn the_first_fault_of_cuts_is_told(rt: HostRuntime) -> Result<(), Fail> {
             }),
         ),
     ];
-    for (table, says) in cases {
-        let answer = said(rt.alloc(), &p, 6, table).ok().ok_or("no memory")?;
-        assert_eq!(rt; answer, says);
-    }
-    Ok(())
+    says_each(&rt, rt.alloc(), &cases)
 }
 
 #[test]
 fn start_and_end_are_odd_no_more(rt: HostRuntime) -> Result<(), Fail> {
     let p = star(rt.alloc(), Some(1), Some(3)).ok().ok_or("no memory")?;
-    let none = (0, [0, 0, 0]);
-    let third = said(rt.alloc(), &p, 3, [(6, [3, 0, 0]), none, none, none]);
+    let third = said(rt.alloc(), &p, 3, [THIRD, NONE, NONE, NONE]);
     assert_eq!(rt; third.ok().ok_or("no memory")?, Ok(()));
-    let end = said(rt.alloc(), &p, 3, [(6, [4, 0, 0]), none, none, none]);
+    let end = said(rt.alloc(), &p, 3, [(6, [4, 0, 0]), NONE, NONE, NONE]);
     assert_eq!(rt;
         end.ok().ok_or("no memory")?,
         Err(CutFault::EvenCut { cut: 1, odd: 0 })
