@@ -1,5 +1,6 @@
 ghost use Rattle.std.specs.Prelude.{◌≡◌, IfSome, codes, is_some, map, option_map, string_bytes};
-ghost use Rattle.command_words.specs.Requests.{IsSound, asked_as, asked_by, asked_check, asked_convert, asked_double, asked_edit, asked_hoop, asked_migrate, asked_of, asked_route, asked_sample, asked_show, asked_trace, hoop_with, sample_with};
+ghost use Rattle.command_words.specs.Requests.{asked_as, asked_check, asked_convert, asked_double, asked_edit, asked_hoop, asked_migrate, asked_of, asked_route, asked_sample, asked_show, asked_trace, hoop_with, sample_with};
+ghost use Rattle.command_words.specs.SoundRequests.{IsSound, asked_by};
 ghost use Rattle.command_words.specs.Words.{are_both as are_both_words, edits_spelled, is_name as word_is_name, refits_spelled, sample_of, side_of};
 
 use crate::edit_words::edit_spelled;

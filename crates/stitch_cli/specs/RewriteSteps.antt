@@ -1,7 +1,7 @@
 -- What the inner steps of a rewriting answer. No public clause cites this file.
 use Rattle.std.specs.Prelude.{◌≡◌, ℕ, List, [], map, Result, Ok, Err, string_bytes, unwrap_or}
 use Rattle.command_words.specs.Changes.{Change, cut, split}
-use Rattle.command_words.specs.Requests.{SpellEdits}
+use Rattle.command_words.specs.SoundRequests.{SpellEdits}
 use Rattle.command_words.specs.Words.{edits_spelled, refits}
 use Rattle.design_model.specs.Counts.{counts_of}
 use Rattle.design_model.specs.Designs.{DesignValue}

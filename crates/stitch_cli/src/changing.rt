@@ -1,7 +1,7 @@
 ghost use Rattle.std.specs.Prelude.{◌≡◌, ◌≤◌, ℕ, [], ◌∷◌, IfSome, IsSome, map, string_bytes, unsigned_abs, unwrap_or, if◌then◌else◌};
 ghost use Rattle.command_words.specs.Changes.{shift as shift_by, thread as thread_at};
 ghost use Rattle.command_words.specs.Edits.{IsSmallEdit, change_by};
-ghost use Rattle.command_words.specs.Requests.{SpellEdits};
+ghost use Rattle.command_words.specs.SoundRequests.{SpellEdits};
 ghost use Rattle.command_words.specs.Words.{edit_spelled as edit_spelled_by, edits_spelled, refits};
 ghost use Rattle.design_edits.specs.declared.motion.TheConstants.{MAX_SHIFT};
 ghost use Rattle.step_splitter.specs.declared.segment.TheConstants.{MAX_STEP};

@@ -1,5 +1,5 @@
 ghost use Rattle.std.specs.Prelude.{◌<◌, ◌-◌, ◌≤◌, ◌^◌, All, Ok, length};
-ghost use Rattle.command_words.specs.Requests.{AreCheckNames};
+ghost use Rattle.command_words.specs.SoundRequests.{AreCheckNames};
 ghost use Rattle.certificate_text.specs.ReadCertificates.{cert_of};
 ghost use Rattle.drawing_text.specs.DrawingText.{drawing_of};
 ghost use Rattle.outside_io.specs.declared.limits.TheConstants.{MAX_FILE};

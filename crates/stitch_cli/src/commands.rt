@@ -1,6 +1,6 @@
 ghost use Rattle.std.specs.Prelude.{◌≡◌, ◌≢◌, map, option_map, string_bytes};
 ghost use Rattle.std.specs.Bool.{OnTrue};
-ghost use Rattle.command_words.specs.Requests.{AreCheckNames, AreNames, BothAreNames};
+ghost use Rattle.command_words.specs.SoundRequests.{AreCheckNames, AreNames, BothAreNames};
 ghost use Rattle.outside_io.specs.Files.{IsName};
 ghost use Rattle.stitch_cli.specs.Endings.{Answers};
 ghost use Rattle.stitch_cli.specs.Orders.{are_apart as names_are_apart, checking_by, doubling_to, format_of, hooping_by, migrating_to, order_of, rewriting_by, routing_to, showing_by, tracing_to};

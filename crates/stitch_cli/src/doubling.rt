@@ -1,5 +1,5 @@
 ghost use Rattle.std.specs.Prelude.{◌≢◌, ◌≤◌, IfOk, length};
-ghost use Rattle.command_words.specs.Requests.{AreNames};
+ghost use Rattle.command_words.specs.SoundRequests.{AreNames};
 ghost use Rattle.drawing_text.specs.DrawingText.{drawing_of};
 ghost use Rattle.outside_io.specs.declared.limits.TheConstants.{MAX_FILE};
 ghost use Rattle.stitch_cli.specs.DoubleRuns.{DoubleMakes, double_drawing, double_plan, double_read};

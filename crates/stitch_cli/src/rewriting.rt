@@ -1,4 +1,4 @@
-ghost use Rattle.command_words.specs.Requests.{BothAreNames};
+ghost use Rattle.command_words.specs.SoundRequests.{BothAreNames};
 ghost use Rattle.format_traits.specs.Meanings.{Meaning};
 ghost use Rattle.outside_io.specs.Files.{IsName};
 ghost use Rattle.stitch_cli.specs.Endings.{Prepares, Settles};

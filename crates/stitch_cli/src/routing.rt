@@ -1,5 +1,5 @@
 ghost use Rattle.std.specs.Prelude.{◌≡◌, ◌≢◌, ◌≤◌, IfOk, length};
-ghost use Rattle.command_words.specs.Requests.{AreNames};
+ghost use Rattle.command_words.specs.SoundRequests.{AreNames};
 ghost use Rattle.format_traits.specs.PlainDesigns.{IsPlain};
 ghost use Rattle.line_graph.specs.Runs.{AreWritable, runs_of, sewn_design};
 ghost use Rattle.outside_io.specs.declared.limits.TheConstants.{MAX_FILE};
