@@ -131,6 +131,21 @@ fn cuts(piece: u32, fault: CutFault) -> Verdict {
     no(Reason::Cuts { piece, fault })
 }
 
+fn retraces(piece: u32, said: u32, found: u64) -> Verdict {
+    no(Reason::Retraced { piece, said, found })
+}
+
+fn overloads(piece: u32, line: u32, load: u64, allowed: u64) -> Verdict {
+    cuts(
+        piece,
+        CutFault::Overload {
+            line,
+            load,
+            allowed,
+        },
+    )
+}
+
 #[test]
 fn the_first_thing_that_is_wrong_is_told(rt: HostRuntime) -> Result<(), Fail> {
     let d = strokes(rt.alloc(), &[(0, 40)]).ok().ok_or("no drawing")?;
@@ -138,14 +153,7 @@ fn the_first_thing_that_is_wrong_is_told(rt: HostRuntime) -> Result<(), Fail> {
     let cases = [
         ((4, [1, -1], 8, [1, 0]), Verdict::Yes),
         ((4, [1, 0], 8, [1, 0]), walk(1, WalkFault::Open)),
-        (
-            (3, [1, -1], 8, [1, 0]),
-            no(Reason::Retraced {
-                piece: 1,
-                said: 3,
-                found: 4,
-            }),
-        ),
+        ((3, [1, -1], 8, [1, 0]), retraces(1, 3, 4)),
         (
             (4, [1, -1], 8, [3, 0]),
             cuts(
@@ -160,17 +168,7 @@ fn the_first_thing_that_is_wrong_is_told(rt: HostRuntime) -> Result<(), Fail> {
             (4, [1, -1], 8, [1, 2]),
             cuts(1, CutFault::EvenCut { cut: 1, odd: 2 }),
         ),
-        (
-            (4, [1, -1], 9, [1, 0]),
-            cuts(
-                1,
-                CutFault::Overload {
-                    line: 1,
-                    load: 9,
-                    allowed: 8,
-                },
-            ),
-        ),
+        ((4, [1, -1], 9, [1, 0]), overloads(1, 1, 9, 8)),
         (
             (4, [1, -1], 7, [1, 0]),
             cuts(1, CutFault::Total { sum: 7, needed: 8 }),
@@ -267,25 +265,8 @@ fn the_second_piece_is_judged_by_its_own_lines(rt: HostRuntime) -> Result<(), Fa
             (2, [-1, 1], 4, [1, 0]),
             walk(2, WalkFault::Stranger { pass: 1 }),
         ),
-        (
-            (1, [-2, 2], 2, [1, 0]),
-            no(Reason::Retraced {
-                piece: 2,
-                said: 1,
-                found: 2,
-            }),
-        ),
-        (
-            (2, [-2, 2], 5, [1, 0]),
-            cuts(
-                2,
-                CutFault::Overload {
-                    line: 2,
-                    load: 5,
-                    allowed: 4,
-                },
-            ),
-        ),
+        ((1, [-2, 2], 2, [1, 0]), retraces(2, 1, 2)),
+        ((2, [-2, 2], 5, [1, 0]), overloads(2, 2, 5, 4)),
         (
             (2, [-2, 2], 2, [1, 0]),
             cuts(2, CutFault::Total { sum: 2, needed: 4 }),
