@@ -1,4 +1,4 @@
-ghost use Rattle.std.specs.Prelude.{◌≡◌, ◌+◌, ◌<◌, ◌^◌, ◌++◌, IfOk, OnOk};
+ghost use Rattle.std.specs.Prelude.{◌≡◌, ◌++◌, IfOk, OnOk};
 ghost use Rattle.design_model.specs.Acts.{acts_of};
 ghost use Rattle.design_picture.specs.declared.pen.Line.TheVariants.{Open};
 ghost use Rattle.design_picture.specs.Pictures.{act_text, begun, cut_text, end_text, lines, needle_text, unbegun};
