@@ -1,10 +1,11 @@
 -- Worked values of drawing texts: drawings, and the first faults of texts.
 use Rattle.std.proofs.Common.{◌≡◌, ℕ, pos, negsuc, List, [], ◌∷◌, ◌++◌, Ok, Err, codes, refl}
 use Rattle.std.specs.List.{flat_map}
+use Rattle.line_sections.specs.Lines.{LineValue}
+use Rattle.line_sections.specs.Sections.{lines_through}
 use Rattle.line_graph.specs.declared.draw_kind.DrawKind.{DrawKind}
 use Rattle.line_graph.specs.declared.draw_kind.DrawKind.TheVariants as kind
-use Rattle.line_graph.specs.Drawings.{DrawingValue, LineValue}
-use Rattle.line_graph.specs.Sections.{lines_through}
+use Rattle.line_graph.specs.Drawings.{DrawingValue}
 use Rattle.drawing_text.specs.declared.limits.TheConstants.{MAX_TEXT}
 use Rattle.drawing_text.specs.DrawingText.{drawing_as2, drawing_of}
 use Rattle.drawing_text.specs.Words.{text_lines, without_return, words_in}

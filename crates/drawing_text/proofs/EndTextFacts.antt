@@ -1,11 +1,11 @@
 -- Worked values of texts that name starts and ends, and of their faults.
 use Rattle.std.proofs.Common.{◌≡◌, ℕ, pos, List, [], ◌∷◌, ◌++◌, Ok, Err, codes, refl}
 use Rattle.std.specs.List.{flat_map}
+use Rattle.line_sections.specs.declared.spot.Spot.{Spot}
+use Rattle.line_sections.specs.Sections.{lines_through}
 use Rattle.line_graph.specs.declared.draw_kind.DrawKind.{DrawKind}
 use Rattle.line_graph.specs.declared.draw_kind.DrawKind.TheVariants as kind
-use Rattle.line_graph.specs.declared.spot.Spot.{Spot}
 use Rattle.line_graph.specs.Drawings.{DrawingValue}
-use Rattle.line_graph.specs.Sections.{lines_through}
 use Rattle.drawing_text.specs.DrawingText.{drawing_as2, drawing_of}
 use Rattle.drawing_text.proofs.SpellingFacts.{place}
 

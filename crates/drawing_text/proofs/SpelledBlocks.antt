@@ -8,7 +8,8 @@ use Rattle.std.proofs.lemmas.List.Folds.{list_any-append, list_any_at}
 use Rattle.std.proofs.lemmas.Map.Views.{any-filter_same}
 use Rattle.std.specs.List.{list_any}
 use Rattle.std.specs.List.Sorted.{IsNonDecreasing}
-use Rattle.line_graph.specs.Drawings.{DrawingValue, KeepsDrawing, LineValue}
+use Rattle.line_sections.specs.Lines.{LineValue}
+use Rattle.line_graph.specs.Drawings.{DrawingValue, KeepsDrawing}
 use Rattle.drawing_text.specs.Spelling.{lines_in}
 
 -- the lines of the blocks before that one

@@ -9,12 +9,13 @@ use Rattle.std.proofs.lemmas.List.Sums.{sum_by-append, sum_by-cons}
 use Rattle.std.specs.Fmt.{decimal}
 use Rattle.std.specs.List.{flat_map, list_any}
 use Rattle.design_model.specs.Labels.{IsLabel}
-use Rattle.line_graph.specs.Drawings.{DrawingValue, IsLine, KeepsDrawing, LineValue}
+use Rattle.line_sections.specs.declared.spot.Spot.{Spot}
+use Rattle.line_sections.specs.Lines.{LineValue}
+use Rattle.line_graph.specs.Drawings.{DrawingValue, IsLine, KeepsDrawing}
 use Rattle.line_graph.specs.Growing.{and_then, finished, is_last_empty, point_count, step_count, with_block, with_line}
 use Rattle.line_graph.specs.Needles.{line_steps}
-use Rattle.line_graph.specs.Sections.{JoinedStay, joined_drawing}
+use Rattle.line_graph.specs.JoinedDrawings.{JoinedStay, joined_drawing}
 use Rattle.line_graph.specs.WalkEnds.{HasNoEnds}
-use Rattle.line_graph.specs.declared.spot.Spot.{Spot}
 use Rattle.line_graph.specs.declared.draw_kind.DrawKind.{DrawKind}
 use Rattle.drawing_text.proofs.Shapes.{last_by}
 use Rattle.drawing_text.proofs.SpelledBlocks.{all_below, found_used, last_found, lines_below, next_lines, none_first}

@@ -5,7 +5,7 @@ use Rattle.line_graph.specs.declared.draw_kind.DrawKind.{DrawKind}
 use Rattle.line_graph.specs.declared.draw_kind.DrawKind.TheVariants as kind
 use Rattle.line_graph.specs.Drawings.{DrawingValue, KeepsDrawing}
 use Rattle.line_graph.specs.Growing.{and_then, finished}
-use Rattle.line_graph.specs.Sections.{is_joined, joined_drawing}
+use Rattle.line_graph.specs.JoinedDrawings.{is_joined, joined_drawing}
 use Rattle.line_graph.specs.WalkEnds.{HasNoEnds, walk_end_added}
 use Rattle.drawing_text.specs.declared.draft.Draft.{Draft}
 use Rattle.drawing_text.specs.declared.draw_fault.DrawFault.{DrawFault}

@@ -1,7 +1,7 @@
 -- words of the crate below that public clauses cite
 pub use Rattle.line_graph.specs.Drawings
 pub use Rattle.line_graph.specs.Growing
-pub use Rattle.line_graph.specs.Sections
+pub use Rattle.line_graph.specs.JoinedDrawings
 pub use Rattle.line_graph.specs.WalkEnds
 pub mod Words
 pub mod Spelling

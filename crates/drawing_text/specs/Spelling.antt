@@ -4,7 +4,8 @@ use Rattle.std.specs.Prelude.{ℕ, ◌+◌, ◌==◌, if◌then◌else◌, List,
 use Rattle.std.specs.Fmt.{decimal, signed_decimal}
 use Rattle.std.specs.List.{flat_map}
 use Rattle.design_model.specs.declared.point.Point.{Point}
-use Rattle.line_graph.specs.Drawings.{DrawingValue, LineValue}
+use Rattle.line_sections.specs.Lines.{LineValue}
+use Rattle.line_graph.specs.Drawings.{DrawingValue}
 use Rattle.drawing_text.specs.declared.version.Version.{Version}
 use Rattle.drawing_text.specs.declared.version.Version.TheVariants as version
 

@@ -1,6 +1,6 @@
 ghost use Rattle.std.specs.Prelude.{◌≡◌, IfOk};
 ghost use Rattle.line_graph.specs.Growing.{Answers, Changes, and_then, finished};
-ghost use Rattle.line_graph.specs.Sections.{joined_drawing};
+ghost use Rattle.line_graph.specs.JoinedDrawings.{joined_drawing};
 ghost use Rattle.drawing_text.specs.declared.version.Version.TheVariants as version;
 ghost use Rattle.drawing_text.specs.DrawingText.{IsMeant, IsWhole, Reads, at_line, joined_at, meant_by};
 ghost use Rattle.drawing_text.specs.TextLines.{coloured, ended, first_draft, has_ends as has_start_lines, judged, lined, named, stepped};

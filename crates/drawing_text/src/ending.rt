@@ -1,6 +1,6 @@
 ghost use Rattle.std.specs.Prelude.{◌≡◌, true};
 ghost use Rattle.line_graph.specs.Growing.{Changes};
-ghost use Rattle.line_graph.specs.Sections.{is_joined};
+ghost use Rattle.line_graph.specs.JoinedDrawings.{is_joined};
 ghost use Rattle.line_graph.specs.WalkEnds.{HasNoEnds, walk_end_added};
 ghost use Rattle.drawing_text.specs.DrawingText.{Reads, with_ends as the_drawing_with_ends};
 

@@ -11,11 +11,12 @@ use Rattle.std.proofs.lemmas.Option.{slice_get-get_or}
 use Rattle.std.specs.List.{list_any, position_or_len}
 use Rattle.design_model.specs.declared.point.Point.{Point}
 use Rattle.design_model.specs.Points.{is_same_point}
+use Rattle.line_sections.specs.declared.spot.Spot.{Spot}
+use Rattle.line_sections.specs.Lines.{LineValue}
 use Rattle.line_graph.specs.declared.chosen_spots.ChosenSpots.{ChosenSpots}
 use Rattle.line_graph.specs.declared.draw_kind.DrawKind.TheVariants as kind
-use Rattle.line_graph.specs.declared.spot.Spot.{Spot}
 use Rattle.line_graph.specs.Choosing.{AreChosen, label_at}
-use Rattle.line_graph.specs.Drawings.{DrawingValue, LineValue, block_in, first_of, last_of, points_in}
+use Rattle.line_graph.specs.Drawings.{DrawingValue, block_in, first_of, last_of, points_in}
 use Rattle.line_graph.specs.FirstLines.{IsEnd}
 use Rattle.line_graph.specs.PieceParts.{AreLabels}
 use Rattle.line_graph.specs.Pieces.{Joined, Leads, ends_of}

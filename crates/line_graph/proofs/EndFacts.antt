@@ -2,9 +2,10 @@
 -- point in the next one.
 use Rattle.std.proofs.Common.{◌≡◌, ℕ, pos, true, false, List, [], ◌∷◌, Ok, Err, Some, None, refl}
 use Rattle.design_model.specs.declared.point.Point.{Point}
+use Rattle.line_sections.specs.declared.spot.Spot.{Spot}
+use Rattle.line_sections.specs.Lines.{LineValue}
 use Rattle.line_graph.specs.declared.draw_kind.DrawKind.TheVariants as kind
-use Rattle.line_graph.specs.declared.spot.Spot.{Spot}
-use Rattle.line_graph.specs.Drawings.{DrawingValue, LineValue}
+use Rattle.line_graph.specs.Drawings.{DrawingValue}
 use Rattle.line_graph.specs.PieceGraphs.{piece_of}
 use Rattle.line_graph.specs.WalkEnds.{are_joined, end_added, is_junction, start_added, walk_end_added}
 

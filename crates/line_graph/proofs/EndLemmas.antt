@@ -4,11 +4,12 @@ use Rattle.std.proofs.lemmas.List.Elements.{All-head, All-tail}
 use Rattle.std.proofs.lemmas.Option.{slice_get-get_or}
 use Rattle.design_model.specs.declared.point.Point.{Point}
 use Rattle.step_splitter.specs.Chains.{last_from}
-use Rattle.line_graph.specs.declared.spot.Spot.{Spot}
-use Rattle.line_graph.specs.Drawings.{DrawingValue, LineValue, block_in, first_of, last_of, points_in}
+use Rattle.line_sections.specs.declared.spot.Spot.{Spot}
+use Rattle.line_sections.specs.Lines.{LineValue}
+use Rattle.line_sections.specs.Spots.{is_same_spot}
+use Rattle.line_graph.specs.Drawings.{DrawingValue, block_in, first_of, last_of, points_in}
 use Rattle.line_graph.specs.FirstLines.{IsEnd}
 use Rattle.line_graph.specs.Pieces.{Joined, Leads, ends_of}
-use Rattle.line_graph.specs.Spots.{is_same_spot}
 use Rattle.line_graph.specs.WalkEnds.{SpotsAreJoined, are_joined, end_spots, stands_for, stands_joined}
 use Rattle.line_graph.proofs.LabelLemmas.{joined_back, joined_on}
 use Rattle.line_graph.proofs.LinkLemmas.{below_get, same_spot, share_of, spot_found, touch_joins, touch_of}

@@ -10,8 +10,8 @@ use Rattle.std.specs.Option.{option_or}
 use Rattle.design_model.specs.declared.point.Point.{Point}
 use Rattle.design_model.specs.Points.{is_same_point}
 use Rattle.step_splitter.specs.Chains.{SplitPointsLead}
+use Rattle.line_sections.specs.declared.spot.Spot.{Spot}
 use Rattle.line_graph.specs.declared.edge.Edge.{Edge}
-use Rattle.line_graph.specs.declared.spot.Spot.{Spot}
 use Rattle.line_graph.specs.Drawings.{DrawingValue, IsLine, KeepsDrawing, block_of, points_of}
 use Rattle.line_graph.specs.KeptPieces.{AreJoined, KeepsPiece, NoneLeaves, all_below, all_cost, ends_below, is_below}
 use Rattle.line_graph.specs.Needles.{line_steps}

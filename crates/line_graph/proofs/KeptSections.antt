@@ -1,19 +1,51 @@
 -- The drawing of all sections keeps the limits of drawings.
 use Rattle.std.proofs.Common.{◌≡◌, ℕ, zero, suc, ◌<◌, ◌≤◌, ◌⊎◌, inl, inr, true, false, nat_lt, List, [], ◌∷◌, ◌++◌, length, map, All, Contains, ap, sym, subst, ◌∙◌, refl, arith}
 use Rattle.std.proofs.lemmas.Bool.Decides.{nat_tests}
-use Rattle.std.proofs.lemmas.List.{get_or-map, length-map}
+use Rattle.std.proofs.lemmas.List.{get_or-map, length-map, map-append}
 use Rattle.std.proofs.lemmas.List.Concat.{flat_map-cons}
-use Rattle.std.proofs.lemmas.List.Elements.{All-append, All-head, All-map, All-tail, All-weaker}
+use Rattle.std.proofs.lemmas.List.Elements.{All-append, All-head, All-map, All-nil, All-tail, All-weaker, Contains-append_cases, Contains-append_left, Contains-append_right}
 use Rattle.std.specs.List.{flat_map}
 use Rattle.std.specs.List.Sorted.{IsNonDecreasing}
 use Rattle.design_model.specs.declared.point.Point.{Point}
-use Rattle.line_graph.specs.Drawings.{DrawingValue, IsLine, KeepsDrawing, LineValue}
+use Rattle.line_sections.specs.Lines.{LineValue}
+use Rattle.line_sections.specs.Sections.{SectionsHaveSegments, SectionsKeepSegments, WholeLinesStay, all_sections, are_whole, is_shared, line_sections, lines_through, sections_of}
+use Rattle.line_graph.specs.Drawings.{DrawingValue, IsLine, KeepsDrawing}
 use Rattle.line_graph.specs.Growing.{point_count}
-use Rattle.line_graph.specs.Sections.{all_sections, is_joined, is_shared, line_sections, lines_through, sections_of}
+use Rattle.line_graph.specs.JoinedDrawings.{JoinedStay, is_joined}
 use Rattle.line_graph.specs.WalkEnds.{HasNoEnds, KeepsAll, KeepsEnds}
-use Rattle.line_graph.proofs.JoinLemmas.{all_flat, cost_kept, joined_same, line_of, sections_joined, used_flat}
 use Rattle.line_graph.proofs.MakerLemmas.{unended}
-use Rattle.line_graph.proofs.SectionLemmas.{AreSome, lines_sew, some_sections}
+use Rattle.line_graph.proofs.SectionCosts.{AreSome, cost_kept, sections_sew, some_sections}
+
+-- what holds of all sections
+module _ (of_line : LineValue → List LineValue) where
+  all_flat : (P Q : LineValue → Type 0) → ((line : LineValue) → P line → All Q (of_line line)) → (lines : List LineValue)
+      → All P lines → All Q (flat_map of_line lines)
+  all_flat P Q each [] have = All-nil Q
+  all_flat P Q each (line ∷ rest) have =
+      subst (λ (all : List LineValue). All Q all) (sym (flat_map-cons of_line line rest))
+      (All-append Q (of_line line) (flat_map of_line rest) (each line (All-head P line rest have))
+      (all_flat P Q each rest (All-tail P line rest have)))
+
+  used_flat : (P : LineValue → Type 0) (block : ℕ)
+      → ((line : LineValue) → P line → Contains (map (λ (l : LineValue). l.block) (of_line line)) line.block) → (lines : List LineValue)
+      → All P lines → Contains (map (λ (l : LineValue). l.block) lines) block
+      → Contains (map (λ (l : LineValue). l.block) (flat_map of_line lines)) block
+  used_flat P block each [] have used = used
+  used_flat P block each (line ∷ rest) have used =
+      let blocks : List LineValue → List ℕ = map (λ (l : LineValue). l.block) in
+      let parts : blocks (flat_map of_line (line ∷ rest)) ≡ blocks (of_line line) ++ blocks (flat_map of_line rest) =
+      ap blocks (flat_map-cons of_line line rest) ∙ map-append (λ (l : LineValue). l.block) (of_line line) (flat_map of_line rest) in
+      subst (λ (all : List ℕ). Contains all block) (sym parts)
+      (elim (Contains-append_cases (line.block ∷ []) (blocks rest) block used) [
+        | inl first ↦ Contains-append_left (blocks (of_line line)) (blocks (flat_map of_line rest)) block
+            (subst (λ (b : ℕ). Contains (blocks (of_line line)) b) (only line.block block first) (each line (All-head P line rest have)))
+        | inr later ↦ Contains-append_right (blocks (of_line line)) (blocks (flat_map of_line rest)) block
+            (used_flat P block each rest (All-tail P line rest have) later)
+      ])
+    where
+      only : (a b : ℕ) → Contains (a ∷ []) b → a ≡ b
+      only a b (zero, there, is) = is
+      only a b (suc i, there, is) = absurd (omega (arith, there))
 
 -- the blocks of the lines do not fall
 abbrev Rises : List LineValue → Type 0
@@ -67,16 +99,20 @@ rises_flat of_line each (line ∷ rest) rises =
     subst Rises (sym (flat_map-cons of_line line rest))
     (put_rises line.block (of_line line) (flat_map of_line rest) (each line) above (rises_flat of_line each rest rises.1))
 
+-- a line of a block
+abbrev line_of : ℕ → List Point → LineValue
+line_of block points = record { block = block; points = points }
+
 -- a section is in the block of its line
 in_block : (lines : List LineValue) (line : LineValue) → All (λ (l : LineValue). l.block ≡ line.block) (line_sections lines line)
 in_block lines line = All-map (λ (l : LineValue). l.block ≡ line.block) (line_of line.block)
     (sections_of (is_shared lines line.block) line.points) (λ i d there. refl)
 
 -- and each line has one
-has_section : (lines : List LineValue) (line : LineValue) → IsLine line.points
+has_section : SectionsKeepSegments → (lines : List LineValue) (line : LineValue) → IsLine line.points
     → Contains (map (λ (l : LineValue). l.block) (line_sections lines line)) line.block
-has_section lines line able = from_some (sections_of (is_shared lines line.block) line.points)
-    (some_sections (is_shared lines line.block) line.points able)
+has_section keep lines line able = from_some (sections_of (is_shared lines line.block) line.points)
+    (some_sections keep (is_shared lines line.block) line.points able)
   where
     from_some : (sections : List (List Point)) → AreSome sections
         → Contains (map (λ (l : LineValue). l.block) (lines_through line.block sections)) line.block
@@ -86,9 +122,10 @@ has_section lines line able = from_some (sections_of (is_shared lines line.block
         none_some first others is = cc
     from_some (section ∷ rest) some = (0, omega arith, refl)
 
-pub keeps_joined : (d : DrawingValue) → KeepsDrawing d → nat_lt 1024 (length (all_sections d.lines)) ≡ false
+keeps_joined : SectionsKeepSegments → SectionsHaveSegments → (d : DrawingValue) → KeepsDrawing d
+    → nat_lt 1024 (length (all_sections d.lines)) ≡ false
     → nat_lt 65536 (point_count (all_sections d.lines)) ≡ false → KeepsDrawing (record d { lines = all_sections d.lines })
-keeps_joined d keeps few short = record {
+keeps_joined keep have d keeps few short = record {
   label = keeps.label;
   one_word = keeps.one_word;
   step_from = keeps.step_from;
@@ -97,7 +134,7 @@ keeps_joined d keeps few short = record {
   blocks_to = keeps.blocks_to;
   threads = keeps.threads;
   used = λ block there. used_flat (line_sections d.lines) (λ (l : LineValue). IsLine l.points) block
-      (has_section d.lines) d.lines keeps.lines (keeps.used block there);
+      (has_section keep d.lines) d.lines keeps.lines (keeps.used block there);
   there = all_flat (line_sections d.lines) (λ (l : LineValue). l.block < length d.threads)
       (λ (l : LineValue). l.block < length d.threads)
       (λ line below. All-weaker (λ (l : LineValue). l.block ≡ line.block) (λ (l : LineValue). l.block < length d.threads)
@@ -107,45 +144,54 @@ keeps_joined d keeps few short = record {
   lines = all_flat (line_sections d.lines) (λ (l : LineValue). IsLine l.points) (λ (l : LineValue). IsLine l.points)
       (λ line able. All-map (λ (l : LineValue). IsLine l.points) (line_of line.block)
       (sections_of (is_shared d.lines line.block) line.points)
-      (lines_sew (is_shared d.lines line.block) line.points able)) d.lines keeps.lines;
+      (sections_sew keep have (is_shared d.lines line.block) line.points able)) d.lines keeps.lines;
   line_count = grind (arith, nat_tests, few);
   point_count = grind (arith, nat_tests, short);
-  cost = omega (arith, cost_kept d.lines d.step, keeps.cost);
+  cost = omega (arith, cost_kept keep d.step d.lines, keeps.cost);
 }
 
 -- the same of sections that were made
-keeps_sections : (d : DrawingValue) (lines sections slice : List LineValue) → KeepsDrawing d → lines ≡ d.lines
-    → sections ≡ all_sections lines → slice ≡ sections → length sections ≤ 1024 → nat_lt 65536 (point_count slice) ≡ false
-    → KeepsDrawing (record d { lines = sections })
-keeps_sections d lines sections slice keeps same are slice_is few short =
+keeps_sections : SectionsKeepSegments → SectionsHaveSegments → (d : DrawingValue) (lines sections slice : List LineValue)
+    → KeepsDrawing d → lines ≡ d.lines → sections ≡ all_sections lines → slice ≡ sections → length sections ≤ 1024
+    → nat_lt 65536 (point_count slice) ≡ false → KeepsDrawing (record d { lines = sections })
+keeps_sections keep have d lines sections slice keeps same are slice_is few short =
     let is : sections ≡ all_sections d.lines = are ∙ ap all_sections same in
     subst (λ (s : List LineValue). KeepsDrawing (record d { lines = s })) (sym is)
-    (keeps_joined d keeps (ap (λ (s : List LineValue). nat_lt 1024 (length s)) (sym is) ∙ grind (arith, nat_tests, few))
+    (keeps_joined keep have d keeps (ap (λ (s : List LineValue). nat_lt 1024 (length s)) (sym is) ∙ grind (arith, nat_tests, few))
     (ap (λ (s : List LineValue). nat_lt 65536 (point_count s)) (sym is ∙ sym slice_is) ∙ short))
 
+-- lines that are whole are their own sections, since each has a point
+joined_same : WholeLinesStay → (lines : List LineValue) → All (λ (line : LineValue). IsLine line.points) lines
+    → are_whole lines ≡ true → all_sections lines ≡ lines
+joined_same stay lines able =
+    stay lines (All-weaker (λ (line : LineValue). IsLine line.points) (λ (line : LineValue). 1 ≤ length line.points)
+    (λ line is. omega (arith, is.long)) lines able)
+
+-- and so a drawing that is joined stays as it is
+pub joined_stay : WholeLinesStay → JoinedStay
+joined_stay stay d keeps joined =
+    let is = joined_same stay d.lines keeps.lines joined in
+    let few : nat_lt 1024 (length d.lines) ≡ false = grind (arith, nat_tests, keeps.line_count) in
+    let short : nat_lt 65536 (point_count d.lines) ≡ false = grind (arith, nat_tests, keeps.point_count) in
+    rw (is, few, short) refl
+
 -- and its starts and ends stay
-ends_kept : (d : DrawingValue) (sections : List LineValue) → KeepsDrawing d → KeepsEnds d → sections ≡ all_sections d.lines
+ends_kept : WholeLinesStay → (d : DrawingValue) (sections : List LineValue) → KeepsDrawing d → KeepsEnds d → sections ≡ all_sections d.lines
     → KeepsEnds (record d { lines = sections })
-ends_kept d sections keeps ends are = by_joined ends.joined
+ends_kept stay d sections keeps ends are = by_joined ends.joined
   where
     by_joined : HasNoEnds d ⊎ (is_joined d ≡ true) → KeepsEnds (record d { lines = sections })
     by_joined (inl none) = unended (record d { lines = sections }) (record { starts = none.starts; ends = none.ends })
     by_joined (inr joined) =
-        subst (λ (s : List LineValue). KeepsEnds (record d { lines = s })) (sym (are ∙ joined_same d.lines keeps.lines joined))
+        subst (λ (s : List LineValue). KeepsEnds (record d { lines = s })) (sym (are ∙ joined_same stay d.lines keeps.lines joined))
         (record { starts = ends.starts; ends = ends.ends; joined = inr joined })
 
 -- so all is kept
-pub all_kept : (d : DrawingValue) (lines sections slice : List LineValue) → KeepsDrawing d → KeepsEnds d → lines ≡ d.lines
+pub all_kept : SectionsKeepSegments → SectionsHaveSegments → WholeLinesStay → (d : DrawingValue)
+    (lines sections slice : List LineValue) → KeepsDrawing d → KeepsEnds d → lines ≡ d.lines
     → sections ≡ all_sections lines → slice ≡ sections → length sections ≤ 1024 → nat_lt 65536 (point_count slice) ≡ false
     → KeepsAll (record d { lines = sections })
-all_kept d lines sections slice keeps ends same are slice_is few short = record {
-  limits = keeps_sections d lines sections slice keeps same are slice_is few short;
-  ends = ends_kept d sections keeps ends (are ∙ ap all_sections same);
+all_kept keep have stay d lines sections slice keeps ends same are slice_is few short = record {
+  limits = keeps_sections keep have d lines sections slice keeps same are slice_is few short;
+  ends = ends_kept stay d sections keeps ends (are ∙ ap all_sections same);
 }
-
-pub whole_joined : (d whole : DrawingValue) (lines sections : List LineValue) → lines ≡ d.lines → sections ≡ all_sections lines
-    → whole ≡ record d { lines = sections } → is_joined whole ≡ true
-whole_joined d whole lines sections same are is =
-    let whole_is : whole ≡ record d { lines = all_sections d.lines } =
-    is ∙ ap (λ (s : List LineValue). record d { lines = s }) (are ∙ ap all_sections same) in
-    ap is_joined whole_is ∙ sections_joined d.lines

@@ -23,10 +23,8 @@ mod KeptLemmas
 mod PartLemmas
 mod OneLemmas
 mod PieceGraphFacts
-mod SectionFacts
-mod SectionLemmas
-mod JoinLemmas
-mod CutLemmas
+mod JoinedFacts
+mod SectionCosts
 mod KeptSections
 mod EndLemmas
 mod ChoosingLemmas

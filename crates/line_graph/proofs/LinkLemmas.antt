@@ -9,11 +9,12 @@ use Rattle.std.specs.List.{list_any}
 use Rattle.design_model.specs.declared.point.Point.{Point}
 use Rattle.design_model.specs.Points.{is_same_point}
 use Rattle.step_splitter.specs.Chains.{last_from}
-use Rattle.line_graph.specs.declared.spot.Spot.{Spot}
+use Rattle.line_sections.specs.declared.spot.Spot.{Spot}
+use Rattle.line_sections.specs.Lines.{LineValue}
+use Rattle.line_sections.specs.Spots.{is_same_spot}
 use Rattle.line_graph.specs.declared.line_labels.Link.{Link}
-use Rattle.line_graph.specs.Drawings.{DrawingValue, LineValue, block_in, block_of, first_of, last_of, points_in, points_of}
+use Rattle.line_graph.specs.Drawings.{DrawingValue, block_in, block_of, first_of, last_of, points_in, points_of}
 use Rattle.line_graph.specs.FirstLines.{AddsLink, AreLinks, IsEnd, IsLinkedAt, IsLinking, SharesEnd, TakesSpot}
-use Rattle.line_graph.specs.Spots.{is_same_spot}
 use Rattle.line_graph.specs.LineLabels.{Agree}
 use Rattle.line_graph.specs.Pieces.{Joined, TouchAt, ends_of, shares_point}
 use Rattle.line_graph.proofs.MakerLemmas.{same_found}

@@ -16,9 +16,10 @@ use Rattle.design_model.specs.declared.point.Point.{Point}
 use Rattle.design_model.specs.Labels.{IsLabel, IsPrintable}
 use Rattle.design_model.specs.Points.{is_same_point, is_within}
 use Rattle.step_splitter.specs.Chains.{IsNeedlePoint, KeepsMoving}
+use Rattle.line_sections.specs.Lines.{LineValue}
 use Rattle.line_graph.specs.declared.draw_kind.DrawKind.{DrawKind}
 use Rattle.line_graph.specs.declared.draw_kind.DrawKind.TheVariants as kind
-use Rattle.line_graph.specs.Drawings.{DrawingValue, HasNoRepeat, IsLine, KeepsDrawing, LineValue}
+use Rattle.line_graph.specs.Drawings.{DrawingValue, HasNoRepeat, IsLine, KeepsDrawing}
 use Rattle.line_graph.specs.Growing.{are_in_range, has_repeat, is_label_word, is_last_empty, is_used, point_count, repeats_after, step_count, steps_with, with_block, with_line}
 use Rattle.line_graph.specs.Making.{AreBlocks, IsMade}
 use Rattle.line_graph.specs.Needles.{line_steps}

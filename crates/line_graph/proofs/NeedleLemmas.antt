@@ -8,7 +8,8 @@ use Rattle.design_model.specs.declared.point.Point.{Point}
 use Rattle.step_splitter.specs.Chains.{IsNeedlePoint, KeepsClose, KeepsMoving, LeadsTo, SplitPointsLead, last_from}
 use Rattle.step_splitter.specs.Steps.{point_at, split_points, steps_of}
 use Rattle.std.proofs.lemmas.Option.{slice_get-get_or}
-use Rattle.line_graph.specs.Drawings.{DrawingValue, HasNoRepeat, IsLine, KeepsDrawing, LineValue, first_of, last_of, points_in, points_of}
+use Rattle.line_sections.specs.Lines.{LineValue}
+use Rattle.line_graph.specs.Drawings.{DrawingValue, HasNoRepeat, IsLine, KeepsDrawing, first_of, last_of, points_in, points_of}
 use Rattle.line_graph.specs.Laws.{AreClose, AreNeedlesOf, LeadAlong}
 use Rattle.line_graph.specs.Growing.{step_count}
 use Rattle.line_graph.specs.Walks.{cost_of_line, needles_of}

@@ -1,9 +1,10 @@
 -- Worked values of the graphs of pieces, and of walks that fit them. Costs count steps of at most 10.
 use Rattle.std.proofs.Common.{◌≡◌, ℕ, true, false, List, [], ◌∷◌, None, refl}
 use Rattle.design_model.specs.declared.point.Point.{Point}
+use Rattle.line_sections.specs.Lines.{LineValue}
 use Rattle.line_graph.specs.declared.edge.Edge.{Edge}
 use Rattle.line_graph.specs.declared.pass.Pass.{Pass}
-use Rattle.line_graph.specs.Drawings.{DrawingValue, LineValue}
+use Rattle.line_graph.specs.Drawings.{DrawingValue}
 use Rattle.line_graph.specs.PieceGraphs.{degree, odd_junctions, piece_of}
 use Rattle.line_graph.specs.PieceParts.{labelled, parts_of}
 use Rattle.line_graph.specs.PieceWalks.{fits, walk_cost}

@@ -6,9 +6,9 @@ use Rattle.std.specs.List.{list_any}
 use Rattle.std.specs.Ordering.{int_eq}
 use Rattle.design_model.specs.declared.point.Point.{Point}
 use Rattle.design_model.specs.Points.{is_same_point}
+use Rattle.line_sections.specs.Lines.{LineValue}
 use Rattle.line_graph.proofs.MakerLemmas.{same_found}
 use Rattle.line_graph.proofs.PointLemmas.{same_point}
-use Rattle.line_graph.specs.Drawings.{LineValue}
 use Rattle.line_graph.specs.Pieces.{ends_of, shares_point, touches}
 
 -- a test that passes where another does

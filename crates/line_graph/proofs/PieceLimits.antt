@@ -9,8 +9,9 @@ use Rattle.std.proofs.lemmas.List.{length-map}
 use Rattle.std.proofs.lemmas.Option.{slice_get_within}
 use Rattle.std.specs.List.{AllZip, concat}
 use Rattle.std.specs.List.Sorted.{IsStrictlyIncreasing}
+use Rattle.line_sections.specs.Lines.{LineValue}
 use Rattle.line_graph.specs.declared.pass.Pass.{Pass}
-use Rattle.line_graph.specs.Drawings.{DrawingValue, KeepsDrawing, LineValue, block_in, block_of, points_in}
+use Rattle.line_graph.specs.Drawings.{DrawingValue, KeepsDrawing, block_in, block_of, points_in}
 use Rattle.line_graph.specs.Needles.{line_steps}
 use Rattle.line_graph.specs.PieceGraphs.{edge_between, junctions_of, piece_of}
 use Rattle.line_graph.specs.Pieces.{Joined, Leads, TouchAt, first_line, shares_point, ends_of}

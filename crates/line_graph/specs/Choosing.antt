@@ -1,11 +1,12 @@
 -- What the choosing of starts and ends keeps. No public clause cites this file.
 use Rattle.std.specs.Prelude.{◌≡◌, ℕ, ◌==◌, true, false, List, length, get_or}
 use Rattle.std.specs.List.{list_any, position_or_len}
+use Rattle.line_sections.specs.declared.spot.Spot.{Spot}
+use Rattle.line_sections.specs.Lines.{LineValue}
 use Rattle.line_graph.specs.declared.chosen_spots.ChosenSpots.{ChosenSpots}
-use Rattle.line_graph.specs.declared.spot.Spot.{Spot}
-use Rattle.line_graph.specs.Drawings.{DrawingValue, KeepsDrawing, LineValue}
+use Rattle.line_graph.specs.Drawings.{DrawingValue, KeepsDrawing}
 use Rattle.line_graph.specs.PieceParts.{AreLabels}
-use Rattle.line_graph.specs.Sections.{is_joined}
+use Rattle.line_graph.specs.JoinedDrawings.{is_joined}
 use Rattle.line_graph.specs.WalkEnds.{AreApart, meets}
 
 -- the label of the first line that begins or ends at the spot

@@ -6,14 +6,10 @@ use Rattle.design_model.specs.declared.point.Point.{Point}
 use Rattle.design_model.specs.Labels.{IsLabel}
 use Rattle.step_splitter.specs.declared.segment.TheConstants.{MAX_STEP}
 use Rattle.step_splitter.specs.Chains.{IsNeedlePoint, KeepsMoving, last_from}
-use Rattle.line_graph.specs.declared.spot.Spot.{Spot}
+use Rattle.line_sections.specs.declared.spot.Spot.{Spot}
+use Rattle.line_sections.specs.Lines.{LineValue}
 use Rattle.line_graph.specs.declared.limits.TheConstants.{MAX_BLOCKS, MAX_COST, MAX_LINES, MAX_POINTS}
 use Rattle.line_graph.specs.Needles.{line_steps}
-
--- a line: the block that it belongs to, and its points
-pub record LineValue : Type 0 where
-  pub block : ℕ
-  pub points : List Point
 
 -- a label, the longest step, the thread number of each block, the lines, and where walks over
 -- pieces are to begin and to end

@@ -1,7 +1,7 @@
 -- Which lines of a drawing are linked, so that those that touch can be found.
 -- Indexes of lines count from 0.
 use Rattle.std.specs.Prelude.{◌≡◌, ℕ, ◌<◌, ◌⊎◌, List, [], ◌∷◌, ◌++◌, Option, Some, length, get_or, All, Contains}
-use Rattle.line_graph.specs.declared.spot.Spot.{Spot}
+use Rattle.line_sections.specs.declared.spot.Spot.{Spot}
 use Rattle.line_graph.specs.declared.line_labels.Link.{Link}
 use Rattle.line_graph.specs.Drawings.{DrawingValue, block_of, first_of, last_of, points_of}
 use Rattle.line_graph.specs.LineLabels.{Agree, AreLinked, AreWithin}

@@ -1,6 +1,9 @@
--- words of the crate below that public clauses cite
+-- words of the crates below that public clauses cite
 pub use Rattle.step_splitter.specs.Chains
 pub use Rattle.step_splitter.specs.Steps
+pub use Rattle.line_sections.specs.Lines
+pub use Rattle.line_sections.specs.Spots
+pub use Rattle.line_sections.specs.Sections
 pub mod Needles
 pub mod Drawings
 pub mod Walks
@@ -15,16 +18,14 @@ pub mod SewnWalks
 pub mod OnePieces
 pub mod Laws
 pub mod Growing
-pub mod Sections
+pub mod JoinedDrawings
 -- where walks are to begin and to end
-pub mod Spots
 pub mod WalkEnds
 -- of the maker's inside
 pub mod Making
 -- of the inside of pieces
 pub mod LineLabels
 pub mod FirstLines
-pub mod ListedPoints
 pub mod PieceParts
 -- of the inside of starts and ends
 pub mod Choosing

@@ -3,8 +3,9 @@ use Rattle.std.specs.Prelude.{◌≡◌, ℕ, ◌+◌, ◌<◌, ◌≤◌, ◌�
 use Rattle.std.specs.List.Sorted.{IsNonDecreasing}
 use Rattle.design_model.specs.Labels.{IsLabel}
 use Rattle.step_splitter.specs.declared.segment.TheConstants.{MAX_STEP}
+use Rattle.line_sections.specs.Lines.{LineValue}
 use Rattle.line_graph.specs.declared.limits.TheConstants.{MAX_BLOCKS, MAX_COST, MAX_LINES, MAX_POINTS}
-use Rattle.line_graph.specs.Drawings.{DrawingValue, IsLine, LineValue}
+use Rattle.line_graph.specs.Drawings.{DrawingValue, IsLine}
 use Rattle.line_graph.specs.Growing.{is_last_empty, point_count, step_count}
 use Rattle.line_graph.specs.WalkEnds.{HasNoEnds}
 

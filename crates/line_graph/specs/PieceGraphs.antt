@@ -5,8 +5,8 @@ use Rattle.std.specs.List.{flat_map, list_any, position_or_len, range_with_len}
 use Rattle.std.specs.Option.{option_or}
 use Rattle.design_model.specs.declared.point.Point.{Point}
 use Rattle.design_model.specs.Points.{is_same_point}
+use Rattle.line_sections.specs.declared.spot.Spot.{Spot}
 use Rattle.line_graph.specs.declared.edge.Edge.{Edge}
-use Rattle.line_graph.specs.declared.spot.Spot.{Spot}
 use Rattle.line_graph.specs.Drawings.{DrawingValue, block_of, first_of, last_of, points_of}
 use Rattle.line_graph.specs.Pieces.{ends_of, first_line}
 use Rattle.line_graph.specs.Walks.{cost_of_line}

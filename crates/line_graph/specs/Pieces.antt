@@ -6,7 +6,8 @@ use Rattle.std.specs.List.Sorted.{IsStrictlyIncreasing}
 use Rattle.design_model.specs.declared.point.Point.{Point}
 use Rattle.design_model.specs.Points.{is_same_point}
 use Rattle.step_splitter.specs.Chains.{last_from}
-use Rattle.line_graph.specs.Drawings.{DrawingValue, LineValue}
+use Rattle.line_sections.specs.Lines.{LineValue}
+use Rattle.line_graph.specs.Drawings.{DrawingValue}
 
 -- the two ends of a line: its first point, and its last
 abbrev pub ends_of : List Point → List Point

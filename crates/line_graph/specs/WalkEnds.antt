@@ -3,15 +3,16 @@
 use Rattle.std.specs.Prelude.{◌≡◌, ℕ, ◌==◌, ◌&&◌, Bool, true, false, not, ◌⊎◌, List, [], ◌∷◌, ◌++◌, map, Result, Ok, Err, All, AllPairs, if◌then◌else◌}
 use Rattle.std.specs.List.{list_any}
 use Rattle.design_model.specs.Points.{is_same_point}
+use Rattle.line_sections.specs.declared.spot.Spot.{Spot}
+use Rattle.line_sections.specs.Lines.{LineValue}
+use Rattle.line_sections.specs.Spots.{is_same_spot}
 use Rattle.line_graph.specs.declared.draw_kind.DrawKind.{DrawKind}
 use Rattle.line_graph.specs.declared.draw_kind.DrawKind.TheVariants as kind
-use Rattle.line_graph.specs.declared.spot.Spot.{Spot}
-use Rattle.line_graph.specs.Drawings.{DrawingValue, KeepsDrawing, LineValue}
+use Rattle.line_graph.specs.Drawings.{DrawingValue, KeepsDrawing}
 use Rattle.line_graph.specs.FirstLines.{IsEnd}
 use Rattle.line_graph.specs.Growing.{and_then}
 use Rattle.line_graph.specs.Pieces.{Joined, ends_of}
-use Rattle.line_graph.specs.Sections.{is_joined}
-use Rattle.line_graph.specs.Spots.{is_same_spot}
+use Rattle.line_graph.specs.JoinedDrawings.{is_joined}
 
 -- the line begins or ends at the spot
 abbrev pub meets : Spot → LineValue → Bool

@@ -9,9 +9,8 @@ ghost use Rattle.line_graph.specs.WalkEnds.{meets as line_meets, spot_added};
 
 use crate::draw_kind::DrawKind;
 use crate::drawing::Drawing;
-use crate::line::Line;
-use crate::spot::Spot;
 use design_model::{Memory, Point};
+use line_sections::{Line, Spot};
 use std::alloc::Global;
 
 /// Junctions, at most one of each piece, and for the label of each line whether its piece has one.

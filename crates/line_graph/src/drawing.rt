@@ -2,10 +2,9 @@ ghost use Rattle.std.specs.Prelude.{◌≡◌, ◌<◌, ◌≤◌, IfOk, length,
 ghost use Rattle.line_graph.specs.declared.limits.TheConstants.{MAX_LINES};
 
 use crate::limits::MAX_BLOCKS;
-use crate::line::Line;
-use crate::spot::Spot;
 use arrayvec::ArrayVec;
 use design_model::{MAX_LABEL, Memory, Point};
+use line_sections::{Line, Spot};
 use std::alloc::Global;
 use std::marker::Model;
 

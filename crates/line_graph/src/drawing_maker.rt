@@ -12,11 +12,10 @@ ghost use Rattle.line_graph.specs.WalkEnds.{HasNoEnds};
 use crate::draw_kind::DrawKind;
 use crate::drawing::Drawing;
 use crate::limits::{MAX_BLOCKS, MAX_COST, MAX_LINES, MAX_POINTS};
-use crate::line::Line;
 use crate::line_shape::{are_in_range, has_repeat, line_steps};
-use crate::spot::Spot;
 use arrayvec::ArrayVec;
 use design_model::{MAX_LABEL, Point, Points};
+use line_sections::{Line, Spot};
 use std::alloc::Global;
 use std::marker::Model;
 

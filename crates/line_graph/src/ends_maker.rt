@@ -1,6 +1,6 @@
 ghost use Rattle.std.specs.Prelude.{◌≡◌, true, IfOk};
 ghost use Rattle.line_graph.specs.Growing.{Changes};
-ghost use Rattle.line_graph.specs.Sections.{is_joined};
+ghost use Rattle.line_graph.specs.JoinedDrawings.{is_joined};
 ghost use Rattle.line_graph.specs.WalkEnds.{HasNoEnds, end_added, start_added};
 
 use crate::chosen_spots::ChosenSpots;
@@ -8,8 +8,8 @@ use crate::draw_kind::DrawKind;
 use crate::drawing::Drawing;
 use crate::first_lines::links;
 use crate::line_labels::labels;
-use crate::spot::Spot;
 use design_model::Memory;
+use line_sections::Spot;
 use std::alloc::Global;
 use std::marker::Model;
 

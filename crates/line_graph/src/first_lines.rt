@@ -1,13 +1,13 @@
 ghost use Rattle.std.specs.Prelude.{◌≡◌, ◌<◌, ◌+◌, IfOk, OnOk, length};
 ghost use Rattle.std.specs.HashMap.{get};
+ghost use Rattle.line_sections.specs.Spots.{is_same_spot};
 ghost use Rattle.line_graph.specs.FirstLines.{AddsLink, AreLinks, IsLinking, TakesSpot};
-ghost use Rattle.line_graph.specs.Spots.{is_same_spot};
 
 use crate::drawing::Drawing;
 use crate::drawn_lines::line_ends;
 use crate::line_labels::Link;
-use crate::spot::Spot;
 use design_model::Memory;
+use line_sections::Spot;
 use std::alloc::Global;
 use std::collections::HashMap;
 

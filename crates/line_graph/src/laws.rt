@@ -1,7 +1,8 @@
 ghost use Rattle.line_graph.specs.Drawings.{DrawingValue};
+ghost use Rattle.line_graph.specs.JoinedDrawings.{JoinedStay, SectionsKeepCost};
 ghost use Rattle.line_graph.specs.Laws.{NeedlesLeadAlong};
-ghost use Rattle.line_graph.specs.Sections.{JoinedStay, SectionsKeepCost, SectionsKeepSegments};
 
+use line_sections::{sections_keep_segments, whole_lines_stay};
 use step_splitter::split_points_lead;
 
 /// The needle points of each line of a drawing lead along it.
@@ -14,10 +15,13 @@ pub fn needles_lead_along()
 /// A drawing whose lines meet at ends alone stays as it is where it is joined.
 pub fn joined_drawings_stay()
     ensures { JoinedStay }
-{}
+{
+    whole_lines_stay();
+}
 
-/// Sections have each segment of their lines once, and cost as much.
-pub fn sections_keep_segments()
-    ensures segments { SectionsKeepSegments }
-    ensures cost { SectionsKeepCost }
-{}
+/// The sections of a drawing cost what its lines do.
+pub fn sections_keep_cost()
+    ensures { SectionsKeepCost }
+{
+    sections_keep_segments();
+}

@@ -11,25 +11,21 @@ mod drawn_lines;
 mod edge;
 mod ends_maker;
 mod first_lines;
+mod joined_drawing;
 mod joined_lines;
 mod junctions;
 mod laws;
 mod limits;
-mod line;
 mod line_labels;
 mod line_shape;
-mod listed_points;
 mod needle_points;
 mod pass;
 mod piece;
 mod piece_lines;
 mod piece_terms;
-mod sections;
-mod spot;
 #[cfg(test)]
 mod tests;
 mod walk_laws;
-mod whole_lines;
 
 pub use draw_kind::DrawKind;
 pub use drawing::Drawing;
@@ -37,17 +33,15 @@ pub use drawing_maker::{DrawingMaker, is_label_word};
 pub use drawn_lines::drawing_cost;
 pub use edge::{Edge, Edges};
 pub use ends_maker::EndsMaker;
+pub use joined_drawing::{join, joined};
 pub use joined_lines::pieces;
-pub use laws::{joined_drawings_stay, needles_lead_along, sections_keep_segments};
+pub use laws::{joined_drawings_stay, needles_lead_along, sections_keep_cost};
 pub use limits::{MAX_BLOCKS, MAX_COST, MAX_LINES, MAX_POINTS};
-pub use line::Line;
+pub use line_sections::{Line, Spot};
 pub use needle_points::needles;
 pub use pass::{Pass, Walk};
 pub use piece::{Piece, Pieces};
-pub use sections::join;
-pub use spot::Spot;
 pub use step_splitter::MAX_STEP;
 pub use walk_laws::{
     fitting_walks_are_sewable, pieces_are_one, pieces_keep_limits, runs_are_sewn, spots_are_joined,
 };
-pub use whole_lines::joined;

@@ -1,4 +1,4 @@
-ghost use Rattle.std.specs.Prelude.{◌≡◌, ◌<◌, ◌≤◌, ◌∷◌, [], length, IfOk, IfSome, IfNone};
+ghost use Rattle.std.specs.Prelude.{◌≡◌, ◌<◌, ◌≤◌, length, IfOk};
 ghost use Rattle.step_splitter.specs.declared.segment.TheConstants.{MAX_STEP as max_step};
 ghost use Rattle.line_graph.specs.Drawings.{IsLine};
 ghost use Rattle.line_graph.specs.Laws.{AreNeedlesOf, LeadAlong};
@@ -7,6 +7,7 @@ ghost use Rattle.line_graph.specs.Walks.{needles_of};
 
 use crate::drawing::Drawing;
 use design_model::{Memory, Point, Points};
+use line_sections::first_point;
 use std::alloc::Global;
 use step_splitter::split;
 
@@ -43,15 +44,4 @@ fn needles_along(alloc: Global, points: &[Point], step: u32) -> Result<Points, M
         rest = after;
     }
     Ok(needles)
-}
-
-/// The first point, and the points behind it.
-pub fn first_point(points: &[Point]) -> Option<(Point, &[Point])>
-    ensures some { IfSome result (λ r. points.now ≡ r.0 ∷ r.1.now) }
-    ensures none { IfNone result (points.now ≡ []) }
-{
-    match points {
-        [first, after @ ..] => Some((*first, after)),
-        [] => None,
-    }
 }

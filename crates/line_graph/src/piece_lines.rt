@@ -9,9 +9,9 @@ use crate::degrees::degrees;
 use crate::drawing::Drawing;
 use crate::junctions::edges;
 use crate::piece::Piece;
-use crate::spot::Spot;
 use design_model::{Memory, Numbers, Point, Points};
 use indexmap::IndexSet;
+use line_sections::Spot;
 use std::alloc::Global;
 use step_splitter::split_points_lead;
 

@@ -2,7 +2,7 @@
 -- cell, of 1, which has four, and of 15, whose cell has no diagonal.
 use Rattle.std.proofs.Common.{◌≡◌, ◌+◌, ◌*◌, ◌∷◌, [], ℕ, codes, length, map, pos, refl}
 use Rattle.design_model.specs.declared.point.Point.{Point}
-use Rattle.line_graph.specs.Drawings.{LineValue}
+use Rattle.line_sections.specs.Lines.{LineValue}
 use Rattle.line_graph.specs.Needles.{line_steps}
 use Rattle.sample_drawings.specs.declared.segment.Segment.{Segment}
 use Rattle.sample_drawings.specs.Draws.{drawn, state_after}

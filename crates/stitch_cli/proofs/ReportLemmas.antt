@@ -4,10 +4,11 @@ use Rattle.std.proofs.lemmas.List.Elements.{All-cons, All-head, All-nil, All-tai
 use Rattle.std.proofs.lemmas.List.Sums.{sum_by-cons}
 use Rattle.std.specs.List.{AllZip, slice_get}
 use Rattle.std.specs.Prelude.{sum_by}
+use Rattle.line_sections.specs.Lines.{LineValue}
 use Rattle.cut_certificate.specs.declared.certificate.PieceCert.{PieceCert}
 use Rattle.line_graph.specs.declared.piece.Piece.{Piece}
 use Rattle.line_graph.specs.CutPieces.{graph_of, lines_of_pieces}
-use Rattle.line_graph.specs.Drawings.{DrawingValue, KeepsDrawing, LineValue, block_in, block_of}
+use Rattle.line_graph.specs.Drawings.{DrawingValue, KeepsDrawing, block_in, block_of}
 use Rattle.line_graph.specs.PieceGraphs.{PieceValue, piece_of}
 use Rattle.line_graph.specs.Pieces.{first_line}
 use Rattle.line_graph.specs.Runs.{Run, block_of_walk, runs_of}

@@ -1,7 +1,7 @@
 -- Segments of lines, counted.
 use Rattle.std.proofs.Common.{◌≡◌, ◌-◌, List, [], ◌∷◌, length, refl, arith}
 use Rattle.design_model.specs.declared.point.Point.{Point}
-use Rattle.line_graph.specs.Sections.{segments_from, segments_of}
+use Rattle.line_sections.specs.Sections.{segments_from, segments_of}
 
 -- a line has one segment for each point behind the first
 pub segments_led : (p : Point) (rest : List Point) → length (segments_from p rest) ≡ length rest

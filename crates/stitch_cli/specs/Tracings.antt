@@ -1,10 +1,10 @@
 -- What the command `trace` comes to.
 use Rattle.std.specs.Prelude.{◌≡◌, ℕ, List, length, sum_by, Result, Ok, Err}
+use Rattle.line_sections.specs.Sections.{segments_of}
 use Rattle.drawing_text.specs.Spelling.{plain_spelling2}
 use Rattle.format_traits.specs.declared.fault.ReadFault.{ReadFault}
 use Rattle.format_traits.specs.declared.loaded.Loaded.{Loaded}
 use Rattle.line_graph.specs.Drawings.{DrawingValue}
-use Rattle.line_graph.specs.Sections.{segments_of}
 use Rattle.stitch_trace.specs.declared.trace_fault.TraceFault.{TraceFault}
 use Rattle.stitch_trace.specs.Traces.{traced}
 use Rattle.stitch_cli.specs.OrderNames.{TraceOrder}

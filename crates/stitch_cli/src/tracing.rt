@@ -1,6 +1,6 @@
 ghost use Rattle.std.specs.Prelude.{◌≡◌, ◌≤◌, IfOk, length, string_bytes};
+ghost use Rattle.line_sections.specs.Sections.{segments_of};
 ghost use Rattle.drawing_text.specs.DrawingText.{IsWhole};
-ghost use Rattle.line_graph.specs.Sections.{segments_of};
 ghost use Rattle.outside_io.specs.Files.{IsName};
 ghost use Rattle.stitch_trace.specs.Traces.{traced};
 ghost use Rattle.stitch_cli.specs.Endings.{Prepares, Settles};

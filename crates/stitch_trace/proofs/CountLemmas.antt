@@ -12,11 +12,12 @@ use Rattle.design_model.specs.ActKinds.{is_stop, needle_point, point_of, stop_te
 use Rattle.design_model.specs.Acts.{acts_of}
 use Rattle.design_model.specs.Blocks.{blocks_of, in_first}
 use Rattle.design_model.specs.Designs.{DesignValue, KeepsLimits, thread_of}
+use Rattle.line_sections.specs.Sections.{all_sections}
 use Rattle.line_graph.specs.declared.draw_kind.DrawKind.{DrawKind}
 use Rattle.line_graph.specs.declared.draw_kind.DrawKind.TheVariants as kind
 use Rattle.line_graph.specs.Drawings.{DrawingValue}
 use Rattle.line_graph.specs.Growing.{and_then, drawing_begun, finished, is_last_empty, point_count}
-use Rattle.line_graph.specs.Sections.{all_sections, joined_drawing}
+use Rattle.line_graph.specs.JoinedDrawings.{joined_drawing}
 use Rattle.stitch_trace.specs.declared.links.Link.{Link}
 use Rattle.stitch_trace.specs.declared.needle_moves.Move.{Move}
 use Rattle.stitch_trace.specs.declared.needle_moves.Move.TheVariants.{Stay, Gap, Sewn}

@@ -8,11 +8,13 @@ use Rattle.design_model.specs.declared.point.Point.{Point}
 use Rattle.design_model.specs.Acts.{acts_of}
 use Rattle.design_model.specs.Blocks.{blocks_of}
 use Rattle.design_model.specs.Designs.{DesignValue, thread_of}
+use Rattle.line_sections.specs.Lines.{LineValue}
+use Rattle.line_sections.specs.Sections.{SectionsKeepSegments, all_sections, is_shared, line_sections, lines_through, sections_of, segments_of}
 use Rattle.line_graph.specs.declared.draw_kind.DrawKind.{DrawKind}
 use Rattle.line_graph.specs.declared.draw_kind.DrawKind.TheVariants as kind
-use Rattle.line_graph.specs.Drawings.{DrawingValue, LineValue}
+use Rattle.line_graph.specs.Drawings.{DrawingValue}
 use Rattle.line_graph.specs.Growing.{and_then, are_in_range, block_added, drawing_begun, finished, is_last_empty, line_added, point_count, steps_with, with_block, with_line}
-use Rattle.line_graph.specs.Sections.{SectionsKeepSegments, all_sections, is_shared, joined_drawing, line_sections, lines_through, sections_of, segments_of}
+use Rattle.line_graph.specs.JoinedDrawings.{joined_drawing}
 use Rattle.stitch_trace.specs.declared.links.Link.{Link}
 use Rattle.stitch_trace.specs.declared.strands.Strand.{Strand}
 use Rattle.stitch_trace.specs.declared.trace_fault.TraceFault.{TraceFault}

@@ -11,8 +11,8 @@ use Rattle.design_model.specs.declared.act.NumberedAct.{NumberedAct}
 use Rattle.design_model.specs.declared.point.Point.{Point}
 use Rattle.design_model.specs.ActKinds.{needle_point, point_of}
 use Rattle.design_model.specs.Points.{is_same_point}
+use Rattle.line_sections.specs.Sections.{segments_from, segments_of}
 use Rattle.line_graph.specs.Drawings.{last_of}
-use Rattle.line_graph.specs.Sections.{segments_from, segments_of}
 use Rattle.step_splitter.specs.Chains.{last_from}
 use Rattle.stitch_trace.specs.declared.links.Link.{Link}
 use Rattle.stitch_trace.specs.declared.needle_moves.Move.{Move}

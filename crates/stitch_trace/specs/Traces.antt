@@ -11,7 +11,7 @@ use Rattle.line_graph.specs.declared.draw_kind.DrawKind.{DrawKind}
 use Rattle.line_graph.specs.declared.draw_kind.DrawKind.TheVariants as kind
 use Rattle.line_graph.specs.Drawings.{DrawingValue}
 use Rattle.line_graph.specs.Growing.{and_then, block_added, drawing_begun, finished, line_added}
-use Rattle.line_graph.specs.Sections.{joined_drawing}
+use Rattle.line_graph.specs.JoinedDrawings.{joined_drawing}
 use Rattle.stitch_trace.specs.declared.needle_moves.Move.{Move}
 use Rattle.stitch_trace.specs.declared.links.Link.{Link}
 use Rattle.stitch_trace.specs.declared.strands.Strand.{Strand}

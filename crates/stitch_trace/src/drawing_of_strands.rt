@@ -4,7 +4,7 @@ ghost use Rattle.design_model.specs.Labels.{IsLabel};
 ghost use Rattle.design_model.specs.declared.point.Point.{Point as PointValue};
 ghost use Rattle.step_splitter.specs.declared.segment.TheConstants.{MAX_STEP};
 ghost use Rattle.line_graph.specs.Growing.{Answers, and_then, drawing_begun, finished};
-ghost use Rattle.line_graph.specs.Sections.{is_joined, joined_drawing};
+ghost use Rattle.line_graph.specs.JoinedDrawings.{is_joined, joined_drawing};
 ghost use Rattle.line_graph.specs.WalkEnds.{HasNoEnds};
 ghost use Rattle.stitch_trace.specs.declared.strands.Strand.{Strand as StrandValue};
 ghost use Rattle.stitch_trace.specs.Traces.{chains_added, drawing_through, first_word as the_first_word, strand_added, is_space, strands_added};

@@ -1,6 +1,6 @@
 ghost use Rattle.stitch_trace.specs.Laws.{CountsAreLimits, LinksAreDrawn, LinksAreSteps, NewLinksAreDistinct};
 
-use line_graph::sections_keep_segments;
+use line_sections::sections_keep_segments;
 
 /// The segments of a traced drawing are the new links of the design, block by block, each once, and each
 /// is one step.

@@ -1,6 +1,6 @@
 ghost use Rattle.std.specs.Prelude.{◌≡◌, ◌≤◌, true, IfOk};
 ghost use Rattle.design_model.specs.declared.act.NumberedAct.{NumberedAct as NumberedActValue};
-ghost use Rattle.line_graph.specs.Sections.{is_joined};
+ghost use Rattle.line_graph.specs.JoinedDrawings.{is_joined};
 ghost use Rattle.line_graph.specs.WalkEnds.{HasNoEnds};
 ghost use Rattle.step_splitter.specs.declared.segment.TheConstants.{MAX_STEP as max_step};
 ghost use Rattle.stitch_trace.specs.Links.{moves_along};

@@ -1,110 +1,31 @@
 use super::Part::{Block, Line};
-use super::{Part, grown};
+use super::grown;
 use crate::{DrawKind, Drawing, DrawingMaker, join, joined};
 use design_model::{Point, Points};
 use std::alloc::Global;
 use std::test::Fail;
 
-/// What a drawing grows by, and what its joined drawing does.
-struct Case {
-    before: &'static [Part],
-    after: &'static [Part],
-}
-
-const CASES: [Case; 5] = [
-    // Two lines that meet inside both.
-    Case {
-        before: &[
-            Block(1),
-            Line(&[(0, 0), (10, 0), (20, 0)]),
-            Line(&[(10, -10), (10, 0), (10, 10)]),
-        ],
-        after: &[
-            Block(1),
-            Line(&[(0, 0), (10, 0)]),
-            Line(&[(10, 0), (20, 0)]),
-            Line(&[(10, -10), (10, 0)]),
-            Line(&[(10, 0), (10, 10)]),
-        ],
-    },
-    // A point of another block cuts nothing.
-    Case {
-        before: &[
-            Block(1),
-            Line(&[(0, 0), (10, 0), (20, 0)]),
-            Block(2),
-            Line(&[(10, -10), (10, 0), (10, 10)]),
-        ],
-        after: &[
-            Block(1),
-            Line(&[(0, 0), (10, 0), (20, 0)]),
-            Block(2),
-            Line(&[(10, -10), (10, 0), (10, 10)]),
-        ],
-    },
-    // A line that meets itself, and one that comes back to where it begins.
-    Case {
-        before: &[
-            Block(1),
-            Line(&[(0, 0), (5, 5), (9, 0), (5, 5), (0, 9)]),
-            Line(&[(30, 0), (33, 3), (30, 0), (30, 7)]),
-        ],
-        after: &[
-            Block(1),
-            Line(&[(0, 0), (5, 5)]),
-            Line(&[(5, 5), (9, 0), (5, 5)]),
-            Line(&[(5, 5), (0, 9)]),
-            Line(&[(30, 0), (33, 3), (30, 0)]),
-            Line(&[(30, 0), (30, 7)]),
-        ],
-    },
-    // A closed line keeps its ends; its sections stand along it.
-    Case {
-        before: &[
-            Block(1),
-            Line(&[(0, 0), (3, 0), (3, 3), (0, 3), (0, 0)]),
-            Line(&[(3, 0), (0, 3)]),
-        ],
-        after: &[
-            Block(1),
-            Line(&[(0, 0), (3, 0)]),
-            Line(&[(3, 0), (3, 3), (0, 3)]),
-            Line(&[(0, 3), (0, 0)]),
-            Line(&[(3, 0), (0, 3)]),
-        ],
-    },
-    Case {
-        before: &[Block(1), Line(&[(0, 0), (3, 0), (3, 3), (0, 0)])],
-        after: &[Block(1), Line(&[(0, 0), (3, 0), (3, 3), (0, 0)])],
-    },
-];
-
-fn same_lines(a: &Drawing, b: &Drawing) -> bool {
-    if a.line_count() != b.line_count() {
-        return false;
-    }
-    for line in 0..a.line_count() {
-        if line < b.line_count()
-            && (a.line_block(line) != b.line_block(line)
-                || a.line_points(line) != b.line_points(line))
-        {
-            return false;
-        }
-    }
-    true
-}
-
 #[test]
-fn lines_are_cut_where_their_block_lists_a_point_again(rt: HostRuntime) -> Result<(), Fail> {
-    for case in &CASES {
-        let before = grown(rt.alloc(), 10, case.before).ok().ok_or("a drawing")?;
-        let after = grown(rt.alloc(), 10, case.after)
-            .ok()
-            .ok_or("its sections")?;
-        let whole = join(rt.alloc(), &before).ok().ok_or("no memory")?;
-        assert!(rt; same_lines(&whole, &after));
-        assert!(rt; joined(&whole));
-        assert_eq!(rt; joined(&before), same_lines(&before, &after));
+fn a_joined_drawing_has_the_sections_of_its_lines(rt: HostRuntime) -> Result<(), Fail> {
+    let cross = [
+        Block(1),
+        Line(&[(0, 0), (10, 0), (20, 0)]),
+        Block(2),
+        Line(&[(0, 0), (10, 0), (20, 0)]),
+        Line(&[(10, -10), (10, 0), (10, 10)]),
+    ];
+    let d = grown(rt.alloc(), 10, &cross).ok().ok_or("a drawing")?;
+    assert!(rt; !joined(&d));
+    let whole = join(rt.alloc(), &d).ok().ok_or("no memory")?;
+    assert!(rt; joined(&whole));
+    assert_eq!(rt; whole.block_count(), 2);
+    assert_eq!(rt; whole.line_count(), 5);
+    if whole.line_count() == 5 {
+        assert_eq!(rt; whole.line_block(0), 0);
+        assert_eq!(rt; whole.line_block(4), 1);
+        assert!(rt;
+            whole.line_points(4) == [Point { x: 10, y: 0 }, Point { x: 10, y: 10 }].as_slice()
+        );
     }
     Ok(())
 }

@@ -1,6 +1,6 @@
 use Rattle.std.specs.HashMap.{get}
+use Rattle.line_sections.specs.Spots.{is_same_spot}
 use Rattle.line_graph.specs.FirstLines.{IsLinking}
-use Rattle.line_graph.specs.Spots.{is_same_spot}
 use Rattle.line_graph.proofs.first_lines.links.Given as goal
 
 -- the lines so far are linked

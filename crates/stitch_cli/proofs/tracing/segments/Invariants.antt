@@ -1,7 +1,7 @@
 use Rattle.std.proofs.Common.{◌≡◌, ◌≤◌, ◌+◌, drop, length, sum_by}
-use Rattle.line_graph.specs.Drawings.{LineValue}
+use Rattle.line_sections.specs.Lines.{LineValue}
+use Rattle.line_sections.specs.Sections.{segments_of}
 use Rattle.line_graph.specs.Growing.{point_count}
-use Rattle.line_graph.specs.Sections.{segments_of}
 use Rattle.stitch_cli.specs.Tracings.{segment_count}
 use Rattle.stitch_cli.proofs.tracing.segments.Given as goal
 

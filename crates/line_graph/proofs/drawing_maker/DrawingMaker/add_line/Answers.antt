@@ -1,7 +1,8 @@
 use Rattle.std.proofs.Common.{◌≡◌, ◌≤◌, true, ◌++◌, ◌∷◌, [], length, ap, sym, ◌∙◌, arith}
 use Rattle.std.proofs.lemmas.Bool.Decides.{nat_tests}
+use Rattle.line_sections.specs.Lines.{LineValue}
 use Rattle.line_graph.proofs.MakerLemmas.{all_in_range, line_put, may_come}
-use Rattle.line_graph.specs.Drawings.{DrawingValue, LineValue}
+use Rattle.line_graph.specs.Drawings.{DrawingValue}
 use Rattle.line_graph.specs.Growing.{are_in_range, steps_with}
 use Rattle.line_graph.proofs.drawing_maker.DrawingMaker.add_line.Goals as goal
 

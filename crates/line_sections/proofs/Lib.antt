@@ -1,0 +1,5 @@
+mod SectionFacts
+mod SpotLemmas
+mod SectionLemmas
+mod WholeLemmas
+mod CutLemmas

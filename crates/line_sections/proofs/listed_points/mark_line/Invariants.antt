@@ -1,0 +1,14 @@
+use Rattle.std.proofs.Common.{List, ◌++◌, length, map}
+use Rattle.std.specs.HashMap.{get}
+use Rattle.line_sections.specs.declared.spot.Spot.{Spot}
+use Rattle.line_sections.specs.Spots.{is_same_spot}
+use Rattle.line_sections.specs.ListedPoints.{AreMarked, spot_at, spots_of}
+use Rattle.line_sections.proofs.listed_points.mark_line.Given as goal
+
+-- the spots of the points that are left are still to be marked
+abbrev pub invariant-loop-rest : goal.invariant-loop-rest
+invariant-loop-rest l = (all left : List Spot) → AreMarked all (spots_of l.line ++ left) (get is_same_spot l.fn.marks)
+    → AreMarked all (map (spot_at l.block) l.rest ++ left) (get is_same_spot l.marks)
+
+abbrev pub decreases-loop-rest : goal.decreases-loop-rest
+decreases-loop-rest l = length l.rest

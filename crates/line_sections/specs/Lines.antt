@@ -1,0 +1,8 @@
+-- Lines in blocks as contracts see them. Indexes of blocks count from 0.
+use Rattle.std.specs.Prelude.{ℕ, List}
+use Rattle.design_model.specs.declared.point.Point.{Point}
+
+-- a line: the block that it belongs to, and its points
+pub record LineValue : Type 0 where
+  pub block : ℕ
+  pub points : List Point

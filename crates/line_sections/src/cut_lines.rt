@@ -1,0 +1,108 @@
+ghost use Rattle.std.specs.Prelude.{◌≡◌, ◌&&◌, ◌++◌, ◌∷◌, [], IfOk, OnOk, true, if◌then◌else◌};
+ghost use Rattle.std.specs.HashMap.{get};
+ghost use Rattle.std.specs.List.{flat_map};
+ghost use Rattle.line_sections.specs.Spots.{is_same_spot};
+ghost use Rattle.line_sections.specs.ListedPoints.{cuts_by, sections_by};
+ghost use Rattle.line_sections.specs.Sections.{all_sections, are_whole, has_points};
+
+use crate::line::Line;
+use crate::listed_points::{is_cut, listed_points};
+use crate::points::first_point;
+use crate::spot::Spot;
+use design_model::{Memory, Point, Points};
+use std::alloc::Global;
+use std::collections::HashMap;
+
+/// The sections of all lines, in order: a line is cut at each point inside it that its block lists at another
+/// place too.
+pub fn sections(alloc: Global, lines: &[Line]) -> Result<Vec<Line>, Memory>
+    ensures value { IfOk result (λ sections. sections.items ≡ all_sections lines.now) }
+    ensures whole { IfOk result (λ sections. are_whole sections.items ≡ true) }
+{
+    let marks = listed_points(alloc, lines)?;
+    let sections = marked_sections(alloc, lines, &marks)?;
+    Ok(sections)
+}
+
+fn marked_sections(
+    alloc: Global,
+    lines: &[Line],
+    marks: &HashMap<Spot, bool>,
+) -> Result<Vec<Line>, Memory>
+    ensures { IfOk result (λ sections.
+        sections.items ≡ flat_map (sections_by (get is_same_spot marks.now)) lines.now) }
+{
+    let mut sections = Vec::new(alloc);
+    let mut rest = lines;
+    while let [line, after @ ..] = rest {
+        put_sections(alloc, line, marks, &mut sections)?;
+        rest = after;
+    }
+    Ok(sections)
+}
+
+/// Adds the sections of a line.
+fn put_sections(
+    alloc: Global,
+    line: &Line,
+    marks: &HashMap<Spot, bool>,
+    sections: &mut Vec<Line>,
+) -> Result<(), Memory>
+    ensures { OnOk result (sections.new.items
+        ≡ sections.old.items ++ sections_by (get is_same_spot marks.now) line.now) }
+{
+    let block = line.block();
+    let Some((first, after)) = first_point(line.points()) else {
+        return Ok(());
+    };
+    let mut section = begun(alloc, first)?;
+    let mut rest = after;
+    while let [at, after @ ..] = rest {
+        section.push(*at)?;
+        let is_end = ends_section(marks, block, *at, after);
+        section = section_after(alloc, is_end, block, section, *at, sections)?;
+        rest = after;
+    }
+    sections.push(Line::new(block, section))?;
+    Ok(())
+}
+
+/// Says whether a section ends at that point, behind which these points are left.
+fn ends_section(marks: &HashMap<Spot, bool>, block: u32, at: Point, after: &[Point]) -> bool
+    ensures { result ≡ (has_points after.now && cuts_by (get is_same_spot marks.now) block at) }
+{
+    match after {
+        [_, ..] => is_cut(marks, block, at),
+        [] => false,
+    }
+}
+
+/// The section that goes on: the same one, or where that ends the next one, which begins at its last point.
+fn section_after(
+    alloc: Global,
+    is_end: bool,
+    block: u32,
+    section: Points,
+    at: Point,
+    sections: &mut Vec<Line>,
+) -> Result<Points, Memory>
+    ensures next { IfOk result (λ next. next ≡ (if is_end then at ∷ [] else section)) }
+    ensures put { OnOk result (sections.new.items ≡ sections.old.items
+        ++ (if is_end then record { block = block; points = section } ∷ [] else [])) }
+{
+    if !is_end {
+        return Ok(section);
+    }
+    let ended = Line::new(block, section);
+    sections.push(ended)?;
+    let next = begun(alloc, at)?;
+    Ok(next)
+}
+
+fn begun(alloc: Global, at: Point) -> Result<Points, Memory>
+    ensures { IfOk result (λ section. section ≡ at ∷ []) }
+{
+    let mut section = Points::new(alloc);
+    section.push(at)?;
+    Ok(section)
+}

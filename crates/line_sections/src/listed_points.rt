@@ -1,0 +1,61 @@
+ghost use Rattle.std.specs.Prelude.{◌≡◌, IfOk, OnOk, is_some};
+ghost use Rattle.std.specs.HashMap.{get};
+ghost use Rattle.line_sections.specs.Spots.{is_same_spot};
+ghost use Rattle.line_sections.specs.ListedPoints.{MarksLine, MarksSpot, TellCuts, cuts_by, spot_at};
+
+use crate::line::Line;
+use crate::spot::Spot;
+use design_model::{Memory, Point};
+use std::alloc::Global;
+use std::collections::HashMap;
+
+/// For each place where a block lists a point, whether it lists it again.
+pub fn listed_points(alloc: Global, lines: &[Line]) -> Result<HashMap<Spot, bool>, Memory>
+    ensures { IfOk result (λ marks. TellCuts lines.now (get is_same_spot marks)) }
+{
+    let mut marks = HashMap::new(alloc);
+    let mut rest = lines;
+    while let [line, after @ ..] = rest {
+        mark_line(&mut marks, line)?;
+        rest = after;
+    }
+    Ok(marks)
+}
+
+fn mark_line(marks: &mut HashMap<Spot, bool>, line: &Line) -> Result<(), Memory>
+    ensures { OnOk result
+        (MarksLine line.now (get is_same_spot marks.old) (get is_same_spot marks.new)) }
+{
+    let block = line.block();
+    let mut rest = line.points();
+    while let [at, after @ ..] = rest {
+        mark_spot(marks, Spot { block, at: *at })?;
+        rest = after;
+    }
+    Ok(())
+}
+
+fn mark_spot(marks: &mut HashMap<Spot, bool>, spot: Spot) -> Result<(), Memory>
+    ensures { OnOk result
+        (MarksSpot spot (get is_same_spot marks.old) (get is_same_spot marks.new)) }
+{
+    let again = is_listed(marks, spot);
+    marks.insert(spot, again)?;
+    Ok(())
+}
+
+fn is_listed(marks: &HashMap<Spot, bool>, spot: Spot) -> bool
+    ensures { result ≡ is_some (get is_same_spot marks.now spot) }
+{
+    marks.contains_key(&spot)
+}
+
+/// Says whether a line of the block is cut at that point inside it.
+pub fn is_cut(marks: &HashMap<Spot, bool>, block: u32, at: Point) -> bool
+    ensures { result ≡ cuts_by (get is_same_spot marks.now) block at }
+{
+    match marks.get(&Spot { block, at }) {
+        Some(again) => *again,
+        None => false,
+    }
+}

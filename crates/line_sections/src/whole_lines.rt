@@ -1,0 +1,87 @@
+ghost use Rattle.std.specs.Prelude.{◌≡◌, ◌≤◌, ◌&&◌};
+ghost use Rattle.std.specs.List.{count_by, list_all};
+ghost use Rattle.design_model.specs.Points.{is_same_point};
+ghost use Rattle.line_sections.specs.Sections.{are_whole as all_are_whole, has_points, is_shared as is_shared_among, is_whole as is_whole_among, listed_in};
+
+use crate::line::Line;
+use crate::points::first_point;
+use design_model::Point;
+
+/// Says whether the lines meet at ends alone: no point inside a line is listed at another place of its block.
+/// Takes no memory, and so asks for each such point all others of the block.
+pub fn are_whole(lines: &[Line]) -> bool
+    ensures { result ≡ all_are_whole lines.now }
+{
+    are_whole_among(lines, lines)
+}
+
+fn are_whole_among(lines: &[Line], some: &[Line]) -> bool
+    ensures { result ≡ list_all (is_whole_among lines.now) some.now }
+{
+    let mut rest = some;
+    while let [line, after @ ..] = rest {
+        if !is_whole(lines, line) {
+            return false;
+        }
+        rest = after;
+    }
+    true
+}
+
+fn is_whole(lines: &[Line], line: &Line) -> bool
+    ensures { result ≡ is_whole_among lines.now line.now }
+{
+    let block = line.block();
+    let Some((_, after)) = first_point(line.points()) else {
+        return true;
+    };
+    let mut rest = after;
+    while let Some((at, after)) = first_point(rest) {
+        if is_cut(lines, block, at, after) {
+            return false;
+        }
+        rest = after;
+    }
+    true
+}
+
+/// Says whether a line of the block is cut at that point, behind which these points are left.
+fn is_cut(lines: &[Line], block: u32, at: Point, after: &[Point]) -> bool
+    ensures { result ≡ (has_points after.now && is_shared_among lines.now block at) }
+{
+    match after {
+        [_, ..] => is_shared(lines, block, at),
+        [] => false,
+    }
+}
+
+fn is_shared(lines: &[Line], block: u32, at: Point) -> bool
+    ensures { result ≡ is_shared_among lines.now block at }
+{
+    let mut wanted = 2;
+    let mut rest = lines;
+    while let [line, after @ ..] = rest {
+        rest = after;
+        if line.block() != block {
+            continue;
+        }
+        let places = places_of(line.points(), at);
+        if places >= wanted {
+            return true;
+        }
+        wanted -= places;
+    }
+    false
+}
+
+fn places_of(points: &[Point], at: Point) -> usize
+    ensures { result ≡ count_by (is_same_point at) points.now }
+{
+    let mut places = 0;
+    for p in points {
+        if at == *p {
+            places += 1;
+        }
+    }
+    places
+}
