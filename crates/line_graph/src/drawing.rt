@@ -119,6 +119,14 @@ impl Drawing {
         Drawing::of_parts(label, step, threads, lines, starts, ends)
     }
 
+    /// A drawing keeps its limits. The body of a function that rests on them calls this law.
+    pub(crate) fn keeps_limits(&self)
+        ensures limits { KeepsDrawing self.now }
+        ensures ends { KeepsEnds self.now }
+    {
+        self.step();
+    }
+
     /// The longest step on each axis, in tenths of a millimetre.
     pub fn step(&self) -> u32
         ensures value { result ≡ self.now.step }

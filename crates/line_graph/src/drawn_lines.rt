@@ -30,8 +30,7 @@ pub fn line_cost(d: &Drawing, line: u32) -> u32
 pub fn drawing_cost(d: &Drawing) -> u32
     ensures { result ≡ step_count d.now.step d.now.lines }
 {
-    // The clauses of `step` bring the drawing's limits.
-    let _step = d.step();
+    d.keeps_limits();
     let mut cost = 0;
     for line in 0..d.line_count() {
         cost += line_cost(d, line);
@@ -46,6 +45,6 @@ fn points_to_sew(d: &Drawing, line: u32) -> &[Point]
     ensures line { IsLine result.now }
     ensures few { length result.now ≤ MAX_POINTS }
 {
-    let _step = d.step();
+    d.keeps_limits();
     d.line_points(line)
 }

@@ -23,8 +23,7 @@ pub fn join(alloc: Global, d: &Drawing) -> Result<Drawing, DrawKind>
     ensures answer { Answers (joined_drawing d.now) result }
     ensures joined { IfOk result (λ whole. is_joined whole ≡ true) }
 {
-    // The clauses of `step` bring the drawing's limits.
-    let _step = d.step();
+    d.keeps_limits();
     sections_keep_segments();
     whole_lines_stay();
     let sections = sections(alloc, d.lines())?;

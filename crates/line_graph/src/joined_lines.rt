@@ -44,7 +44,7 @@ fn labelled_piece(alloc: Global, d: &Drawing, labels: &[u32], label: u32) -> Res
     ensures { IfOk result (λ piece.
         graph_of piece ≡ the_piece_of d.now (labelled labels.now label)) }
 {
-    let _step = d.step();
+    d.keeps_limits();
     let lines = lines_with(alloc, labels, label)?;
     let piece = piece_of(alloc, d, lines)?;
     Ok(piece)

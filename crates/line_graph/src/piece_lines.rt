@@ -72,7 +72,7 @@ fn are_kept(d: &Drawing, lines: &[u32])
     requires { IsPart d.now lines.now }
     ensures { KeepsPiece (the_piece_of d.now lines.now) }
 {
-    let _step = d.step();
+    d.keeps_limits();
     split_points_lead();
 }
 

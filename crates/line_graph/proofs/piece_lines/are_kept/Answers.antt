@@ -2,4 +2,4 @@ use Rattle.line_graph.proofs.KeptLemmas.{part_kept}
 use Rattle.line_graph.proofs.piece_lines.are_kept.Goals as goal
 
 pub returns : goal.returns
-returns c = part_kept c.split_points_lead.ensures c.args.d.now c.step-step.ensures.limits c.args.lines.now c.requires
+returns c = part_kept c.split_points_lead.ensures c.args.d.now c.keeps_limits.ensures.limits c.args.lines.now c.requires
