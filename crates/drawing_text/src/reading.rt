@@ -17,10 +17,8 @@ pub fn read_drawing(alloc: Global, bytes: &[u8]) -> Result<Drawing, DrawFault>
     requires { length bytes.now ≤ MAX_TEXT }
     ensures { Reads (drawing_of bytes.now) result }
 {
-    match find_body(bytes) {
-        Ok((version, header, text)) => read_body(alloc, version, header + 1, text),
-        Err(fault) => Err(fault),
-    }
+    let (version, header, text) = find_body(bytes)?;
+    read_body(alloc, version, header + 1, text)
 }
 
 /// The drawing that a text says as version 2, whether it names version 1 or 2, or its first fault. A text of
@@ -30,10 +28,9 @@ pub fn read_as2(alloc: Global, bytes: &[u8]) -> Result<Drawing, DrawFault>
     ensures answer { Reads (drawing_as2 bytes.now) result }
     ensures whole { IfOk result IsWhole }
 {
-    match find_body(bytes) {
-        Ok((Version::Three, header, _)) => Err(told_at(header, 0, DrawKind::BadHeader)),
-        Ok((_, header, text)) => read_body(alloc, Version::Two, header + 1, text),
-        Err(fault) => Err(fault),
+    match find_body(bytes)? {
+        (Version::Three, header, _) => Err(told_at(header, 0, DrawKind::BadHeader)),
+        (_, header, text) => read_body(alloc, Version::Two, header + 1, text),
     }
 }
 
