@@ -9,7 +9,7 @@ use itoa::Buffer;
 use outside_io::Sink;
 
 /// Tells that the step of a drawing is above the limit of a format, both in tenths of a millimetre.
-pub fn tell_step<E: Sink>(err: &mut E, name: &str, step: u32, limit: u32, ending: &str) -> Status
+pub fn tell_step<E: Sink>(err: &mut E, name: &str, step: u32, limit: u32, ending: &[u8]) -> Status
     ensures { Tells (step_text name.now (decimal step) (decimal limit) ending.now) status.Refused
         (E.sight err.old) (E.sight err.new) result }
 {
@@ -25,7 +25,7 @@ fn tell_step_digits<E: Sink>(
     name: &str,
     step: &[u8],
     limit: &[u8],
-    ending: &str,
+    ending: &[u8],
 ) -> Status
     ensures { Tells (step_text name.now step.now limit.now ending.now) status.Refused
         (E.sight err.old) (E.sight err.new) result }
@@ -38,7 +38,7 @@ fn tell_step_digits<E: Sink>(
         b" is above ",
         limit,
         b", the limit of ",
-        ending.as_bytes(),
+        ending,
         b"\n",
     ];
     tell(err, &pieces, Status::Refused)

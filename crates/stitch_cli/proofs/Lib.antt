@@ -19,3 +19,4 @@ mod ReasonFacts
 mod SampleFacts
 mod TraceLemmas
 mod TraceFacts
+mod FormatLemmas

@@ -4,6 +4,9 @@ use Rattle.outside_io.specs.Blames.{read_of}
 use Rattle.outside_io.specs.Causes.{Faults}
 use Rattle.outside_io.specs.Files.{Lacks}
 use Rattle.outside_io.specs.Sights.{SinkSight, StoreSight}
+use Rattle.format_traits.specs.declared.fault.ReadFault.{ReadFault}
+use Rattle.format_traits.specs.declared.loaded.Loaded.{Loaded}
+use Rattle.stitch_cli.specs.declared.halt.Refusal.{Refusal}
 use Rattle.stitch_cli.specs.declared.halt.Halt.{Halt}
 use Rattle.stitch_cli.specs.declared.halt.Halt.TheVariants as halt
 use Rattle.stitch_cli.specs.declared.product.Product.{Product}
@@ -14,7 +17,7 @@ use Rattle.stitch_cli.specs.Orders.{Order}
 use Rattle.stitch_cli.specs.Plans.{ComesTo, IsInput, IsTooLong, Makes, Misses, Plan, Refuses}
 use Rattle.stitch_cli.specs.Products.{AreApart, AreNamed, ProductValue, Wrote, WroteUpTo, product_of}
 use Rattle.program_texts.specs.Puts.{Broke, fed, Tells}
-use Rattle.stitch_cli.specs.Refusals.{refusal_of, too_long}
+use Rattle.stitch_cli.specs.Refusals.{refusal_of, too_long, unread}
 use Rattle.stitch_cli.specs.RunSights.{Sights}
 use Rattle.stitch_cli.specs.Texts.{halt_text}
 use Rattle.program_texts.specs.Messages.{unprinted_line, unwritten_line}
@@ -74,6 +77,33 @@ ReadsInput name store store' (Err (halt.NotRead lost)) =
 ReadsInput name store store' (Err (halt.Refused why)) =
     (refusal_of why ≡ too_long name) × IsTooLong store.files name × (store' ≡ store)
 ReadsInput name store store' (Err halt.Memory) = store' ≡ store
+
+-- an input's file was read, and its bytes read as that
+pub record IsInputAs (reads : List ℕ → Result Loaded ReadFault) (name : List ℕ)
+    (store store' : StoreSight) (answer : Result Loaded ReadFault) : Type 0 where
+  pub bytes : List ℕ
+  pub read : ReadsInput name store store' (Ok bytes)
+  pub is : reads bytes ≡ answer
+
+-- an input's file was read, and is none of its format
+pub record IsUnreadInput (reads : List ℕ → Result Loaded ReadFault) (name : List ℕ)
+    (store store' : StoreSight) (why : Refusal) : Type 0 where
+  pub fault : ReadFault
+  pub input : IsInputAs reads name store store' (Err fault)
+  pub told : refusal_of why ≡ unread name fault
+
+-- the loading of an input's file: what it reads as, or why there is nothing
+abbrev pub LoadsInput : (List ℕ → Result Loaded ReadFault) → List ℕ → StoreSight → StoreSight
+    → Result Loaded Halt → Type 0
+LoadsInput reads name store store' (Ok loaded) = IsInputAs reads name store store' (Ok loaded)
+LoadsInput reads name store store' (Err halt.Unasked) = ⊥
+LoadsInput reads name store store' (Err (halt.Missing missing)) =
+    ReadsInput name store store' (Err (halt.Missing missing))
+LoadsInput reads name store store' (Err (halt.NotRead lost)) =
+    ReadsInput name store store' (Err (halt.NotRead lost))
+LoadsInput reads name store store' (Err (halt.Refused why)) =
+    ReadsInput name store store' (Err (halt.Refused why)) ⊎ IsUnreadInput reads name store store' why
+LoadsInput reads name store store' (Err halt.Memory) = store' ≡ store
 
 -- the report is printed; or it could not be, and its line is told
 abbrev pub Prints : List ℕ → SinkSight → SinkSight → SinkSight → SinkSight → Status → Type 0

@@ -28,7 +28,7 @@ abbrev pub refusal_of : Refusal → RefusalValue
 refusal_of (refusal.TooLong name) = too_long name.now
 refusal_of (refusal.Undrawn name fault) = undrawn name.now fault
 refusal_of (refusal.StepTooLong name step limit ending) =
-    step_too_long name.now step limit ending.now
+    step_too_long name.now step limit ending
 refusal_of (refusal.Unread name fault) = unread name.now fault
 refusal_of (refusal.Unchanged names fault) = unchanged names.input.now names.output.now fault
 refusal_of (refusal.Unwritten name limit fault) = unwritten name.now limit fault

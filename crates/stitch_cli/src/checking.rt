@@ -1,6 +1,7 @@
-ghost use Rattle.std.specs.Prelude.{◌<◌, ◌-◌, ◌≤◌, ◌^◌, All, Ok, length};
+ghost use Rattle.std.specs.Prelude.{◌≡◌, ◌<◌, ◌-◌, ◌≤◌, ◌^◌, All, Ok, Some, length, map, slice_get};
 ghost use Rattle.command_words.specs.SoundRequests.{AreCheckNames};
 ghost use Rattle.certificate_text.specs.ReadCertificates.{cert_of};
+ghost use Rattle.format_traits.specs.Meanings.{Meaning};
 ghost use Rattle.drawing_text.specs.DrawingText.{drawing_of};
 ghost use Rattle.outside_io.specs.declared.limits.TheConstants.{MAX_FILE};
 ghost use Rattle.route_core.specs.Verdicts.{IsShort};
@@ -9,6 +10,7 @@ ghost use Rattle.stitch_cli.specs.Endings.{Prepares, Settles};
 ghost use Rattle.stitch_cli.specs.OrderNames.{check_order};
 ghost use Rattle.stitch_cli.specs.Plans.{decides};
 
+use crate::format_places::load_at;
 use crate::halt::{Halt, Refusal};
 use crate::product::{Product, only_report};
 use crate::reading::read_input;
@@ -17,7 +19,7 @@ use command_words::CheckNames;
 use cut_certificate::Cert;
 use design_model::Design;
 use drawing_text::{DrawFault, read_drawing};
-use format_traits::{Format, Loaded, ReadFault, decode_by};
+use format_traits::{Format, Loaded};
 use line_graph::{DrawKind, Drawing};
 use outside_io::Store;
 use program_texts::bytes_of;
@@ -25,36 +27,43 @@ use route_core::{Verdict, judge};
 use std::alloc::Global;
 
 /// Whether a design sews a drawing by the walks of a certificate, and the certificate proves them least.
-/// The drawing, the design and the certificate are read in this order, each refused as it is read.
+/// The drawing, the design and the certificate are read in this order, each refused as it is read. The
+/// design's file is of the format at a place.
 pub(crate) fn check<'a, S: Store>(
     alloc: Global,
     names: CheckNames<'a>,
-    format: &Box<dyn Format>,
+    formats: &mut [Box<dyn Format>],
+    place: usize,
     store: &mut S,
 ) -> Result<Product<'a>, Halt<'a>>
-    requires { AreCheckNames names }
-    ensures { Prepares (check_plan (check_order names.entry (meaning format.now)))
-        (S.sight store.old) (S.sight store.new) result }
+    requires names { AreCheckNames names }
+    requires place { place < length formats.old }
+    ensures prepares { (m : Meaning) → slice_get (map (λ f. meaning f) formats.old) place ≡ Some m
+        → Prepares (check_plan (check_order names.entry m)) (S.sight store.old) (S.sight store.new) result }
+    ensures same { map (λ f. meaning f) formats.new ≡ map (λ f. meaning f) formats.old }
 {
     let bytes = read_input(alloc, store, names.drawing)?;
-    check_text(alloc, names, format, bytes.as_slice(), store)
+    check_text(alloc, names, formats, place, bytes.as_slice(), store)
 }
 
 fn check_text<'a, S: Store>(
     alloc: Global,
     names: CheckNames<'a>,
-    format: &Box<dyn Format>,
+    formats: &mut [Box<dyn Format>],
+    place: usize,
     bytes: &[u8],
     store: &mut S,
 ) -> Result<Product<'a>, Halt<'a>>
     requires names { AreCheckNames names }
+    requires place { place < length formats.old }
     requires short { length bytes.now ≤ MAX_FILE }
-    ensures { Prepares (check_drawing (check_order names.entry (meaning format.now))
-        (drawing_of bytes.now))
+    ensures prepares { (m : Meaning) → slice_get (map (λ f. meaning f) formats.old) place ≡ Some m
+        → Prepares (check_drawing (check_order names.entry m) (drawing_of bytes.now))
         (S.sight store.old) (S.sight store.new) result }
+    ensures same { map (λ f. meaning f) formats.new ≡ map (λ f. meaning f) formats.old }
 {
     match read_drawing(alloc, bytes) {
-        Ok(drawing) => check_file(alloc, names, format, &drawing, store),
+        Ok(drawing) => check_file(alloc, names, formats, place, &drawing, store),
         Err(
             DrawFault {
                 kind: DrawKind::Memory,
@@ -71,75 +80,47 @@ fn check_text<'a, S: Store>(
 fn check_file<'a, S: Store>(
     alloc: Global,
     names: CheckNames<'a>,
-    format: &Box<dyn Format>,
+    formats: &mut [Box<dyn Format>],
+    place: usize,
     drawing: &Drawing,
     store: &mut S,
 ) -> Result<Product<'a>, Halt<'a>>
     requires names { AreCheckNames names }
-    ensures { Prepares (check_drawing (check_order names.entry (meaning format.now))
-        (Ok drawing.now))
+    requires place { place < length formats.old }
+    ensures prepares { (m : Meaning) → slice_get (map (λ f. meaning f) formats.old) place ≡ Some m
+        → Prepares (check_drawing (check_order names.entry m) (Ok drawing.now))
         (S.sight store.old) (S.sight store.new) result }
+    ensures same { map (λ f. meaning f) formats.new ≡ map (λ f. meaning f) formats.old }
 {
-    let bytes = read_input(alloc, store, names.file)?;
-    check_bytes(alloc, names, format, drawing, bytes.as_slice(), store)
-}
-
-fn check_bytes<'a, S: Store>(
-    alloc: Global,
-    names: CheckNames<'a>,
-    format: &Box<dyn Format>,
-    drawing: &Drawing,
-    bytes: &[u8],
-    store: &mut S,
-) -> Result<Product<'a>, Halt<'a>>
-    requires names { AreCheckNames names }
-    ensures { Prepares (check_design (check_order names.entry (meaning format.now)) drawing.now
-        ((meaning format.now).reads bytes.now)) (S.sight store.old) (S.sight store.new) result }
-{
-    match decode_by(alloc, format, bytes) {
-        Ok(loaded) => check_loaded(alloc, names, format, drawing, &loaded, store),
-        Err(ReadFault::Memory) => Err(Halt::Memory),
-        Err(fault) => Err(Halt::Refused(Refusal::Unread {
-            name: names.file,
-            fault,
-        })),
-    }
+    let loaded = load_at(formats, place, store, names.file)?;
+    check_loaded(alloc, names, drawing, &loaded, store)
 }
 
 fn check_loaded<'a, S: Store>(
     alloc: Global,
     names: CheckNames<'a>,
-    format: &Box<dyn Format>,
     drawing: &Drawing,
     loaded: &Loaded,
     store: &mut S,
 ) -> Result<Product<'a>, Halt<'a>>
     requires names { AreCheckNames names }
-    ensures { Prepares (check_design (check_order names.entry (meaning format.now)) drawing.now
+    ensures { (m : Meaning) → Prepares (check_design (check_order names.entry m) drawing.now
         (Ok loaded.now))
         (S.sight store.old) (S.sight store.new) result }
 {
     let bytes = read_input(alloc, store, names.cert)?;
-    check_words(
-        alloc,
-        names,
-        format,
-        drawing,
-        &loaded.design,
-        bytes.as_slice(),
-    )
+    check_words(alloc, names, drawing, &loaded.design, bytes.as_slice())
 }
 
 fn check_words<'a>(
     alloc: Global,
     names: CheckNames<'a>,
-    format: &Box<dyn Format>,
     drawing: &Drawing,
     design: &Design,
     bytes: &[u8],
 ) -> Result<Product<'a>, Halt<'a>>
     requires short { length bytes.now ≤ MAX_FILE }
-    ensures { Settles (check_cert (check_order names.entry (meaning format.now)) drawing.now
+    ensures { (m : Meaning) → Settles (check_cert (check_order names.entry m) drawing.now
         design.now
         (cert_of bytes.now)) result }
 {

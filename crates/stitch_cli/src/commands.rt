@@ -1,4 +1,4 @@
-ghost use Rattle.std.specs.Prelude.{◌≡◌, ◌≢◌, map, option_map, string_bytes};
+ghost use Rattle.std.specs.Prelude.{◌≡◌, ◌≢◌, map, string_bytes};
 ghost use Rattle.std.specs.Bool.{OnTrue};
 ghost use Rattle.command_words.specs.SoundRequests.{AreCheckNames, AreNames, BothAreNames};
 ghost use Rattle.outside_io.specs.Files.{IsName};
@@ -9,11 +9,12 @@ ghost use Rattle.stitch_cli.specs.RewriteSteps.{AreSound, changes_by};
 use crate::changing::Changes;
 use crate::checking::check;
 use crate::doubling::double;
+use crate::format_places::format_at;
 use crate::halt::Halt;
 use crate::hooping::hoop;
 use crate::migrating::migrate;
 use crate::product::Product;
-use crate::rewriting::rewrite;
+use crate::rewriting::{Places, rewrite};
 use crate::routing::route;
 use crate::sampling::sample;
 use crate::showing::show;
@@ -27,11 +28,12 @@ use std::alloc::Global;
 pub(crate) fn make<'a, S: Store>(
     alloc: Global,
     words: &'a [String],
-    formats: &'a [Box<dyn Format>],
+    formats: &mut [Box<dyn Format>],
     store: &mut S,
 ) -> Result<Product<'a>, Halt<'a>>
-    ensures { Answers (order_of (map (λ f. meaning f) formats.now) (map string_bytes words.now))
+    ensures answers { Answers (order_of (map (λ f. meaning f) formats.old) (map string_bytes words.now))
         (S.sight store.old) (S.sight store.new) result }
+    ensures same { map (λ f. meaning f) formats.new ≡ map (λ f. meaning f) formats.old }
 {
     match request(words) {
         Some(Request::Route(names)) => make_route(alloc, names, formats, store),
@@ -68,19 +70,20 @@ pub(crate) fn make<'a, S: Store>(
 fn make_route<'a, S: Store>(
     alloc: Global,
     names: RouteNames<'a>,
-    formats: &'a [Box<dyn Format>],
+    formats: &mut [Box<dyn Format>],
     store: &mut S,
 ) -> Result<Product<'a>, Halt<'a>>
     requires { AreNames names }
-    ensures { Answers (routing_to names.entry.drawing.now names.entry.out.now names.entry.cert.now
-        (format_of (map (λ f. meaning f) formats.now) names.entry.out.now))
+    ensures answers { Answers (routing_to names.entry.drawing.now names.entry.out.now names.entry.cert.now
+        (format_of (map (λ f. meaning f) formats.old) names.entry.out.now))
         (S.sight store.old) (S.sight store.new) result }
+    ensures same { map (λ f. meaning f) formats.new ≡ map (λ f. meaning f) formats.old }
 {
     if !are_apart(names) {
         return Err(Halt::Unasked);
     }
-    match format_for(formats, names.out) {
-        Some(format) => route(alloc, names, format, store),
+    match find(formats, names.out) {
+        Some(place) => route(alloc, names, format_at(formats, place), store),
         None => Err(Halt::Unasked),
     }
 }
@@ -88,16 +91,17 @@ fn make_route<'a, S: Store>(
 fn make_check<'a, S: Store>(
     alloc: Global,
     names: CheckNames<'a>,
-    formats: &'a [Box<dyn Format>],
+    formats: &mut [Box<dyn Format>],
     store: &mut S,
 ) -> Result<Product<'a>, Halt<'a>>
     requires { AreCheckNames names }
-    ensures { Answers (checking_by names.entry.drawing.now names.entry.file.now names.entry.cert.now
-        (format_of (map (λ f. meaning f) formats.now) names.entry.file.now))
+    ensures answers { Answers (checking_by names.entry.drawing.now names.entry.file.now names.entry.cert.now
+        (format_of (map (λ f. meaning f) formats.old) names.entry.file.now))
         (S.sight store.old) (S.sight store.new) result }
+    ensures same { map (λ f. meaning f) formats.new ≡ map (λ f. meaning f) formats.old }
 {
-    match format_for(formats, names.file) {
-        Some(format) => check(alloc, names, format, store),
+    match find(formats, names.file) {
+        Some(place) => check(alloc, names, formats, place, store),
         None => Err(Halt::Unasked),
     }
 }
@@ -106,41 +110,44 @@ fn make_rewrite<'a, S: Store>(
     alloc: Global,
     names: Names<'a>,
     changes: &Changes<'_>,
-    formats: &'a [Box<dyn Format>],
+    formats: &mut [Box<dyn Format>],
     store: &mut S,
 ) -> Result<Product<'a>, Halt<'a>>
     requires names { BothAreNames names }
     requires changes { AreSound changes.now }
-    ensures { Answers (rewriting_by names.entry.input.now names.entry.output.now
+    ensures answers { Answers (rewriting_by names.entry.input.now names.entry.output.now
         (changes_by changes.now)
-        (format_of (map (λ f. meaning f) formats.now) names.entry.input.now)
-        (format_of (map (λ f. meaning f) formats.now) names.entry.output.now))
+        (format_of (map (λ f. meaning f) formats.old) names.entry.input.now)
+        (format_of (map (λ f. meaning f) formats.old) names.entry.output.now))
         (S.sight store.old) (S.sight store.new) result }
+    ensures same { map (λ f. meaning f) formats.new ≡ map (λ f. meaning f) formats.old }
 {
     if names.input == names.output {
         return Err(Halt::Unasked);
     }
-    let Some(source) = format_for(formats, names.input) else {
+    let Some(source) = find(formats, names.input) else {
         return Err(Halt::Unasked);
     };
-    let Some(target) = format_for(formats, names.output) else {
+    let Some(target) = find(formats, names.output) else {
         return Err(Halt::Unasked);
     };
-    rewrite(alloc, names, source, target, changes, store)
+    let places = Places { source, target };
+    rewrite(alloc, names, formats, places, changes, store)
 }
 
 fn make_show<'a, S: Store>(
     alloc: Global,
     file: &'a str,
-    formats: &'a [Box<dyn Format>],
+    formats: &mut [Box<dyn Format>],
     store: &mut S,
 ) -> Result<Product<'a>, Halt<'a>>
     requires { IsName file.now }
-    ensures { Answers (showing_by file.now (format_of (map (λ f. meaning f) formats.now) file.now))
+    ensures answers { Answers (showing_by file.now (format_of (map (λ f. meaning f) formats.old) file.now))
         (S.sight store.old) (S.sight store.new) result }
+    ensures same { map (λ f. meaning f) formats.new ≡ map (λ f. meaning f) formats.old }
 {
-    match format_for(formats, file) {
-        Some(format) => show(alloc, file, format, store),
+    match find(formats, file) {
+        Some(place) => show(alloc, file, formats, place, store),
         None => Err(Halt::Unasked),
     }
 }
@@ -150,16 +157,17 @@ fn make_hoop<'a, S: Store>(
     file: &'a str,
     width: u32,
     height: u32,
-    formats: &'a [Box<dyn Format>],
+    formats: &mut [Box<dyn Format>],
     store: &mut S,
 ) -> Result<Product<'a>, Halt<'a>>
     requires { IsName file.now }
-    ensures { Answers (hooping_by file.now width height
-        (format_of (map (λ f. meaning f) formats.now) file.now))
+    ensures answers { Answers (hooping_by file.now width height
+        (format_of (map (λ f. meaning f) formats.old) file.now))
         (S.sight store.old) (S.sight store.new) result }
+    ensures same { map (λ f. meaning f) formats.new ≡ map (λ f. meaning f) formats.old }
 {
-    match format_for(formats, file) {
-        Some(format) => hoop(alloc, file, format, width, height, store),
+    match find(formats, file) {
+        Some(place) => hoop(alloc, file, formats, place, width, height, store),
         None => Err(Halt::Unasked),
     }
 }
@@ -185,20 +193,21 @@ fn make_trace<'a, S: Store>(
     alloc: Global,
     file: &'a str,
     drawing: &'a str,
-    formats: &'a [Box<dyn Format>],
+    formats: &mut [Box<dyn Format>],
     store: &mut S,
 ) -> Result<Product<'a>, Halt<'a>>
     requires file { IsName file.now }
     requires drawing { IsName drawing.now }
-    ensures { Answers (tracing_to file.now drawing.now
-        (format_of (map (λ f. meaning f) formats.now) file.now))
+    ensures answers { Answers (tracing_to file.now drawing.now
+        (format_of (map (λ f. meaning f) formats.old) file.now))
         (S.sight store.old) (S.sight store.new) result }
+    ensures same { map (λ f. meaning f) formats.new ≡ map (λ f. meaning f) formats.old }
 {
     if file == drawing {
         return Err(Halt::Unasked);
     }
-    match format_for(formats, file) {
-        Some(format) => trace_file(alloc, file, drawing, format, store),
+    match find(formats, file) {
+        Some(place) => trace_file(alloc, file, drawing, formats, place, store),
         None => Err(Halt::Unasked),
     }
 }
@@ -206,31 +215,21 @@ fn make_trace<'a, S: Store>(
 fn make_double<'a, S: Store>(
     alloc: Global,
     names: RouteNames<'a>,
-    formats: &'a [Box<dyn Format>],
+    formats: &mut [Box<dyn Format>],
     store: &mut S,
 ) -> Result<Product<'a>, Halt<'a>>
     requires { AreNames names }
-    ensures { Answers (doubling_to names.entry.drawing.now names.entry.out.now names.entry.cert.now
-        (format_of (map (λ f. meaning f) formats.now) names.entry.out.now))
+    ensures answers { Answers (doubling_to names.entry.drawing.now names.entry.out.now names.entry.cert.now
+        (format_of (map (λ f. meaning f) formats.old) names.entry.out.now))
         (S.sight store.old) (S.sight store.new) result }
+    ensures same { map (λ f. meaning f) formats.new ≡ map (λ f. meaning f) formats.old }
 {
     if !are_apart(names) {
         return Err(Halt::Unasked);
     }
-    match format_for(formats, names.out) {
-        Some(format) => double(alloc, names, format, store),
+    match find(formats, names.out) {
+        Some(place) => double(alloc, names, format_at(formats, place), store),
         None => Err(Halt::Unasked),
-    }
-}
-
-/// The first format whose ending the name has.
-fn format_for<'a>(formats: &'a [Box<dyn Format>], name: &str) -> Option<&'a Box<dyn Format>>
-    ensures { option_map (λ f. meaning f.now) result
-        ≡ format_of (map (λ f. meaning f) formats.now) name.now }
-{
-    match find(formats, name) {
-        Some(place) => Some(&formats[place]),
-        None => None,
     }
 }
 

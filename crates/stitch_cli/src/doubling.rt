@@ -18,7 +18,7 @@ use drawing_text::{DrawFault, read_drawing};
 use format_traits::{Format, ext_of, limit_of};
 use line_graph::{DrawKind, Drawing, pieces};
 use outside_io::Store;
-use program_texts::print_double;
+use program_texts::{bytes_of, print_double};
 use route_core::double_pieces;
 use std::alloc::Global;
 
@@ -27,7 +27,7 @@ use std::alloc::Global;
 pub(crate) fn double<'a, S: Store>(
     alloc: Global,
     names: RouteNames<'a>,
-    format: &'a Box<dyn Format>,
+    format: &Box<dyn Format>,
     store: &mut S,
 ) -> Result<Product<'a>, Halt<'a>>
     requires names { AreNames names }
@@ -42,7 +42,7 @@ pub(crate) fn double<'a, S: Store>(
 fn double_text<'a>(
     alloc: Global,
     names: RouteNames<'a>,
-    format: &'a Box<dyn Format>,
+    format: &Box<dyn Format>,
     bytes: &[u8],
 ) -> Result<Product<'a>, Halt<'a>>
     requires names { AreNames names }
@@ -69,7 +69,7 @@ fn double_text<'a>(
 fn double_drawn<'a>(
     alloc: Global,
     names: RouteNames<'a>,
-    format: &'a Box<dyn Format>,
+    format: &Box<dyn Format>,
     drawing: &Drawing,
 ) -> Result<Product<'a>, Halt<'a>>
     requires names { AreNames names }
@@ -80,11 +80,12 @@ fn double_drawn<'a>(
     let step = drawing.step();
     let limit = limit_of(format);
     if limit < step {
+        let ending = bytes_of(alloc, ext_of(format).as_bytes())?;
         return Err(Halt::Refused(Refusal::StepTooLong {
             name: names.drawing,
             step,
             limit,
-            ending: ext_of(format),
+            ending,
         }));
     }
     let product = doubled(alloc, names, format, drawing)?;

@@ -2,7 +2,7 @@ ghost use Rattle.std.specs.Prelude.{◌≡◌};
 
 use crate::changing::ChangeFault;
 use command_words::Names;
-use design_model::Memory;
+use design_model::{Bytes, Memory};
 use drawing_text::DrawFault;
 use format_traits::{ReadFault, WriteFault};
 use program_texts::Status;
@@ -11,7 +11,7 @@ use stitch_trace::TraceFault;
 
 /// Why an order was refused, with the name of the file that its line is about. Limits and steps are in
 /// tenths of a millimetre.
-#[derive(Clone, Copy, Debug)]
+#[derive(Debug, Drop)]
 pub enum Refusal<'a> {
     /// The input file has more than 64 MiB.
     TooLong {
@@ -27,7 +27,7 @@ pub enum Refusal<'a> {
         name: &'a str,
         step: u32,
         limit: u32,
-        ending: &'a str,
+        ending: Bytes,
     },
     /// The input file is none of its format; never for want of memory.
     Unread {
@@ -65,7 +65,7 @@ pub enum Refusal<'a> {
 }
 
 /// Why words came to no product.
-#[derive(Clone, Copy, Debug)]
+#[derive(Debug, Drop)]
 pub enum Halt<'a> {
     /// They ask for nothing that the program does.
     Unasked,

@@ -6,6 +6,7 @@ mod checking;
 mod commands;
 mod delivery;
 mod doubling;
+mod format_places;
 mod halt;
 mod hooping;
 mod messages;

@@ -41,7 +41,7 @@ fn tell_refusal<E: Sink>(err: &mut E, why: Refusal<'_>) -> Status
             step,
             limit,
             ending,
-        } => tell_step(err, name, step, limit, ending),
+        } => tell_step(err, name, step, limit, ending.as_slice()),
         Refusal::Unread { name, fault } => tell_read_fault(err, name, fault),
         Refusal::Unchanged { names, fault } => tell_change_fault(err, names, fault),
         Refusal::Unwritten { name, limit, fault } => tell_write_fault(err, name, limit, fault),

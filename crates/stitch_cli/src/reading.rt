@@ -1,4 +1,8 @@
+ghost use Rattle.std.specs.Prelude.{◌≡◌, Err};
+ghost use Rattle.outside_io.specs.declared.limits.TheConstants.{MAX_FILE as most};
+ghost use Rattle.outside_io.specs.Causes.{ReadsWhole};
 ghost use Rattle.outside_io.specs.Files.{IsName};
+ghost use Rattle.outside_io.specs.Sights.{StoreSight};
 ghost use Rattle.stitch_cli.specs.Endings.{ReadsInput};
 
 use crate::halt::{Halt, Refusal};
@@ -17,9 +21,19 @@ pub(crate) fn read_input<'a, S: Store>(
 {
     match read_whole(alloc, store, name, MAX_FILE) {
         Ok(bytes) => Ok(bytes),
-        Err(GetFault::Missing) => Err(Halt::Missing(name)),
-        Err(GetFault::Failed) => Err(Halt::NotRead(name)),
-        Err(GetFault::TooLong) => Err(Halt::Refused(Refusal::TooLong { name })),
-        Err(GetFault::Memory) => Err(Halt::Memory),
+        Err(fault) => Err(unread(name, fault)),
+    }
+}
+
+/// What a file that was not read halts an order for.
+pub(crate) fn unread<'a>(name: &'a str, fault: GetFault) -> Halt<'a>
+    ensures { (old new : StoreSight) → ReadsWhole name.now most old new (Err fault)
+        → new.files ≡ old.files → ReadsInput name.now old new (Err result) }
+{
+    match fault {
+        GetFault::Missing => Halt::Missing(name),
+        GetFault::Failed => Halt::NotRead(name),
+        GetFault::TooLong => Halt::Refused(Refusal::TooLong { name }),
+        GetFault::Memory => Halt::Memory,
     }
 }

@@ -1,64 +1,53 @@
+ghost use Rattle.std.specs.Prelude.{◌≡◌, ◌<◌, Some, length, map, slice_get};
 ghost use Rattle.command_words.specs.SoundRequests.{BothAreNames};
 ghost use Rattle.format_traits.specs.Meanings.{Meaning};
 ghost use Rattle.outside_io.specs.Files.{IsName};
 ghost use Rattle.stitch_cli.specs.Endings.{Prepares, Settles};
 ghost use Rattle.stitch_cli.specs.OrderNames.{rewrite_order};
 ghost use Rattle.stitch_cli.specs.RewriteSteps.{AreSound, IsUnchangedFor, WriteOf, changes_by};
-ghost use Rattle.stitch_cli.specs.Rewrites.{RewriteOf, rewrite_plan, rewrite_read};
+ghost use Rattle.stitch_cli.specs.Rewrites.{RewriteOf, rewrite_plan};
 ghost use Rattle.stitch_cli.specs.Plans.{decides};
 
 use crate::changing::{Changes, Unchanged, changed};
+use crate::format_places::{format_at, load_at};
 use crate::halt::{Halt, Refusal};
 use crate::product::{Output, Product, one_output};
-use crate::reading::read_input;
 use command_words::Names;
 use design_model::{Design, counts};
-use format_traits::{Format, Loaded, ReadFault, WriteFault, decode_by, encode_by, limit_of};
+use format_traits::{Format, Loaded, WriteFault, encode_by, limit_of};
 use outside_io::Store;
 use program_texts::print_written;
 use std::alloc::Global;
 
-/// The design of a file, after changes, as another file.
+/// Where the formats of an input and of an output stand in the list of formats.
+#[derive(Clone, Copy, Debug, PartialEq, Eq)]
+pub(crate) struct Places {
+    pub source: usize,
+    pub target: usize,
+}
+
+/// The design of a file, after changes, as another file, each of the format at a place, which may be one.
 pub(crate) fn rewrite<'a, S: Store>(
     alloc: Global,
     names: Names<'a>,
-    source: &Box<dyn Format>,
-    target: &Box<dyn Format>,
+    formats: &mut [Box<dyn Format>],
+    places: Places,
     changes: &Changes<'_>,
     store: &mut S,
 ) -> Result<Product<'a>, Halt<'a>>
     requires names { BothAreNames names }
+    requires source { places.source < length formats.old }
+    requires target { places.target < length formats.old }
     requires changes { AreSound changes.now }
-    ensures { Prepares (rewrite_plan (rewrite_order names.entry (meaning source.now)
-        (meaning target.now)
-        (changes_by changes.now))) (S.sight store.old) (S.sight store.new) result }
+    ensures prepares { (s t : Meaning)
+        → slice_get (map (λ f. meaning f) formats.old) places.source ≡ Some s
+        → slice_get (map (λ f. meaning f) formats.old) places.target ≡ Some t
+        → Prepares (rewrite_plan (rewrite_order names.entry s t (changes_by changes.now)))
+        (S.sight store.old) (S.sight store.new) result }
+    ensures same { map (λ f. meaning f) formats.new ≡ map (λ f. meaning f) formats.old }
 {
-    let bytes = read_input(alloc, store, names.input)?;
-    rewritten(alloc, names, source, target, changes, bytes.as_slice())
-}
-
-fn rewritten<'a>(
-    alloc: Global,
-    names: Names<'a>,
-    source: &Box<dyn Format>,
-    target: &Box<dyn Format>,
-    changes: &Changes<'_>,
-    bytes: &[u8],
-) -> Result<Product<'a>, Halt<'a>>
-    requires names { BothAreNames names }
-    requires changes { AreSound changes.now }
-    ensures { Settles (rewrite_read (rewrite_order names.entry (meaning source.now)
-        (meaning target.now)
-        (changes_by changes.now)) ((meaning source.now).reads bytes.now)) result }
-{
-    match decode_by(alloc, source, bytes) {
-        Ok(loaded) => remade(alloc, names, loaded, target, changes),
-        Err(ReadFault::Memory) => Err(Halt::Memory),
-        Err(fault) => Err(Halt::Refused(Refusal::Unread {
-            name: names.input,
-            fault,
-        })),
-    }
+    let loaded = load_at(formats, places.source, store, names.input)?;
+    remade(alloc, names, loaded, format_at(formats, places.target), changes)
 }
 
 fn remade<'a>(

@@ -20,7 +20,7 @@ use drawing_text::{DrawFault, read_drawing};
 use format_traits::{Format, WriteFault, encode_by, ext_of, limit_of};
 use line_graph::{DrawKind, Drawing, pieces, runs_are_sewn};
 use outside_io::Store;
-use program_texts::print_route;
+use program_texts::{bytes_of, print_route};
 use route_core::{Routed, route_pieces};
 use std::alloc::Global;
 
@@ -28,7 +28,7 @@ use std::alloc::Global;
 pub(crate) fn route<'a, S: Store>(
     alloc: Global,
     names: RouteNames<'a>,
-    format: &'a Box<dyn Format>,
+    format: &Box<dyn Format>,
     store: &mut S,
 ) -> Result<Product<'a>, Halt<'a>>
     requires names { AreNames names }
@@ -43,7 +43,7 @@ pub(crate) fn route<'a, S: Store>(
 fn route_text<'a>(
     alloc: Global,
     names: RouteNames<'a>,
-    format: &'a Box<dyn Format>,
+    format: &Box<dyn Format>,
     bytes: &[u8],
 ) -> Result<Product<'a>, Halt<'a>>
     requires names { AreNames names }
@@ -70,7 +70,7 @@ fn route_text<'a>(
 fn route_drawn<'a>(
     alloc: Global,
     names: RouteNames<'a>,
-    format: &'a Box<dyn Format>,
+    format: &Box<dyn Format>,
     drawing: &Drawing,
 ) -> Result<Product<'a>, Halt<'a>>
     requires names { AreNames names }
@@ -81,11 +81,12 @@ fn route_drawn<'a>(
     let step = drawing.step();
     let limit = limit_of(format);
     if limit < step {
+        let ending = bytes_of(alloc, ext_of(format).as_bytes())?;
         return Err(Halt::Refused(Refusal::StepTooLong {
             name: names.drawing,
             step,
             limit,
-            ending: ext_of(format),
+            ending,
         }));
     }
     let product = routed(alloc, names, format, drawing)?;

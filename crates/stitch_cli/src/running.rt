@@ -1,4 +1,4 @@
-ghost use Rattle.std.specs.Prelude.{map, string_bytes};
+ghost use Rattle.std.specs.Prelude.{◌≡◌, map, string_bytes};
 ghost use Rattle.stitch_cli.specs.Endings.{Ends};
 ghost use Rattle.stitch_cli.specs.Orders.{order_of};
 ghost use Rattle.stitch_cli.specs.RunSights.{seen};
@@ -20,14 +20,15 @@ use std::alloc::Global;
 pub fn run<S: Store, O: Sink, E: Sink>(
     alloc: Global,
     words: &[String],
-    formats: &[Box<dyn Format>],
+    formats: &mut [Box<dyn Format>],
     store: &mut S,
     out: &mut O,
     err: &mut E,
 ) -> Status
-    ensures { RunEnds (order_of (map (λ f. meaning f) formats.now) (map string_bytes words.now))
+    ensures ends { RunEnds (order_of (map (λ f. meaning f) formats.old) (map string_bytes words.now))
         (seen (S.sight store.old) (O.sight out.old) (E.sight err.old))
         (seen (S.sight store.new) (O.sight out.new) (E.sight err.new)) result }
+    ensures formats { map (λ f. meaning f) formats.new ≡ map (λ f. meaning f) formats.old }
 {
     pieces_are_one();
     run_once(alloc, words, formats, store, out, err)
@@ -36,14 +37,15 @@ pub fn run<S: Store, O: Sink, E: Sink>(
 fn run_once<S: Store, O: Sink, E: Sink>(
     alloc: Global,
     words: &[String],
-    formats: &[Box<dyn Format>],
+    formats: &mut [Box<dyn Format>],
     store: &mut S,
     out: &mut O,
     err: &mut E,
 ) -> Status
-    ensures { Ends (order_of (map (λ f. meaning f) formats.now) (map string_bytes words.now))
+    ensures ends { Ends (order_of (map (λ f. meaning f) formats.old) (map string_bytes words.now))
         (seen (S.sight store.old) (O.sight out.old) (E.sight err.old))
         (seen (S.sight store.new) (O.sight out.new) (E.sight err.new)) result }
+    ensures same { map (λ f. meaning f) formats.new ≡ map (λ f. meaning f) formats.old }
 {
     match make(alloc, words, formats, store) {
         Ok(product) => deliver(&product, store, out, err),

@@ -1,4 +1,5 @@
-ghost use Rattle.std.specs.Prelude.{◌≡◌, ◌≤◌, IfOk, length, string_bytes};
+ghost use Rattle.std.specs.Prelude.{◌≡◌, ◌<◌, ◌≤◌, IfOk, Some, length, map, slice_get, string_bytes};
+ghost use Rattle.format_traits.specs.Meanings.{Meaning};
 ghost use Rattle.line_sections.specs.Sections.{segments_of};
 ghost use Rattle.drawing_text.specs.DrawingText.{IsWhole};
 ghost use Rattle.outside_io.specs.Files.{IsName};
@@ -7,65 +8,49 @@ ghost use Rattle.stitch_cli.specs.Endings.{Prepares, Settles};
 ghost use Rattle.stitch_cli.specs.OrderNames.{trace_order};
 ghost use Rattle.stitch_cli.specs.Products.{product_of};
 ghost use Rattle.stitch_cli.specs.TraceTexts.{trace_report};
-ghost use Rattle.stitch_cli.specs.Tracings.{IsTraced, segment_count, trace_made, trace_plan, trace_read};
+ghost use Rattle.stitch_cli.specs.Tracings.{IsTraced, segment_count, trace_made, trace_plan};
 
+use crate::format_places::load_at;
 use crate::halt::{Halt, Refusal};
 use crate::product::{Output, Product, one_output};
-use crate::reading::read_input;
 use design_model::{Bytes, Design, Memory, Point};
 use drawing_text::print_drawing2;
-use format_traits::{Format, ReadFault, decode_by};
+use format_traits::Format;
 use line_graph::Drawing;
 use outside_io::Store;
 use std::alloc::Global;
 use stitch_trace::{TraceFault, trace};
 
-/// The drawing of what a file sews, in the plain spelling of version 2, and what is told of it.
+/// The drawing of what a file of the format at a place sews, in the plain spelling of version 2, and what is
+/// told of it.
 pub(crate) fn trace_file<'a, S: Store>(
     alloc: Global,
     file: &'a str,
     drawing: &'a str,
-    format: &Box<dyn Format>,
+    formats: &mut [Box<dyn Format>],
+    place: usize,
     store: &mut S,
 ) -> Result<Product<'a>, Halt<'a>>
     requires file { IsName file.now }
     requires drawing { IsName drawing.now }
-    ensures { Prepares (trace_plan (trace_order file.now drawing.now (meaning format.now)))
-        (S.sight store.old) (S.sight store.new) result }
-{
-    let bytes = read_input(alloc, store, file)?;
-    trace_bytes(alloc, file, drawing, format, bytes.as_slice())
-}
-
-fn trace_bytes<'a>(
-    alloc: Global,
-    file: &'a str,
-    drawing: &'a str,
-    format: &Box<dyn Format>,
-    bytes: &[u8],
-) -> Result<Product<'a>, Halt<'a>>
-    requires { IsName drawing.now }
-    ensures { Settles (trace_read (trace_order file.now drawing.now (meaning format.now))
-        ((meaning format.now).reads bytes.now))
+    requires place { place < length formats.old }
+    ensures prepares { (m : Meaning) → slice_get (map (λ f. meaning f) formats.old) place ≡ Some m
+        → Prepares (trace_plan (trace_order file.now drawing.now m)) (S.sight store.old) (S.sight store.new)
         result }
+    ensures same { map (λ f. meaning f) formats.new ≡ map (λ f. meaning f) formats.old }
 {
-    match decode_by(alloc, format, bytes) {
-        Ok(loaded) => trace_design(alloc, file, drawing, format, &loaded.design),
-        Err(ReadFault::Memory) => Err(Halt::Memory),
-        Err(fault) => Err(Halt::Refused(Refusal::Unread { name: file, fault })),
-    }
+    let loaded = load_at(formats, place, store, file)?;
+    trace_design(alloc, file, drawing, &loaded.design)
 }
 
 fn trace_design<'a>(
     alloc: Global,
     file: &'a str,
     drawing: &'a str,
-    format: &Box<dyn Format>,
     design: &Design,
 ) -> Result<Product<'a>, Halt<'a>>
     requires { IsName drawing.now }
-    ensures { Settles (trace_made (trace_order file.now drawing.now (meaning format.now))
-        (traced design.now))
+    ensures { (m : Meaning) → Settles (trace_made (trace_order file.now drawing.now m) (traced design.now))
         result }
 {
     match trace(alloc, design) {
