@@ -1,6 +1,8 @@
 mod PartLemmas
 mod ReadingLemmas
 mod LabelLemmas
+mod StageLemmas
+mod ListStreamLemmas
 mod NumberLemmas
 mod LineLemmas
 mod ActLemmas
@@ -13,3 +15,4 @@ mod WriterLemmas
 mod ListFacts
 mod LineFacts
 mod ReadingFacts
+mod StageFacts

@@ -81,13 +81,13 @@ record FromLabel (text : List ℕ) (d : DesignValue) : Type 0 where
   text_is : text ≡ label_line label ++ 10 ∷ rest
   block : FromBlock label rest d
 
-label_written : (at : ℕ) (parts : List (List ℕ)) (d : DesignValue) → label_first at parts ≡ over d
+label_written : (at : ℕ) (parts : List (List ℕ)) (d : DesignValue) → label_first at empty_design parts ≡ over d
     → FromLabel (join_with_byte 10 parts) d
 label_written at parts d says =
-    next_some at empty_design d parts (λ bytes rest. by_label at bytes (label_said bytes) rest) says
+    next_some at empty_design d parts (λ bytes rest. by_label at empty_design bytes (label_said bytes) rest) says
     (λ bytes rest joined said. by_line bytes rest joined (label_said bytes) refl said) where
       by_line : (bytes : List ℕ) (rest : List (List ℕ)) → join_with_byte 10 parts ≡ bytes ++ 10 ∷ join_with_byte 10 rest
-          → (o : Option (List ℕ)) → label_said bytes ≡ o → by_label at bytes o rest ≡ over d
+          → (o : Option (List ℕ)) → label_said bytes ≡ o → by_label at empty_design bytes o rest ≡ over d
           → FromLabel (join_with_byte 10 parts) d
       by_line bytes rest joined None is said = not_over empty_design d (read.Control at) said
       by_line bytes rest joined (Some label) is said =
@@ -107,19 +107,19 @@ record FromFirst (text : List ℕ) (d : DesignValue) : Type 0 where
   label : FromLabel rest d
 
 first_written : (parts : List (List ℕ)) (d : DesignValue)
-    → next_line 0 empty_design parts (λ bytes rest. by_signature (bytes_eq bytes first_line) bytes rest) ≡ over d
+    → next_line 0 empty_design parts (λ bytes rest. by_signature 0 empty_design (bytes_eq bytes first_line) bytes rest) ≡ over d
     → FromFirst (join_with_byte 10 parts) d
 first_written parts d says =
-    next_some 0 empty_design d parts (λ bytes rest. by_signature (bytes_eq bytes first_line) bytes rest) says
+    next_some 0 empty_design d parts (λ bytes rest. by_signature 0 empty_design (bytes_eq bytes first_line) bytes rest) says
     (λ bytes rest joined said. by_line bytes rest joined (bytes_eq bytes first_line) refl said) where
       by_line : (bytes : List ℕ) (rest : List (List ℕ)) → join_with_byte 10 parts ≡ bytes ++ 10 ∷ join_with_byte 10 rest
-          → (b : Bool) → bytes_eq bytes first_line ≡ b → by_signature b bytes rest ≡ over d
+          → (b : Bool) → bytes_eq bytes first_line ≡ b → by_signature 0 empty_design b bytes rest ≡ over d
           → FromFirst (join_with_byte 10 parts) d
       by_line bytes rest joined false is said = not_over empty_design d (read.Signature 0) said
       by_line bytes rest joined true is said = record {
         rest = join_with_byte 10 rest;
         text_is = joined ∙ ap (λ (bytes : List ℕ). bytes ++ 10 ∷ join_with_byte 10 rest) ((bytes_eq-Decides bytes first_line).0 is);
-        label = label_written (length bytes + 1) rest d said;
+        label = label_written (0 + length bytes + 1) rest d said;
       }
 
 -- a text whose reading ends is the text of its design

@@ -1,9 +1,9 @@
 -- The parts of bytes between marks, taken one after another.
-use Rattle.std.proofs.Common.{◌≡◌, ◌≢◌, ℕ, zero, suc, ◌+◌, ◌<◌, ◌≤◌, ◌==◌, Bool, List, [], ◌∷◌, length, length-drop, take, drop, ap, sym, refl, ◌∙◌, arith}
+use Rattle.std.proofs.Common.{◌≡◌, ◌≢◌, ℕ, zero, suc, ◌+◌, ◌<◌, ◌≤◌, ◌==◌, Bool, true, false, cond, List, [], ◌∷◌, ◌++◌, length, length-drop, take, drop, ap, sym, refl, ◌∙◌, arith}
 use Rattle.std.proofs.Math.Seq.{drop-nil}
 use Rattle.std.proofs.lemmas.List.Splits.{length-slice_split, slice_split_first, slice_split_none}
 use Rattle.std.proofs.lemmas.List.Sums.{fails_before_first}
-use Rattle.std.specs.List.{position_or_len}
+use Rattle.std.specs.List.{onto_first, position_or_len}
 use Rattle.stitch_text.specs.Words.{parted}
 
 -- one byte more is left out
@@ -37,3 +37,49 @@ first_part mark bytes before from behind place is front are some rest =
 pub some_part : (mark : ℕ) (bytes : List ℕ) → parted mark bytes ≢ []
 some_part mark bytes none =
     absurd (omega (arith, length-slice_split (λ (b : ℕ). b == mark) bytes, ap length none))
+
+-- the last part goes on
+abbrev pub onto_part : List ℕ → List (List ℕ) → List (List ℕ)
+onto_part part [] = part ∷ []
+onto_part part (next ∷ parts) = (part ++ next) ∷ parts
+
+abbrev pub onto_last : List (List ℕ) → List (List ℕ) → List (List ℕ)
+onto_last [] behind = behind
+onto_last (part ∷ []) behind = onto_part part behind
+onto_last (part ∷ next ∷ parts) behind = part ∷ onto_last (next ∷ parts) behind
+
+-- a byte stands before parts, or a mark
+before_parts : (b : ℕ) (mark : Bool) (parts behind : List (List ℕ)) → parts ≢ [] → behind ≢ []
+    → onto_last (cond mark ([] ∷ parts) (onto_first b parts)) behind
+    ≡ cond mark ([] ∷ onto_last parts behind) (onto_first b (onto_last parts behind))
+before_parts b mark [] behind some more = absurd (some refl)
+before_parts b mark parts [] some more = absurd (more refl)
+before_parts b true (part ∷ parts) (next ∷ behind) some more = refl
+before_parts b false (part ∷ []) (next ∷ behind) some more = refl
+before_parts b false (part ∷ other ∷ parts) (next ∷ behind) some more = refl
+
+-- the parts of bytes one behind another
+parts_on : (mark : ℕ) (bytes more : List ℕ) → parted mark (bytes ++ more) ≡ onto_last (parted mark bytes) (parted mark more)
+parts_on mark [] more = behind_none (parted mark more) (some_part mark more) where
+  behind_none : (parts : List (List ℕ)) → parts ≢ [] → parts ≡ onto_part [] parts
+  behind_none [] some = absurd (some refl)
+  behind_none (part ∷ parts) some = refl
+parts_on mark (b ∷ bytes) more =
+    ap (λ parts. cond (b == mark) ([] ∷ parts) (onto_first b parts)) (parts_on mark bytes more)
+    ∙ sym (before_parts b (b == mark) (parted mark bytes) (parted mark more) (some_part mark bytes) (some_part mark more))
+
+-- a part that has ended stays, whatever bytes follow
+pub ended_part : (mark : ℕ) (bytes line after more : List ℕ) → parted mark bytes ≡ line ∷ parted mark after
+    → parted mark (bytes ++ more) ≡ line ∷ parted mark (after ++ more)
+ended_part mark bytes line after more are =
+    parts_on mark bytes more ∙ ap (λ parts. onto_last parts (parted mark more)) are
+    ∙ behind (parted mark after) (some_part mark after) ∙ ap (λ parts. line ∷ parts) (sym (parts_on mark after more)) where
+      behind : (parts : List (List ℕ)) → parts ≢ []
+          → onto_last (line ∷ parts) (parted mark more) ≡ line ∷ onto_last parts (parted mark more)
+      behind [] some = absurd (some refl)
+      behind (part ∷ parts) some = refl
+
+-- a part that hasn't ended goes on
+pub open_part : (mark : ℕ) (part more : List ℕ) → parted mark part ≡ part ∷ []
+    → parted mark (part ++ more) ≡ onto_part part (parted mark more)
+open_part mark part more is = parts_on mark part more ∙ ap (λ parts. onto_last parts (parted mark more)) is

@@ -9,7 +9,7 @@ use Rattle.format_traits.specs.declared.fault.ReadFault.TheVariants as fault
 use Rattle.format_traits.specs.declared.loaded.Loaded.{Loaded}
 use Rattle.format_traits.specs.declared.standing.Standing.{Standing}
 use Rattle.stitch_text.specs.Judging.{act_fault}
-use Rattle.stitch_text.specs.Readings.{moves, reads}
+use Rattle.stitch_text.specs.Readings.{moves, reads, shown}
 
 abbrev pub point : ℤ → ℤ → Point
 point x y = record { x = x; y = y }
@@ -46,6 +46,21 @@ known_moves = refl
 pub known_moves_before : moves (behind_head (codes "needle 1 1" ∷ codes "needle 0 3" ∷ codes "needle" ∷ codes "needle 9 9" ∷ []))
     ≡ point (negsuc 0) (pos 2) ∷ []
 known_moves_before = refl
+
+-- the commands are those of the lines that have ended, before a refusal
+pub known_shown : shown every_line ≡ Stitch (point (negsuc 8999) (pos 9000)) ∷ Stitch (point (negsuc 6952) (pos 9000))
+    ∷ Jump (point (pos 30000) (pos 30000)) ∷ Stitch (point (pos 30000) (pos 30000)) ∷ Trim ∷ Stitch (point (pos 0) (pos 0)) ∷ Stop ∷ []
+known_shown = refl
+
+pub known_shown_before : shown (behind_head (codes "needle 1 2" ∷ codes "trim" ∷ codes "trim" ∷ codes "needle 9 9" ∷ []))
+    ≡ Stitch (point (pos 1) (pos 2)) ∷ Trim ∷ []
+known_shown_before = refl
+
+pub known_shown_so_far : shown (behind_head (codes "needle 1 2" ∷ []) ++ codes "needle 3 4") ≡ Stitch (point (pos 1) (pos 2)) ∷ []
+known_shown_so_far = refl
+
+pub known_none_shown : shown (codes "stitch-list 1") ≡ []
+known_none_shown = refl
 
 -- a list without acts
 pub known_none : reads (behind_head (codes "end" ∷ [])) ≡ loaded [] (5 ∷ []) []

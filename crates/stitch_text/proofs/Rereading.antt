@@ -182,8 +182,9 @@ list_said small d limits none =
     let named = with_label empty_design d.label in
     let at = length first_line + 1 in
     let later = at + length (label_line d.label) + 1 in
-    first_is (list_of d) first_line second true (line_before first_line second head) refl
-    ∙ label_is at second (label_line d.label) third (Some d.label) (line_before (label_line d.label) third (label_lacks d.label good))
+    first_is 0 empty_design (list_of d) first_line second true (line_before first_line second head) refl
+    ∙ label_is at empty_design second (label_line d.label) third (Some d.label)
+    (line_before (label_line d.label) third (label_lacks d.label good))
     (label_yes (label_line d.label) d.label refl good)
     ∙ first_block_is later named third (block_line (thread_of d 0)) lines (Some thread)
     (line_before (block_line (thread_of d 0)) lines block.kept)

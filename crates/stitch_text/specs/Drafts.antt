@@ -1,11 +1,11 @@
 -- What holds of a draft, and what it means to add an act to one.
-use Rattle.std.specs.Prelude.{◌≡◌, ℕ, ◌+◌, ◌≤◌, length, None, Result, Ok, Err, IsTrue}
+use Rattle.std.specs.Prelude.{◌≡◌, ℕ, ◌+◌, ◌≤◌, length, Option, None, Some, Err, IsTrue}
 use Rattle.design_model.specs.declared.act.Act.{Act}
 use Rattle.design_model.specs.declared.design.TheConstants.{MAX_COMMANDS}
 use Rattle.design_model.specs.declared.point.TheConstants.{NEEDLE_LIMIT}
 use Rattle.design_model.specs.Points.{is_within}
 use Rattle.format_traits.specs.declared.fault.ReadFault.{ReadFault}
-use Rattle.format_traits.specs.Cutting.{RefusesAs}
+use Rattle.format_traits.specs.Refusals.{stops_in}
 use Rattle.stitch_text.specs.declared.draft.Draft.{Draft}
 use Rattle.stitch_text.specs.declared.stitch_list.TheConstants.{MAX_STOPS}
 use Rattle.stitch_text.specs.Judging.{act_fault, taken, with_act}
@@ -22,7 +22,12 @@ pub record IsSoundBut (bare : ℕ) (draft : Draft) : Type 0 where
 abbrev pub IsSound : Draft → Type 0
 IsSound draft = IsSoundBut 0 draft
 
--- what an answer of adding an act means
-abbrev pub TakesAct : {T : Type 0} → ℕ → Draft → Act → Result T ReadFault → Draft → Type 0
-TakesAct at old a (Ok _) new = (act_fault at old.standing a ≡ None) × (new ≡ with_act old a)
-TakesAct at old a (Err f) new = RefusesAs (taken at old a) f
+-- the blocks without a thread behind an act that was refused or added
+abbrev pub bare_behind : Act → Option ReadFault → ℕ
+bare_behind a None = stops_in a
+bare_behind a (Some f) = 0
+
+-- what it means that an act was judged, and was refused or added
+abbrev pub JudgesAct : ℕ → Draft → Act → Option ReadFault → Draft → Type 0
+JudgesAct at old a None new = (act_fault at old.standing a ≡ None) × (new ≡ with_act old a)
+JudgesAct at old a (Some f) new = (taken at old a ≡ Err f) × (new ≡ old)

@@ -2,7 +2,7 @@
 use Rattle.std.specs.Prelude.{codes}
 use Rattle.format_traits.specs.Meanings.{Meaning}
 use Rattle.stitch_text.specs.declared.stitch_list.TheConstants.{LIMIT}
-use Rattle.stitch_text.specs.Readings.{moves, reads}
+use Rattle.stitch_text.specs.Readings.{moves, reads, shown}
 use Rattle.stitch_text.specs.StitchLists.{writes}
 
 abbrev pub stitch_list : Meaning
@@ -12,4 +12,5 @@ stitch_list = record {
   reads = reads;
   writes = writes;
   moves = moves;
+  shown = shown;
 }

@@ -14,7 +14,6 @@ use Rattle.format_traits.specs.declared.fault.ReadFault.TheVariants as read
 use Rattle.format_traits.specs.declared.fault.WriteFault.{WriteFault}
 use Rattle.format_traits.specs.declared.fault.WriteFault.TheVariants as write
 use Rattle.format_traits.specs.declared.standing.Standing.{Standing}
-use Rattle.format_traits.specs.Cutting.{RefusesAs}
 use Rattle.format_traits.specs.Keeping.{with_commands}
 use Rattle.format_traits.specs.Refusals.{refusal_at, standing_after}
 use Rattle.stitch_text.specs.declared.draft.Draft.{Draft}
@@ -78,7 +77,7 @@ judged at draft (Some line.Trim) = taken at draft act.Trim
 judged at draft (Some line.Far) = Err (read.Range at)
 judged at draft other = Err (read.Control at)
 
--- what an answer of judging a line means
-abbrev pub Takes : {T : Type 0} → ℕ → Draft → Option ListLine → Result T ReadFault → Draft → Type 0
-Takes at old said (Ok _) new = judged at old said ≡ Ok new
-Takes at old said (Err f) new = RefusesAs (judged at old said) f
+-- what it means that a line was judged, and was refused or wasn't
+abbrev pub Judges : ℕ → Draft → Option ListLine → Option ReadFault → Draft → Type 0
+Judges at old said None new = judged at old said ≡ Ok new
+Judges at old said (Some f) new = (judged at old said ≡ Err f) × (new ≡ old)

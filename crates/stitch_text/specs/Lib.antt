@@ -7,5 +7,6 @@ pub mod ListLines
 pub mod Judging
 pub mod Readings
 pub mod Drafts
+pub mod ListStages
 pub mod Format
 pub mod Laws

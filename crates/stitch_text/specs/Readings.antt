@@ -4,6 +4,7 @@
 use Rattle.std.specs.Prelude.{ℕ, ◌+◌, Bool, true, false, List, [], ◌∷◌, ◌++◌, Option, Some, None, Result, Ok, Err, bytes_eq, length, if◌then◌else◌}
 use Rattle.design_model.specs.declared.act.Act.{Act}
 use Rattle.design_model.specs.declared.act.Act.TheVariants as act
+use Rattle.design_model.specs.declared.command.Command.{Command}
 use Rattle.design_model.specs.declared.point.Point.{Point}
 use Rattle.design_model.specs.Acts.{acts_of, bare}
 use Rattle.design_model.specs.Designs.{DesignValue, empty_design, with_label, with_thread}
@@ -84,24 +85,27 @@ block_first at d parts =
     next_line at d parts (λ bytes rest. by_block at d bytes (thread_said (line_said bytes)) rest)
 
 -- the second line has a label
-abbrev pub by_label : ℕ → List ℕ → Option (List ℕ) → List (List ℕ) → Said
-by_label at bytes (Some label) rest =
-    block_first (at + length bytes + 1) (with_label empty_design label) rest
-by_label at bytes None rest = refused empty_design (read.Control at)
+abbrev pub by_label : ℕ → DesignValue → List ℕ → Option (List ℕ) → List (List ℕ) → Said
+by_label at d bytes (Some label) rest =
+    block_first (at + length bytes + 1) (with_label d label) rest
+by_label at d bytes None rest = refused d (read.Control at)
 
-abbrev pub label_first : ℕ → List (List ℕ) → Said
-label_first at parts =
-    next_line at empty_design parts (λ bytes rest. by_label at bytes (label_said bytes) rest)
+abbrev pub label_first : ℕ → DesignValue → List (List ℕ) → Said
+label_first at d parts =
+    next_line at d parts (λ bytes rest. by_label at d bytes (label_said bytes) rest)
 
 -- the first line tells the format
-abbrev pub by_signature : Bool → List ℕ → List (List ℕ) → Said
-by_signature true bytes rest = label_first (length bytes + 1) rest
-by_signature false bytes rest = refused empty_design (read.Signature 0)
+abbrev pub by_signature : ℕ → DesignValue → Bool → List ℕ → List (List ℕ) → Said
+by_signature at d true bytes rest = label_first (at + length bytes + 1) d rest
+by_signature at d false bytes rest = refused d (read.Signature at)
+
+abbrev pub signature_first : ℕ → DesignValue → List (List ℕ) → Said
+signature_first at d parts =
+    next_line at d parts (λ bytes rest. by_signature at d (bytes_eq bytes first_line) bytes rest)
 
 -- what a text says
 abbrev pub text_said : List ℕ → Said
-text_said text = next_line 0 empty_design (parted 10 text)
-    (λ bytes rest. by_signature (bytes_eq bytes first_line) bytes rest)
+text_said text = signature_first 0 empty_design (parted 10 text)
 
 -- what is loaded; a list that is read has ended
 abbrev pub loaded_by : DesignValue → Option ReadFault → Result Loaded ReadFault
@@ -114,6 +118,10 @@ loaded_from said = loaded_by said.design said.fault
 -- what a text reads as
 abbrev pub reads : List ℕ → Result Loaded ReadFault
 reads text = loaded_from (text_said text)
+
+-- the commands of the lines that have ended, before the end or the first refusal
+abbrev pub shown : List ℕ → List Command
+shown text = (text_said text).design.commands
 
 -- the move of a needle that is neither loose nor a float
 abbrev pub straight_move : Bool → Point → Act → List Point

@@ -1,4 +1,4 @@
-ghost use Rattle.std.specs.Prelude.{◌≡◌, ◌+◌, ◌<◌, ◌≤◌, [], length, Some, IsTrue, OnOk};
+ghost use Rattle.std.specs.Prelude.{◌≡◌, ◌+◌, ◌<◌, ◌≤◌, length, None, Some, IfOk, IsTrue, OnOk};
 ghost use Rattle.design_model.specs.declared.design.TheConstants.{MAX_COMMANDS};
 ghost use Rattle.design_model.specs.declared.point.TheConstants.{NEEDLE_LIMIT as needle_limit};
 ghost use Rattle.design_model.specs.ActPlaces.{is_act_in_range};
@@ -6,16 +6,17 @@ ghost use Rattle.design_model.specs.Commands.{is_in_range};
 ghost use Rattle.design_model.specs.Designs.{with_command};
 ghost use Rattle.design_model.specs.Points.{is_within};
 ghost use Rattle.format_traits.specs.Keeping.{with_commands};
-ghost use Rattle.stitch_text.specs.Drafts.{IsSound, IsSoundBut, TakesAct};
-ghost use Rattle.format_traits.specs.Refusals.{stops_in};
+ghost use Rattle.stitch_text.specs.Drafts.{IsSound, IsSoundBut, JudgesAct, bare_behind};
 ghost use Rattle.stitch_text.specs.declared.list_line.ListLine.TheVariants as line;
-ghost use Rattle.stitch_text.specs.Judging.{Takes, act_fault as fault_of_act, commands_of, wants_thread as wants_a_thread};
+ghost use Rattle.stitch_text.specs.Judging.{Judges, act_fault as fault_of_act, commands_of, wants_thread as wants_a_thread};
+ghost use Rattle.stitch_text.specs.ListStages.{IsUnbegun, blank};
 ghost use Rattle.stitch_text.specs.Readings.{begun};
 
 use crate::list_line::ListLine;
 use crate::stitch_list::{LIMIT, reach};
 use design_model::{Act, Command, Design, Memory, ModelFault, NEEDLE_LIMIT};
 use format_traits::{ReadFault, Standing, WriteFault};
+use std::alloc::Global;
 
 /// What the lines of a list so far say: a design, and how it stands after its acts.
 #[derive(Debug, Drop)]
@@ -25,62 +26,72 @@ pub struct Draft {
 }
 
 impl Draft {
-    /// The draft of a label and the thread of the first block.
-    pub(crate) fn new(design: Design, thread: u8) -> Draft
-        requires threads { design.threads ≡ [] }
-        requires commands { design.commands ≡ [] }
-        ensures value { result ≡ begun design thread }
-        ensures sound { IsSound result }
+    /// The draft of a list of which nothing was read.
+    pub(crate) fn new(alloc: Global) -> Draft
+        ensures { result ≡ blank }
     {
-        let mut design = design;
-        design.push_thread(thread);
         Draft {
-            design,
+            design: Design::new(alloc),
             standing: Standing::new(),
         }
     }
 
-    /// Adds what the line at that offset says, or says why it doesn't fit.
-    pub(crate) fn take_line(&mut self, at: u64, said: Option<ListLine>) -> Result<(), ReadFault>
+    /// Begins the first block, with its thread.
+    pub(crate) fn begin(&mut self, thread: u8)
+        requires { IsUnbegun self.old }
+        ensures value { self.new ≡ begun self.old.design thread }
+        ensures sound { IsSound self.new }
+    {
+        self.design.push_thread(thread);
+    }
+
+    /// Adds what the line at that offset says, or tells why it doesn't fit.
+    pub(crate) fn take_line(
+        &mut self,
+        at: u64,
+        said: Option<ListLine>,
+    ) -> Result<Option<ReadFault>, Memory>
         requires { IsSound self.old }
-        ensures value { Takes at self.old said result self.new }
-        ensures sound { OnOk result (IsSound self.new) }
+        ensures value { IfOk result (λ fault. Judges at self.old said fault self.new) }
+        ensures sound { IfOk result (λ _. IsSound self.new) }
     {
         match said {
             Some(ListLine::Block(thread)) => self.take_block(at, thread),
             Some(ListLine::Needle { at: p, float }) if p.is_within(NEEDLE_LIMIT) => {
                 self.take(at, Act::Needle { at: p, float })
             }
-            Some(ListLine::Needle { .. } | ListLine::Far) => Err(ReadFault::Range { at }),
+            Some(ListLine::Needle { .. } | ListLine::Far) => Ok(Some(ReadFault::Range { at })),
             Some(ListLine::Trim) => self.take(at, Act::Trim),
-            Some(ListLine::End) | None => Err(ReadFault::Control { at }),
+            Some(ListLine::End) | None => Ok(Some(ReadFault::Control { at })),
         }
     }
 
     /// Adds a stop, and the thread of the block after it.
-    fn take_block(&mut self, at: u64, thread: u8) -> Result<(), ReadFault>
+    fn take_block(&mut self, at: u64, thread: u8) -> Result<Option<ReadFault>, Memory>
         requires { IsSound self.old }
-        ensures value { Takes at self.old (Some (line.Block thread)) result self.new }
-        ensures sound { OnOk result (IsSound self.new) }
+        ensures value { IfOk result (λ fault. Judges at self.old (Some (line.Block thread)) fault self.new) }
+        ensures sound { IfOk result (λ _. IsSound self.new) }
     {
-        self.take(at, Act::Stop)?;
+        if let Some(fault) = self.take(at, Act::Stop)? {
+            return Ok(Some(fault));
+        }
         self.design.push_thread(thread);
-        Ok(())
+        Ok(None)
     }
 
-    /// Adds an act whose line stands at that offset.
-    fn take(&mut self, at: u64, act: Act) -> Result<(), ReadFault>
+    /// Adds an act whose line stands at that offset, or tells why it doesn't fit.
+    fn take(&mut self, at: u64, act: Act) -> Result<Option<ReadFault>, Memory>
         requires sound { IsSound self.old }
         requires act { IsTrue (is_act_in_range act) }
-        ensures value { TakesAct at self.old act result self.new }
-        ensures sound { OnOk result (IsSoundBut (stops_in act) self.new) }
+        ensures value { IfOk result (λ fault. JudgesAct at self.old act fault self.new) }
+        ensures sound { IfOk result (λ fault. IsSoundBut (bare_behind act fault) self.new) }
     {
         if let Some(fault) = act_fault(at, &self.standing, act) {
-            return Err(fault);
+            return Ok(Some(fault));
         }
         push_act(&mut self.design, act)?;
         self.standing = self.standing.after(LIMIT, act);
-        Ok(())
+        Ok(None)
     }
 }
 

@@ -5,14 +5,16 @@
 //! left the hoop, and a far needle takes several; a line tells the point itself, however far, and there
 //! is one for each act. A reader of records keeps whatever commands are in range; a list is read only
 //! where it is the list of some design, and so judges its acts as a writer does. So the judging of acts,
-//! their standing and their room are those of format_traits, and the records aren't.
+//! their standing and their room are those of format_traits, and the records aren't. A list that is fed
+//! in pieces has a decoder of its own, which takes it line by line.
 #![tactic(auto)]
 
 mod draft;
 mod label_line;
+mod list_decoder;
 mod list_line;
+mod list_stage;
 mod promises;
-mod reading;
 mod stitch_list;
 #[cfg(test)]
 mod tests;

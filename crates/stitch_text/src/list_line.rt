@@ -1,5 +1,6 @@
 ghost use Rattle.std.specs.Prelude.{◌≡◌, ◌∷◌, []};
 ghost use Rattle.stitch_text.specs.ListLines.{block_said, line_said, needle_said, word_said, words_said};
+ghost use Rattle.stitch_text.specs.Readings.{is_end as is_last, thread_said};
 ghost use Rattle.stitch_text.specs.Words.{words_in};
 
 use crate::words::{number_in, spells, split_first};
@@ -33,6 +34,26 @@ pub(crate) fn line_of(line: &[u8]) -> Option<ListLine>
     match split_first(line, b' ') {
         Some((word, rest)) => line_of_words(word, rest),
         None => line_of_word(line),
+    }
+}
+
+/// The thread of a line that begins a block.
+pub(crate) fn thread_of(said: Option<ListLine>) -> Option<u8>
+    ensures { result ≡ thread_said said }
+{
+    match said {
+        Some(ListLine::Block(thread)) => Some(thread),
+        _ => None,
+    }
+}
+
+/// Says whether a line is the last one.
+pub(crate) fn is_end(said: Option<ListLine>) -> bool
+    ensures { result ≡ is_last said }
+{
+    match said {
+        Some(ListLine::End) => true,
+        _ => false,
     }
 }
 

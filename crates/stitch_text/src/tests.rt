@@ -1,3 +1,5 @@
+mod pieces;
+
 use crate::List;
 use design_model::{Bytes, Command, Design, Memory, ModelFault, Point, counts};
 use format_traits::{Format, ReadFault, WriteFault};
@@ -30,11 +32,24 @@ fn design_of(alloc: Global, thread: u8, commands: &[Command]) -> Result<Design, 
     Ok(design)
 }
 
-/// A text so many times behind a first line, a label and a block in thread 5, which are 31 bytes, and
-/// then an end.
+/// A first line, a label and a block in thread 5, which are 31 bytes.
+const HEAD: &str = "stitch-list 1\nlabel []\nblock 5\n";
+
+/// A text so many times behind the head, and then an end.
 fn list_of(alloc: Global, lines: &str, times: u32, end: &str) -> Result<Bytes, Memory> {
+    text_of(alloc, HEAD, lines, times, end)
+}
+
+/// A text so many times between two others.
+fn text_of(
+    alloc: Global,
+    first: &str,
+    lines: &str,
+    times: u32,
+    end: &str,
+) -> Result<Bytes, Memory> {
     let mut text = Bytes::new(alloc);
-    text.append(b"stitch-list 1\nlabel []\nblock 5\n")?;
+    text.append(first.as_bytes())?;
     for _ in 0..times {
         text.append(lines.as_bytes())?;
     }
@@ -45,7 +60,7 @@ fn list_of(alloc: Global, lines: &str, times: u32, end: &str) -> Result<Bytes, M
 #[test]
 fn a_square_has_its_lines_and_reads_again(rt: HostRuntime) -> Result<(), Fail> {
     let alloc = rt.alloc();
-    let list = List::new();
+    let list = List::new(alloc);
     let commands = [
         Command::Stitch(at(0, 0)),
         Command::Stitch(at(30, 0)),
@@ -67,54 +82,53 @@ fn a_square_has_its_lines_and_reads_again(rt: HostRuntime) -> Result<(), Fail> {
     Ok(())
 }
 
+/// Lines behind the head of a list, and what the list is refused for.
+const ACT_LINES: [(&str, Option<ReadFault>); 21] = [
+    ("end\n", None),
+    ("needle 0 0\nfloat 400 0\nend\n", None),
+    ("needle -30000 30000\nend\n", None),
+    ("", Some(ReadFault::Short { at: 31 })),
+    ("needle 0 0\nneed", Some(ReadFault::Short { at: 46 })),
+    ("end", Some(ReadFault::Short { at: 34 })),
+    ("trim\nend\n", Some(ReadFault::Control { at: 31 })),
+    ("float 0 0\nend\n", Some(ReadFault::Control { at: 31 })),
+    (
+        "needle 0 0\ntrim\ntrim\nend\n",
+        Some(ReadFault::Control { at: 47 }),
+    ),
+    (
+        "needle 0 0\nneedle 0 2048\nend\n",
+        Some(ReadFault::Control { at: 42 }),
+    ),
+    ("needle 0 0\nfloat 0 2048\nend\n", None),
+    ("needle -0 0\nend\n", Some(ReadFault::Control { at: 31 })),
+    ("needle 0 01\nend\n", Some(ReadFault::Control { at: 31 })),
+    ("needle 30001 0\nend\n", Some(ReadFault::Range { at: 31 })),
+    (
+        "needle 0 12345678901234567890123\n",
+        Some(ReadFault::Range { at: 31 }),
+    ),
+    (
+        "needle 0 123456789012345678901234\n",
+        Some(ReadFault::Control { at: 31 }),
+    ),
+    (
+        "needle 0 123456789012345678901234",
+        Some(ReadFault::Short { at: 64 }),
+    ),
+    ("block 256\nend\n", Some(ReadFault::Control { at: 31 })),
+    ("label []\nend\n", Some(ReadFault::Control { at: 31 })),
+    ("end\r\n", Some(ReadFault::Control { at: 31 })),
+    ("end\n\n", Some(ReadFault::Control { at: 35 })),
+];
+
 #[test]
 fn a_text_is_refused_at_its_first_line_that_does_not_fit(rt: HostRuntime) -> Result<(), Fail> {
     let alloc = rt.alloc();
-    let table = [
-        ("end\n", None),
-        ("needle 0 0\nfloat 400 0\nend\n", None),
-        ("needle -30000 30000\nend\n", None),
-        ("", Some(ReadFault::Short { at: 31 })),
-        ("needle 0 0\nneed", Some(ReadFault::Short { at: 46 })),
-        ("end", Some(ReadFault::Short { at: 34 })),
-        ("trim\nend\n", Some(ReadFault::Control { at: 31 })),
-        ("float 0 0\nend\n", Some(ReadFault::Control { at: 31 })),
-        (
-            "needle 0 0\ntrim\ntrim\nend\n",
-            Some(ReadFault::Control { at: 47 }),
-        ),
-        (
-            "needle 0 0\nneedle 0 2048\nend\n",
-            Some(ReadFault::Control { at: 42 }),
-        ),
-        ("needle 0 0\nfloat 0 2048\nend\n", None),
-        ("needle -0 0\nend\n", Some(ReadFault::Control { at: 31 })),
-        ("needle 0 01\nend\n", Some(ReadFault::Control { at: 31 })),
-        ("needle 30001 0\nend\n", Some(ReadFault::Range { at: 31 })),
-        (
-            "needle 0 12345678901234567890123\n",
-            Some(ReadFault::Range { at: 31 }),
-        ),
-        (
-            "needle 0 123456789012345678901234\n",
-            Some(ReadFault::Control { at: 31 }),
-        ),
-        (
-            "needle 0 123456789012345678901234",
-            Some(ReadFault::Short { at: 64 }),
-        ),
-        ("block 256\nend\n", Some(ReadFault::Control { at: 31 })),
-        ("label []\nend\n", Some(ReadFault::Control { at: 31 })),
-        ("end\r\n", Some(ReadFault::Control { at: 31 })),
-        ("end\n\n", Some(ReadFault::Control { at: 35 })),
-    ];
-    for (lines, fault) in table {
+    let list = List::new(alloc);
+    for (lines, fault) in ACT_LINES {
         let text = list_of(alloc, lines, 1, "")?;
-        assert_eq!(rt;
-            List::new().decode(alloc, text.as_slice()).err(),
-            fault,
-            "{lines}"
-        );
+        assert_eq!(rt; list.decode(alloc, text.as_slice()).err(), fault, "{lines}");
     }
     Ok(())
 }
@@ -122,6 +136,7 @@ fn a_text_is_refused_at_its_first_line_that_does_not_fit(rt: HostRuntime) -> Res
 #[test]
 fn the_first_three_lines_stand_in_their_order(rt: HostRuntime) {
     let alloc = rt.alloc();
+    let list = List::new(alloc);
     let table = [
         ("", Some(ReadFault::Short { at: 0 })),
         (
@@ -154,7 +169,7 @@ fn the_first_three_lines_stand_in_their_order(rt: HostRuntime) {
     ];
     for (text, fault) in table {
         assert!(rt;
-            List::new().decode(alloc, text.as_bytes()).err() == fault,
+            list.decode(alloc, text.as_bytes()).err() == fault,
             "{text}"
         );
     }
@@ -163,7 +178,7 @@ fn the_first_three_lines_stand_in_their_order(rt: HostRuntime) {
 #[test]
 fn a_list_has_255_blocks_at_most(rt: HostRuntime) -> Result<(), Fail> {
     let alloc = rt.alloc();
-    let list = List::new();
+    let list = List::new(alloc);
     let full = list_of(alloc, "block 7\n", 254, "end\n")?;
     let mut design = list
         .decode(alloc, full.as_slice())
@@ -185,7 +200,7 @@ fn a_list_has_255_blocks_at_most(rt: HostRuntime) -> Result<(), Fail> {
 #[test]
 fn a_list_has_room_for_a_million_commands(rt: HostRuntime) -> Result<(), Fail> {
     let alloc = rt.alloc();
-    let list = List::new();
+    let list = List::new(alloc);
     let full = list_of(alloc, "needle 0 0\ntrim\n", 200_000, "end\n")?;
     let mut design = list
         .decode(alloc, full.as_slice())
@@ -229,7 +244,7 @@ fn large(alloc: Global) -> Result<Design, ModelFault> {
 #[test]
 fn a_large_design_keeps_its_label_and_threads(rt: HostRuntime) -> Result<(), Fail> {
     let alloc = rt.alloc();
-    let list = List::new();
+    let list = List::new(alloc);
     let design = large(alloc)?;
     let text = list.encode(alloc, &design).ok().ok_or("not written")?;
     let loaded = list.decode(alloc, text.as_slice()).ok().ok_or("not read")?;

@@ -1,4 +1,4 @@
-ghost use Rattle.std.specs.Prelude.{◌≡◌, ◌≤◌, ◌<◌, ◌∷◌, ◌+◌, ◌==◌, [], None, Some, bytes_eq, length, IfNone, IfSome};
+ghost use Rattle.std.specs.Prelude.{◌≡◌, ◌≤◌, ◌<◌, ◌∷◌, ◌+◌, ◌==◌, [], None, Some, bytes_eq, drop, length, IfNone, IfSome};
 ghost use Rattle.std.specs.List.{list_all, position_or_len};
 ghost use Rattle.stitch_text.specs.Words.{begins_with_zero as zero_first, ends_with_space as space_last, is_label as is_a_label, is_plain as is_plain_word, is_printable, number_in as number_spelled, parted};
 
@@ -7,6 +7,7 @@ use design_model::{MAX_LABEL, Whole, parse_whole};
 /// What stands before the first byte that is the mark and what stands behind it, where there is one.
 pub(crate) fn split_first(bytes: &[u8], mark: u8) -> Option<(&[u8], &[u8])>
     ensures some { IfSome result (λ r. parted mark bytes.now ≡ r.0.now ∷ parted mark r.1.now) }
+    ensures rest { IfSome result (λ r. r.1.now ≡ drop (length r.0.now + 1) bytes.now) }
     ensures sizes { IfSome result
         (λ r. length r.0.now + 1 + length r.1.now ≡ length bytes.now) }
     ensures none { IfNone result (parted mark bytes.now ≡ bytes.now ∷ []) }

@@ -34,10 +34,8 @@ fn put_list(alloc: Global, design: &Design) -> Result<Bytes, WriteFault>
 {
     let mut text = Bytes::new(alloc);
     put_head(&mut text, design)?;
-    match put_lines(&mut text, design) {
-        Ok(()) => Ok(text),
-        Err(fault) => Err(fault),
-    }
+    put_lines(&mut text, design)?;
+    Ok(text)
 }
 
 /// Adds the first three lines.

@@ -1,0 +1,90 @@
+-- Worked values of what is still to come of a list.
+use Rattle.std.proofs.Common.{◌≡◌, pos, true, false, List, [], ◌∷◌, Option, None, Some, codes, refl}
+use Rattle.design_model.specs.declared.command.Command.{Command}
+use Rattle.design_model.specs.declared.command.Command.TheVariants.{Stitch, Trim}
+use Rattle.design_model.specs.declared.point.Point.{Point}
+use Rattle.design_model.specs.Designs.{DesignValue}
+use Rattle.format_traits.specs.declared.fault.ReadFault.{ReadFault}
+use Rattle.format_traits.specs.declared.fault.ReadFault.TheVariants as fault
+use Rattle.stitch_text.specs.declared.draft.Draft.{Draft}
+use Rattle.stitch_text.specs.declared.list_stage.ListStage.TheVariants as stage
+use Rattle.stitch_text.specs.ListStages.{beyond, blank, fault_at, is_at_acts, is_before_acts, most_waiting, parts_said}
+use Rattle.stitch_text.specs.Readings.{Said}
+
+abbrev pub place : Point
+place = record { x = pos 3; y = pos 4 }
+
+abbrev pub design : List Command → DesignValue
+design commands = record { label = codes "a"; threads = 5 ∷ []; commands = commands }
+
+-- a needle was read
+abbrev pub begun : Draft
+begun = record { design = design (Stitch place ∷ []); standing = record { loose = false; place = place; stops = 0; room = 2 } }
+
+abbrev pub said : List Command → Option ReadFault → Said
+said commands f = record { design = design commands; fault = f }
+
+-- a list that begins at the offset 5, and one whose first line is another
+pub known_first : (parts_said blank stage.First 5 (codes "stitch-list 1" ∷ codes "lab" ∷ [])).fault ≡ Some (fault.Short 22)
+known_first = refl
+
+pub known_signature : (parts_said blank stage.First 5 (codes "stitch-list 2" ∷ codes "lab" ∷ [])).fault ≡ Some (fault.Signature 5)
+known_signature = refl
+
+-- the label and the first block
+pub known_label : (parts_said blank stage.Label 19 (codes "label [a]" ∷ codes "block 5" ∷ codes "end" ∷ [] ∷ [])) ≡ said [] None
+known_label = refl
+
+pub known_block : (parts_said blank stage.Block 29 (codes "block 256" ∷ [] ∷ [])).fault ≡ Some (fault.Control 29)
+known_block = refl
+
+-- acts behind the needle
+pub known_acts : parts_said begun stage.Acts 50 (codes "trim" ∷ codes "trim" ∷ [] ∷ [])
+    ≡ said (Stitch place ∷ Trim ∷ []) (Some (fault.Control 55))
+known_acts = refl
+
+-- in a line that is too long, which ends or doesn't
+pub known_long : parts_said begun (stage.Long (fault.Control 50)) 90 (codes "12" ∷ codes "end" ∷ [] ∷ [])
+    ≡ said (Stitch place ∷ []) (Some (fault.Control 50))
+known_long = refl
+
+pub known_long_open : parts_said begun (stage.Long (fault.Control 50)) 90 (codes "12" ∷ [])
+    ≡ said (Stitch place ∷ []) (Some (fault.Short 92))
+known_long_open = refl
+
+-- behind the last line, and behind a refusal
+pub known_ended : parts_said begun stage.Ended 54 ([] ∷ []) ≡ said (Stitch place ∷ []) None
+known_ended = refl
+
+pub known_behind : parts_said begun stage.Ended 54 ([] ∷ [] ∷ []) ≡ said (Stitch place ∷ []) (Some (fault.Control 54))
+known_behind = refl
+
+pub known_refused : parts_said begun (stage.Refused (fault.Range 31)) 54 (codes "end" ∷ [] ∷ [])
+    ≡ said (Stitch place ∷ []) (Some (fault.Range 31))
+known_refused = refl
+
+-- a list that ends at the offset 54
+pub known_faults : fault_at 54 stage.First ∷ fault_at 54 stage.Label ∷ fault_at 54 stage.Block ∷ fault_at 54 stage.Acts
+    ∷ fault_at 54 (stage.Long (fault.Control 20)) ∷ fault_at 54 stage.Ended ∷ fault_at 54 (stage.Refused (fault.Range 31)) ∷ []
+    ≡ Some (fault.Short 54) ∷ Some (fault.Short 54) ∷ Some (fault.Short 54) ∷ Some (fault.Short 54)
+    ∷ Some (fault.Short 54) ∷ None ∷ Some (fault.Range 31) ∷ []
+known_faults = refl
+
+-- the bytes of a line that are kept
+pub known_waiting : most_waiting stage.First ∷ most_waiting stage.Label ∷ most_waiting stage.Block ∷ most_waiting stage.Acts
+    ∷ most_waiting (stage.Long (fault.Control 20)) ∷ most_waiting stage.Ended ∷ most_waiting (stage.Refused (fault.Range 31)) ∷ []
+    ≡ 32 ∷ 32 ∷ 32 ∷ 32 ∷ 0 ∷ 0 ∷ 0 ∷ []
+known_waiting = refl
+
+-- behind more bytes than these of a line at the offset 20
+pub known_beyond : beyond 20 stage.First ∷ beyond 20 stage.Label ∷ beyond 20 stage.Block ∷ beyond 20 stage.Acts
+    ∷ beyond 20 (stage.Long (fault.Control 7)) ∷ beyond 20 stage.Ended ∷ beyond 20 (stage.Refused (fault.Range 7)) ∷ []
+    ≡ stage.Long (fault.Signature 20) ∷ stage.Long (fault.Control 20) ∷ stage.Long (fault.Control 20) ∷ stage.Long (fault.Control 20)
+    ∷ stage.Long (fault.Control 7) ∷ stage.Refused (fault.Control 20) ∷ stage.Refused (fault.Range 7) ∷ []
+known_beyond = refl
+
+-- which lines are due
+pub known_due : is_before_acts stage.First ∷ is_before_acts stage.Label ∷ is_before_acts stage.Block ∷ is_before_acts stage.Acts
+    ∷ is_before_acts stage.Ended ∷ is_at_acts stage.Block ∷ is_at_acts stage.Acts ∷ is_at_acts stage.Ended ∷ []
+    ≡ true ∷ true ∷ true ∷ false ∷ false ∷ false ∷ true ∷ false ∷ []
+known_due = refl

@@ -1,0 +1,16 @@
+use Rattle.std.proofs.Common.{arith}
+use Rattle.stitch_text.proofs.ListStreamLemmas.{left_of, line_on}
+use Rattle.stitch_text.proofs.list_decoder.ListDecoder.take_lines.Goals as goal
+
+pub loop-line-preserved : goal.loop-line-preserved
+loop-line-preserved c =
+    let kept = c.loop-line.invariant in
+    let split = c.in-Some.ensures in
+    record {
+      at = omega (arith, kept.at, split.sizes);
+      there = omega (arith, kept.there, split.sizes);
+      left = left_of c.args.bytes.now c.loop-line.rest.now c.in-Some.line.now c.in-Some.after.now
+          kept.left kept.there split.rest split.sizes;
+      on = line_on _ _ _ _ _ c.args.start c.loop-line.at _ c.args.bytes.now c.loop-line.rest.now c.in-Some.line.now c.in-Some.after.now
+          kept.on split.some c.in_ok-take_line.ensures (omega arith);
+    }

@@ -1,0 +1,191 @@
+ghost use Rattle.std.specs.Prelude.{◌≡◌, true};
+ghost use Rattle.stitch_text.specs.Drafts.{IsSound};
+ghost use Rattle.stitch_text.specs.ListStages.{IsUnbegun, is_at_acts, is_before_acts};
+
+use crate::draft::Draft;
+use crate::label_line::label_of;
+use crate::list_line::{is_end, line_of, thread_of};
+use crate::list_stage::ListStage;
+use crate::words::{spells, split_first};
+use design_model::{Command, Design, Memory};
+use format_traits::{Decoder, Loaded, ReadFault};
+use std::alloc::Global;
+use std::mem::replace;
+
+/// The decoder of lists.
+#[derive(Drop)]
+pub struct ListDecoder {
+    alloc: Global,
+    draft: Draft,
+    stage: ListStage,
+    /// The list has come up to that offset.
+    end: u64,
+    ghost unbegun: { is_before_acts stage ≡ true → IsUnbegun draft },
+    ghost sound: { is_at_acts stage ≡ true → IsSound draft },
+}
+
+impl ListDecoder {
+    ghost use Rattle.std.specs.Prelude.{◌≡◌, ◌+◌, ◌<◌, ◌^◌, ◌∷◌, [], IfOk, OnOk, length};
+    ghost use Rattle.format_traits.specs.Streams.{Takes};
+    ghost use Rattle.stitch_text.specs.declared.list_stage.ListStage.TheVariants as stage;
+    ghost use Rattle.stitch_text.specs.ListStages.{TakesLine, TakesLines, parts_said, so_far_at, stream_at};
+    ghost use Rattle.stitch_text.specs.Words.{parted};
+
+    /// A decoder that has to begin.
+    pub fn new(alloc: Global) -> Self {
+        ListDecoder {
+            alloc,
+            draft: Draft::new(alloc),
+            stage: ListStage::First,
+            end: 0,
+        }
+    }
+
+    /// Takes the lines that have ended, so many bytes.
+    fn take_lines(&mut self, start: u64, bytes: &[u8]) -> Result<usize, Memory>
+        requires { start + length bytes.now < 2 ^ 64 }
+        ensures { IfOk result (λ size. TakesLines (stream_at self.old.draft self.old.stage)
+            (stream_at self.new.draft self.new.stage) start bytes.now size) }
+    {
+        let mut at = start;
+        let mut rest = bytes;
+        while let Some((line, after)) = split_first(rest, b'\n') {
+            self.take_line(at, line)?;
+            at += line.len() as u64 + 1;
+            rest = after;
+        }
+        Ok(bytes.len() - rest.len())
+    }
+
+    /// Takes a line that has ended.
+    fn take_line(&mut self, at: u64, line: &[u8]) -> Result<(), Memory>
+        ensures { OnOk result (TakesLine (parts_said self.old.draft self.old.stage)
+            (parts_said self.new.draft self.new.stage) at line.now) }
+    {
+        match self.stage {
+            ListStage::First => self.take_first(at, line),
+            ListStage::Label => self.take_label(at, line),
+            ListStage::Block => self.take_block(at, line),
+            ListStage::Acts => return self.take_act(at, line),
+            ListStage::Long(fault) => self.stage = ListStage::Refused(fault),
+            ListStage::Ended => self.stage = ListStage::Refused(ReadFault::Control { at }),
+            ListStage::Refused(_) => {}
+        }
+        Ok(())
+    }
+
+    fn take_first(&mut self, at: u64, line: &[u8])
+        requires { self.old.stage ≡ stage.First }
+        ensures { TakesLine (parts_said self.old.draft stage.First)
+            (parts_said self.new.draft self.new.stage) at line.now }
+    {
+        self.stage = if spells(line, "stitch-list 1") {
+            ListStage::Label
+        } else {
+            ListStage::Refused(ReadFault::Signature { at })
+        };
+    }
+
+    fn take_label(&mut self, at: u64, line: &[u8])
+        requires { self.old.stage ≡ stage.Label }
+        ensures { TakesLine (parts_said self.old.draft stage.Label)
+            (parts_said self.new.draft self.new.stage) at line.now }
+    {
+        match label_of(line) {
+            Some(label) => {
+                self.draft.design.set_label(label);
+                self.stage = ListStage::Block;
+            }
+            None => self.stage = ListStage::Refused(ReadFault::Control { at }),
+        }
+    }
+
+    fn take_block(&mut self, at: u64, line: &[u8])
+        requires { self.old.stage ≡ stage.Block }
+        ensures { TakesLine (parts_said self.old.draft stage.Block)
+            (parts_said self.new.draft self.new.stage) at line.now }
+    {
+        match thread_of(line_of(line)) {
+            Some(thread) => {
+                self.draft.begin(thread);
+                self.stage = ListStage::Acts;
+            }
+            None => self.stage = ListStage::Refused(ReadFault::Control { at }),
+        }
+    }
+
+    fn take_act(&mut self, at: u64, line: &[u8]) -> Result<(), Memory>
+        requires { self.old.stage ≡ stage.Acts }
+        ensures { OnOk result (TakesLine (parts_said self.old.draft stage.Acts)
+            (parts_said self.new.draft self.new.stage) at line.now) }
+    {
+        let said = line_of(line);
+        if is_end(said) {
+            self.stage = ListStage::Ended;
+            return Ok(());
+        }
+        match self.draft.take_line(at, said) {
+            Ok(None) => Ok(()),
+            Ok(Some(fault)) => {
+                self.stage = ListStage::Refused(fault);
+                Ok(())
+            }
+            Err(Memory) => {
+                self.stage = ListStage::Refused(ReadFault::Memory);
+                Err(Memory)
+            }
+        }
+    }
+
+    /// Takes the bytes of a line that hasn't ended, where it is too long to be right, and else none.
+    fn take_part(&mut self, at: u64, part: &[u8]) -> usize
+        requires line { parted 10 part.now ≡ part.now ∷ [] }
+        requires end { at + length part.now < 2 ^ 64 }
+        ensures { Takes (stream_at self.old.draft self.old.stage) (stream_at self.new.draft self.new.stage)
+            (so_far_at self.new.draft self.new.end self.new.stage) at part.now result }
+    {
+        self.end = at + part.len() as u64;
+        if part.len() <= self.stage.most_waiting() {
+            return 0;
+        }
+        self.stage = self.stage.beyond(at);
+        part.len()
+    }
+}
+
+impl Decoder for ListDecoder {
+    ghost use Rattle.stitch_text.specs.ListStages.{list_stream, so_far_at, stream_at};
+
+    ghost fresh = { list_stream };
+
+    ghost stream = { λ d. stream_at d.draft d.stage };
+
+    ghost so_far = { λ d. so_far_at d.draft d.end d.stage };
+
+    fn begin(&mut self, at: u64) {
+        self.draft = Draft::new(self.alloc);
+        self.stage = ListStage::First;
+        self.end = at;
+    }
+
+    fn take(&mut self, at: u64, bytes: &[u8]) -> Result<usize, Memory> {
+        let size = self.take_lines(at, bytes)?;
+        let (_, part) = bytes.split_at(size);
+        Ok(size + self.take_part(at + size as u64, part))
+    }
+
+    fn finish(&mut self) -> Result<Loaded, ReadFault> {
+        if let Some(fault) = self.stage.fault(self.end) {
+            return Err(fault);
+        }
+        let design = replace(&mut self.draft.design, Design::new(self.alloc));
+        Ok(Loaded {
+            design,
+            ended: true,
+        })
+    }
+
+    fn so_far(&self) -> &[Command] {
+        self.draft.design.commands()
+    }
+}
