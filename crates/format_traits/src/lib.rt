@@ -10,6 +10,7 @@ mod event_keeping;
 mod fault;
 mod feed;
 mod format_object;
+mod front;
 mod keeping;
 mod label_fields;
 mod laws;
@@ -35,6 +36,7 @@ pub use event::Event;
 pub use fault::{ReadFault, WriteFault};
 pub use feed::{Fed, Feed, MAX_FED};
 pub use format_object::{Format, GREATEST_LIMIT, LEAST_LIMIT};
+pub use front::with_front;
 pub use label_fields::{put_label, put_spaces, read_label};
 pub use laws::{
     an_accepted_design_is_small, codecs_keep_the_laws, label_fields_read_back,

@@ -12,7 +12,7 @@ use crate::header::new_header;
 use crate::laws::{blocks_read_back, designs_keep_limits};
 use crate::pec_records::PecRecords;
 use design_model::{Bytes, Design, Memory};
-use format_traits::{WriteFault, an_accepted_design_is_small, put_acts, put_spaces};
+use format_traits::{WriteFault, an_accepted_design_is_small, put_acts, put_spaces, with_front};
 use std::alloc::Global;
 
 /// The end of the records.
@@ -68,24 +68,6 @@ fn with_header(alloc: Global, block: Bytes, design: &Design, stops: u32) -> Resu
     let distance = (block.len() - LABELS_LENGTH) as u32;
     let header = new_header(alloc, design, stops, distance)?;
     Ok(with_front(block, header.as_slice()))
-}
-
-/// The bytes with others in the place of the first.
-fn with_front(bytes: Bytes, front: &[u8]) -> Bytes
-    requires { length front.now ≤ length bytes }
-    ensures { result ≡ front.now ++ drop (length front.now) bytes }
-{
-    let mut held = bytes.into_vec();
-    overwrite(&mut held, front);
-    Bytes::from_vec(held)
-}
-
-fn overwrite(bytes: &mut [u8], front: &[u8])
-    requires { length front.now ≤ length bytes.old }
-    ensures { bytes.new ≡ front.now ++ drop (length front.now) bytes.old }
-{
-    let (first, _) = bytes.split_at_mut(front.len());
-    first.copy_from_slice(front);
 }
 
 /// Adds the thumbnails of a design with so many stops.

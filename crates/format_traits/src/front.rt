@@ -1,0 +1,21 @@
+ghost use Rattle.std.specs.Prelude.{◌≡◌, ◌≤◌, ◌++◌, length, drop};
+
+use design_model::Bytes;
+
+/// The bytes with others in the place of the first. This takes no memory.
+pub fn with_front(bytes: Bytes, front: &[u8]) -> Bytes
+    requires { length front.now ≤ length bytes }
+    ensures { result ≡ front.now ++ drop (length front.now) bytes }
+{
+    let mut held = bytes.into_vec();
+    overwrite(&mut held, front);
+    Bytes::from_vec(held)
+}
+
+fn overwrite(bytes: &mut [u8], front: &[u8])
+    requires { length front.now ≤ length bytes.old }
+    ensures { bytes.new ≡ front.now ++ drop (length front.now) bytes.old }
+{
+    let (first, _) = bytes.split_at_mut(front.len());
+    first.copy_from_slice(front);
+}
