@@ -1,8 +1,9 @@
 -- The fields of a header take 124 bytes and the header 512, where its numbers fit their places.
-use Rattle.std.proofs.Common.{◌≡◌, ℕ, ◌+◌, ◌-◌, ◌^◌, ◌<◌, ◌≤◌, ℤ, pos, negsuc, neg_ℤ, zero, suc, unsigned_abs, IsTrue, List, [], ◌∷◌, ◌++◌, length, decimal, codes, replicate, refl, ap, arith, length-append, lit<}
+use Rattle.std.proofs.Common.{◌≡◌, ℕ, ◌+◌, ◌-◌, ◌^◌, ◌<◌, ◌≤◌, ℤ, pos, negsuc, neg_ℤ, zero, suc, unsigned_abs, Bool, IsTrue, List, [], ◌∷◌, ◌++◌, length, decimal, codes, replicate, refl, ap, arith, length-append, lit<}
 use Rattle.std.proofs.lemmas.Bool.{and_parts}
 use Rattle.std.proofs.lemmas.Fmt.{length-decimal-le}
 use Rattle.std.proofs.lemmas.List.{length-replicate}
+use Rattle.std.specs.List.{list_all}
 use Rattle.design_model.specs.declared.act.Act.{Act}
 use Rattle.design_model.specs.declared.act.Act.TheVariants as act
 use Rattle.design_model.specs.declared.act.NumberedAct.{NumberedAct}
@@ -15,20 +16,12 @@ use Rattle.design_model.specs.ActPlaces.{is_act_in_range, place_along, place_aft
 use Rattle.format_traits.specs.Refusals.{stops_of}
 use Rattle.dst_codec.specs.declared.header.HeaderNumbers.{HeaderNumbers}
 use Rattle.dst_codec.specs.declared.header.TheConstants.{HEADER_LENGTH}
-use Rattle.dst_codec.specs.Header.{above, below, greatest, measured, field, number_field, signed_field, sign_of, fields_of, header_of, numbers_of}
+use Rattle.dst_codec.specs.Header.{FitsPlaces, above, below, greatest, measured, field, number_field, signed_field, sign_of, fields_of, header_of, numbers_of}
 use Rattle.dst_codec.proofs.SpellingLemmas.{within_parts}
-use Rattle.dst_codec.proofs.SurveyLemmas.{are_in_range}
 
--- each number fits the places of its field
-pub record FitsPlaces (numbers : HeaderNumbers) : Type 0 where
-  pub records : numbers.records < 10 ^ 7
-  pub stops : numbers.stops < 10 ^ 3
-  pub right : numbers.extents.right < 10 ^ 5
-  pub left : numbers.extents.left < 10 ^ 5
-  pub up : numbers.extents.up < 10 ^ 5
-  pub down : numbers.extents.down < 10 ^ 5
-  pub x : unsigned_abs numbers.last.x < 10 ^ 5
-  pub y : unsigned_abs numbers.last.y < 10 ^ 5
+-- the points of acts are in a needle's range
+abbrev pub are_in_range : List NumberedAct → Bool
+are_in_range acts = list_all (λ a. is_act_in_range a.act) acts
 
 length-filled_left : (places : ℕ) (text : List ℕ) → length text ≤ places → length (filled_left places text) ≡ places
 length-filled_left places text fits =

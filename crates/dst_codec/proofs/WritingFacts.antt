@@ -1,5 +1,5 @@
 -- Worked values of writing.
-use Rattle.std.proofs.Common.{◌≡◌, ℤ, pos, negsuc, List, [], ◌∷◌, ◌++◌, length, drop, Err, refl, codes, IsOkAnd}
+use Rattle.std.proofs.Common.{◌≡◌, ℤ, pos, negsuc, List, [], ◌∷◌, ◌++◌, length, drop, Some, Err, refl, codes, IsOkAnd}
 use Rattle.std.specs.Fmt.{digits}
 use Rattle.std.specs.List.{concat}
 use Rattle.design_model.specs.declared.command.Command.{Command}
@@ -10,6 +10,7 @@ use Rattle.design_model.specs.Designs.{DesignValue}
 use Rattle.format_traits.specs.declared.fault.WriteFault.TheVariants as fault
 use Rattle.dst_codec.specs.Header.{header_fields}
 use Rattle.dst_codec.specs.Samples.{square, square_commands}
+use Rattle.dst_codec.specs.Steps.{reached}
 use Rattle.dst_codec.specs.Writing.{records_of, writes}
 
 abbrev pub point : ℤ → ℤ → Point
@@ -61,6 +62,15 @@ pub known_bare_fields : drop 38 (header_fields [] (acts_along (Jump (point (pos 
     ∷ codes "PD:******" ++ 13 ∷ []
 unfolding digits
 known_bare_fields = refl
+
+-- how far an extent reaches to each side of the origin; one to the right of it and below it reaches to two only
+pub known_reached : reached (Some (record { min = point (negsuc 4) (negsuc 5); max = point (pos 12) (pos 34) }))
+    ≡ record { right = 12; left = 5; up = 6; down = 34 }
+known_reached = refl
+
+pub known_reached_beyond : reached (Some (record { min = point (pos 3) (pos 4); max = point (pos 12) (pos 34) }))
+    ≡ record { right = 12; left = 0; up = 0; down = 34 }
+known_reached_beyond = refl
 
 -- the whole file of the square has its header, its records and the end
 pub known_square_file : IsOkAnd (writes square) (λ bytes. length bytes ≡ 539)

@@ -1,6 +1,6 @@
 -- The header of a file: 124 bytes of fields, the byte 1A, and spaces up to 512 bytes. The numbers
 -- are those of the needles, in tenths of a millimetre; the file's y points upwards.
-use Rattle.std.specs.Prelude.{ℕ, suc, max, ℤ, pos, negsuc, neg_ℤ, unsigned_abs, List, [], ◌∷◌, ◌++◌, decimal, codes}
+use Rattle.std.specs.Prelude.{ℕ, ◌<◌, ◌^◌, suc, max, ℤ, pos, negsuc, neg_ℤ, unsigned_abs, List, [], ◌∷◌, ◌++◌, decimal, codes}
 use Rattle.design_model.specs.declared.act.Act.{Act}
 use Rattle.design_model.specs.declared.act.Act.TheVariants.{Needle, Trim, Stop}
 use Rattle.design_model.specs.declared.act.NumberedAct.{NumberedAct}
@@ -68,6 +68,17 @@ numbers_of acts count = record {
   extents = extents_of acts;
   last = place_along origin acts;
 }
+
+-- each number fits the places of its field
+pub record FitsPlaces (numbers : HeaderNumbers) : Type 0 where
+  pub records : numbers.records < 10 ^ 7
+  pub stops : numbers.stops < 10 ^ 3
+  pub right : numbers.extents.right < 10 ^ 5
+  pub left : numbers.extents.left < 10 ^ 5
+  pub up : numbers.extents.up < 10 ^ 5
+  pub down : numbers.extents.down < 10 ^ 5
+  pub x : unsigned_abs numbers.last.x < 10 ^ 5
+  pub y : unsigned_abs numbers.last.y < 10 ^ 5
 
 -- the fields of a label and numbers
 abbrev pub fields_of : List ℕ → HeaderNumbers → List ℕ

@@ -6,7 +6,7 @@ pub mod Header
 pub mod Reading
 pub mod Writing
 pub mod Cuts
-pub mod Surveys
+pub mod Steps
 pub mod Format
 pub mod Laws
 pub mod Samples

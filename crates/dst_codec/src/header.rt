@@ -1,10 +1,10 @@
-ghost use Rattle.std.specs.Prelude.{◌≡◌, ◌++◌, ◌≤◌, [], length, decimal, neg_ℤ, codes, OnOk, IfOk, unsigned_abs};
+ghost use Rattle.std.specs.Prelude.{◌≡◌, ◌++◌, ◌<◌, ◌≤◌, ◌^◌, [], length, decimal, neg_ℤ, codes, OnOk, IfOk, unsigned_abs};
 ghost use Rattle.design_model.specs.declared.design.TheConstants.{MAX_LABEL};
-ghost use Rattle.design_model.specs.declared.point.TheConstants.{NEEDLE_LIMIT};
 ghost use Rattle.format_traits.specs.LabelFields.{filled_left, label_field};
-ghost use Rattle.dst_codec.specs.Header.{field, number_field, signed_field, fields_of, header_of, sign_of as sign_code};
+ghost use Rattle.dst_codec.specs.declared.header.TheConstants.{HEADER_LENGTH};
+ghost use Rattle.dst_codec.specs.Header.{FitsPlaces, field, number_field, signed_field, fields_of, header_of, sign_of as sign_code};
 
-use design_model::{Bytes, MAX_LABEL, Memory, NEEDLE_LIMIT, Point};
+use design_model::{Bytes, MAX_LABEL, Memory, Point};
 use format_traits::{put_label, put_spaces};
 use std::alloc::Global;
 
@@ -34,8 +34,9 @@ pub struct HeaderNumbers {
 /// The header of a file.
 pub fn new_header(alloc: Global, label: &[u8], numbers: &HeaderNumbers) -> Result<Bytes, Memory>
     requires label { length label.now ≤ MAX_LABEL }
-    requires last { unsigned_abs numbers.now.last.y ≤ NEEDLE_LIMIT }
-    ensures { IfOk result (λ bytes. bytes ≡ header_of label.now numbers.now) }
+    requires fits { FitsPlaces numbers.now }
+    ensures value { IfOk result (λ header. header ≡ header_of label.now numbers.now) }
+    ensures length { IfOk result (λ header. length header ≡ HEADER_LENGTH) }
 {
     let mut header = Bytes::new(alloc);
     put_fields(alloc, &mut header, label, numbers)?;
@@ -53,7 +54,7 @@ fn put_fields(
 ) -> Result<(), Memory>
     requires start { out.old ≡ [] }
     requires label { length label.now ≤ MAX_LABEL }
-    requires last { unsigned_abs numbers.now.last.y ≤ NEEDLE_LIMIT }
+    requires fits { FitsPlaces numbers.now }
     ensures { OnOk result (out.new ≡ fields_of label.now numbers.now) }
 {
     put_label_field(out, label)?;
@@ -144,7 +145,7 @@ fn sign_of(number: i32) -> u8
 }
 
 fn opposite(number: i32) -> i32
-    requires { unsigned_abs number ≤ NEEDLE_LIMIT }
+    requires { unsigned_abs number < 10 ^ 5 }
     ensures { result ≡ neg_ℤ number }
 {
     -number

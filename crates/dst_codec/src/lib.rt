@@ -4,6 +4,7 @@
 
 mod bits;
 mod dst;
+mod extents;
 mod header;
 mod promises;
 mod reading;
@@ -12,7 +13,6 @@ mod record_kind;
 mod records;
 mod runs;
 mod spelling;
-mod survey;
 #[cfg(test)]
 mod tests;
 mod writing;

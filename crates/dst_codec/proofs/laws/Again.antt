@@ -1,5 +1,5 @@
 -- What is written reads again, with each move within the limit; and a plain design is written.
-use Rattle.std.proofs.Common.{◌≡◌, ℕ, ◌+◌, true, IsTrue, List, [], ◌++◌, length, Option, Some, None, Ok, IfOk, IsOkAnd, refl, ap, sym, ◌∙◌, subst, arith}
+use Rattle.std.proofs.Common.{◌≡◌, ℕ, true, IsTrue, List, [], ◌++◌, length, Option, Some, None, Ok, IfOk, IsOkAnd, refl, ap, sym, ◌∙◌, subst, arith}
 use Rattle.std.proofs.lemmas.Bool.{le-ltb}
 use Rattle.std.proofs.lemmas.List.{append_assoc}
 use Rattle.std.specs.List.{concat, list_all}
@@ -12,26 +12,24 @@ use Rattle.format_traits.specs.Accepted.{AcceptedIsSmall}
 use Rattle.format_traits.specs.Laws.{IsAgain, MovesWithin, IsCodec}
 use Rattle.format_traits.specs.Readings.{loaded_with}
 use Rattle.format_traits.specs.Records.{moves_of}
-use Rattle.format_traits.specs.Refusals.{beginning, first_refusal, unless_refused}
+use Rattle.format_traits.specs.Refusals.{first_refusal, unless_refused}
 use Rattle.format_traits.specs.Rereading.{SpelledActsReadAgain}
 use Rattle.dst_codec.specs.declared.dst.TheConstants.{LIMIT, MAX_STOPS}
 use Rattle.dst_codec.specs.declared.header.TheConstants.{HEADER_LENGTH}
 use Rattle.dst_codec.specs.Format.{dst}
-use Rattle.dst_codec.specs.Header.{header, numbers_of}
+use Rattle.dst_codec.specs.Header.{header_of}
 use Rattle.dst_codec.specs.Reading.{reads, records_in, label_of}
 use Rattle.dst_codec.specs.Spelling.{end_record}
+use Rattle.dst_codec.specs.Steps.{body_of, header_numbers}
 use Rattle.dst_codec.specs.Writing.{spelling, reach, records_of, file_of}
-use Rattle.dst_codec.proofs.HeaderLemmas.{length-header_of, numbers_fit}
+use Rattle.dst_codec.proofs.HeaderLemmas.{length-header_of}
 use Rattle.dst_codec.proofs.ReadingLemmas.{reads-file, records_in-file}
-use Rattle.dst_codec.proofs.SurveyLemmas.{records_small}
+use Rattle.dst_codec.proofs.WritingLemmas.{accepted_fit}
 use Rattle.dst_codec.proofs.laws.Taken.{read_after, taken, rereads, ends}
 
--- the header of a design's file, and what stands behind it
+-- the header of a design's file
 abbrev pub head_of : DesignValue → List ℕ
-head_of d = header d.label (acts_of d) (length (records_of (acts_of d)) + 1)
-
-abbrev pub body_of : DesignValue → List ℕ
-body_of d = concat (records_of (acts_of d)) ++ end_record
+head_of d = header_of d.label (header_numbers d)
 
 file_parts : (d : DesignValue) → file_of d.label (acts_of d) ≡ head_of d ++ body_of d
 file_parts d = append_assoc (head_of d) (concat (records_of (acts_of d))) end_record
@@ -39,13 +37,7 @@ file_parts d = append_assoc (head_of d) (concat (records_of (acts_of d))) end_re
 length-head_of : AcceptedIsSmall → (d : DesignValue) → KeepsLimits d → first_refusal reach (acts_of d) ≡ None
     → length (head_of d) ≡ HEADER_LENGTH
 length-head_of small d limits passed =
-    let acts = acts_of d in
-    let few = small reach d limits passed in
-    let records = records_small beginning acts in
-    let stops = few.stops MAX_STOPS refl in
-    let count = length (records_of acts) + 1 in
-    length-header_of d.label (numbers_of acts count) limits.label.short
-    (numbers_fit acts count few.in_range (omega (arith, records, few.room)) (omega (arith, stops)))
+    length-header_of d.label (header_numbers d) limits.label.short (accepted_fit small d limits passed)
 
 -- what the file of a design reads as
 pub record Written (d : DesignValue) : Type 0 where

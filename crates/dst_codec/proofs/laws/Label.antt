@@ -1,5 +1,5 @@
 -- The label of a design is read back from its file.
-use Rattle.std.proofs.Common.{◌≡◌, ℕ, ◌+◌, ◌-◌, List, [], ◌∷◌, ◌++◌, length, take, replicate, codes, pos, neg_ℤ, IsOkAnd, refl, ap, sym, ◌∙◌, subst}
+use Rattle.std.proofs.Common.{◌≡◌, ℕ, ◌-◌, List, [], ◌∷◌, ◌++◌, length, take, replicate, codes, pos, neg_ℤ, IsOkAnd, refl, ap, sym, ◌∙◌, subst}
 use Rattle.std.proofs.lemmas.List.{append_assoc, take_at}
 use Rattle.design_model.specs.declared.design.TheConstants.{MAX_LABEL}
 use Rattle.design_model.specs.Acts.{acts_of}
@@ -9,11 +9,12 @@ use Rattle.format_traits.specs.Refusals.{first_refusal}
 use Rattle.format_traits.specs.Rereading.{SpelledActsReadAgain}
 use Rattle.dst_codec.specs.declared.header.HeaderNumbers.{HeaderNumbers}
 use Rattle.dst_codec.specs.declared.header.TheConstants.{HEADER_LENGTH}
-use Rattle.dst_codec.specs.Header.{field, number_field, signed_field, fields_of, header_of, numbers_of}
+use Rattle.dst_codec.specs.Header.{field, number_field, signed_field, fields_of, header_of}
 use Rattle.dst_codec.specs.Laws.{LabelReadsAgain}
 use Rattle.dst_codec.specs.Reading.{reads, label_of}
-use Rattle.dst_codec.specs.Writing.{reach, records_of}
-use Rattle.dst_codec.proofs.laws.Again.{body_of, written, of_written}
+use Rattle.dst_codec.specs.Steps.{body_of, header_numbers}
+use Rattle.dst_codec.specs.Writing.{reach}
+use Rattle.dst_codec.proofs.laws.Again.{written, of_written}
 
 -- the first of many parts
 front : (z a b c d e f g h i j k l m n o : List ℕ) → length z ≡ 16
@@ -47,6 +48,6 @@ label_reads_again small law fields d limits =
     refl (λ passed. let w = written small law d limits passed in
     let field = fields d.label limits.label in
     let same : w.loaded.design.label ≡ d.label = w.label
-    ∙ label_of-file d.label (numbers_of (acts_of d) (length (records_of (acts_of d)) + 1)) (body_of d) field.places
+    ∙ label_of-file d.label (header_numbers d) (body_of d) field.places
     ∙ field.back in
     subst (λ result. IsOkAnd result (λ loaded. loaded.design.label ≡ d.label)) (sym w.read) same)

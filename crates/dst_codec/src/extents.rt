@@ -1,0 +1,47 @@
+ghost use Rattle.std.specs.Prelude.{◌≡◌};
+ghost use Rattle.design_model.specs.Acts.{acts_of};
+ghost use Rattle.dst_codec.specs.Header.{above as above_of, below as below_of, extents_of};
+ghost use Rattle.dst_codec.specs.Steps.{reached};
+
+use crate::header::Extents;
+use design_model::{Design, Extent, extent};
+
+/// How far the needles of a design reach from the origin.
+pub fn needle_extents(design: &Design) -> Extents
+    ensures { result ≡ extents_of (acts_of design.now) }
+{
+    extents_within(extent(design))
+}
+
+fn extents_within(extent: Option<Extent>) -> Extents
+    ensures { result ≡ reached extent }
+{
+    match extent {
+        Some(Extent { min, max }) => Extents {
+            right: above(max.x),
+            left: below(min.x),
+            up: below(min.y),
+            down: above(max.y),
+        },
+        None => Extents {
+            right: 0,
+            left: 0,
+            up: 0,
+            down: 0,
+        },
+    }
+}
+
+/// A number above 0, or 0.
+fn above(number: i32) -> u32
+    ensures { result ≡ above_of number }
+{
+    if number < 0 { 0 } else { number.unsigned_abs() }
+}
+
+/// The size of a number below 0, or 0.
+fn below(number: i32) -> u32
+    ensures { result ≡ below_of number }
+{
+    if number < 0 { number.unsigned_abs() } else { 0 }
+}
