@@ -1,12 +1,14 @@
 -- How acts are written, in any format: the records of each act in order. A format says how it
 -- spells its records; which records an act takes is the same for all.
-use Rattle.std.specs.Prelude.{◌≡◌, ℕ, ◌-◌, max, Bool, true, false, List, [], ◌∷◌, ◌++◌, map, Option, Some, None, Result, Ok, Err, ◌==◌, if◌then◌else◌}
+use Rattle.std.specs.Prelude.{◌≡◌, ℕ, ◌≤◌, ◌-◌, max, Bool, IsTrue, true, false, List, [], ◌∷◌, ◌++◌, map, Option, Some, None, Result, Ok, Err, ◌==◌, if◌then◌else◌}
 use Rattle.std.specs.List.{concat}
 use Rattle.design_model.specs.declared.act.Act.{Act}
 use Rattle.design_model.specs.declared.act.Act.TheVariants.{Needle, Trim, Stop}
 use Rattle.design_model.specs.declared.act.NumberedAct.{NumberedAct}
+use Rattle.design_model.specs.declared.design.TheConstants.{MAX_COMMANDS}
 use Rattle.design_model.specs.declared.point.Point.{Point}
-use Rattle.design_model.specs.Points.{origin, move_between}
+use Rattle.design_model.specs.declared.point.TheConstants.{NEEDLE_LIMIT}
+use Rattle.design_model.specs.Points.{is_within, origin, move_between}
 use Rattle.format_traits.specs.declared.fault.WriteFault.{WriteFault}
 use Rattle.format_traits.specs.declared.fault.WriteFault.TheVariants as fault
 use Rattle.format_traits.specs.declared.standing.Reach.{Reach}
@@ -79,6 +81,12 @@ RefusedAs refusal (fault.FloatTooLong number) = refusal ≡ Some (fault.FloatToo
 RefusedAs refusal (fault.TooManyStops number) = refusal ≡ Some (fault.TooManyStops number)
 RefusedAs refusal (fault.TooLong number) = refusal ≡ Some (fault.TooLong number)
 RefusedAs refusal fault.Memory = Unit {0}
+
+-- the place is in a needle's range, the room is within the limit, and the stops are within the room
+pub record IsSound (standing : Standing) : Type 0 where
+  pub place : IsTrue (is_within NEEDLE_LIMIT standing.place)
+  pub room : standing.room ≤ MAX_COMMANDS
+  pub stops : standing.stops ≤ standing.room
 
 -- the act is not refused by itself
 abbrev pub IsAccepted : Reach → Standing → Act → Type 0

@@ -8,7 +8,7 @@ ghost use Rattle.design_model.specs.Commands.{is_in_range};
 ghost use Rattle.design_model.specs.Points.{is_within, size_of as size};
 ghost use Rattle.format_traits.specs.declared.placing.TheConstants.{GREATEST_MOVE, MOST_HOPS};
 ghost use Rattle.format_traits.specs.Placing.{parts_from};
-ghost use Rattle.format_traits.specs.Spellings.{IsAccepted, PutsAct, PutsActs, float_records, hop_records, is_most as is_most_of, needle_records, records_of_act, stitched_records};
+ghost use Rattle.format_traits.specs.Spellings.{IsAccepted, IsSound, PutsAct, PutsActs, float_records, hop_records, is_most as is_most_of, needle_records, records_of_act, stitched_records};
 
 use crate::fault::WriteFault;
 use crate::placing::{GREATEST_MOVE, MOST_HOPS, hops, move_between, part_move};
@@ -44,23 +44,63 @@ pub fn put_acts<W: RecordWriter>(
 }
 
 /// Adds the records of an act, after which it stands otherwise, or says why the format cannot write it.
+// Nearly all acts are needles that are sewn on: what they take stands in the loop, and all else
+// apart.
+#[inline(always)]
 fn put_act<W: RecordWriter>(
     writer: &W,
     out: &mut Bytes,
     standing: &mut Standing,
     act: NumberedAct,
 ) -> Result<(), WriteFault>
-    requires place { IsTrue (is_within NEEDLE_LIMIT standing.old.place) }
+    requires sound { IsSound standing.old }
     requires act { IsTrue (is_act_in_range act.act) }
-    requires room { standing.old.room ≤ MAX_COMMANDS }
-    requires stops { standing.old.stops ≤ standing.old.room }
     ensures value { PutsAct (W.spelling writer.now) (W.reach writer.now) standing.old act
         out.old result standing.new out.new }
+    ensures sound { OnOk result (IsSound standing.new) }
+{
+    match act.act {
+        Act::Needle { float: false, .. } if !standing.loose => {
+            put_act_here(writer, out, standing, act)
+        }
+        _ => {
+            let mut after = *standing;
+            put_act_apart(writer, out, &mut after, act)?;
+            *standing = after;
+            Ok(())
+        }
+    }
+}
 
-    // What holds of it goes on holding.
-    ensures place { OnOk result (IsTrue (is_within NEEDLE_LIMIT standing.new.place)) }
-    ensures room { OnOk result (standing.new.room ≤ MAX_COMMANDS) }
-    ensures stops { OnOk result (standing.new.stops ≤ standing.new.room) }
+#[cold]
+#[inline(never)]
+fn put_act_apart<W: RecordWriter>(
+    writer: &W,
+    out: &mut Bytes,
+    standing: &mut Standing,
+    act: NumberedAct,
+) -> Result<(), WriteFault>
+    requires sound { IsSound standing.old }
+    requires act { IsTrue (is_act_in_range act.act) }
+    ensures value { PutsAct (W.spelling writer.now) (W.reach writer.now) standing.old act
+        out.old result standing.new out.new }
+    ensures sound { OnOk result (IsSound standing.new) }
+{
+    put_act_here(writer, out, standing, act)
+}
+
+#[inline(always)]
+fn put_act_here<W: RecordWriter>(
+    writer: &W,
+    out: &mut Bytes,
+    standing: &mut Standing,
+    act: NumberedAct,
+) -> Result<(), WriteFault>
+    requires sound { IsSound standing.old }
+    requires act { IsTrue (is_act_in_range act.act) }
+    ensures value { PutsAct (W.spelling writer.now) (W.reach writer.now) standing.old act
+        out.old result standing.new out.new }
+    ensures sound { OnOk result (IsSound standing.new) }
 {
     let reach = writer.reach();
     if let Some(fault) = reach.refusal(standing, act.number, act.act) {
@@ -71,6 +111,8 @@ fn put_act<W: RecordWriter>(
     Ok(())
 }
 
+// In line, since a call would keep the loop's standing in memory.
+#[inline(always)]
 fn put_act_records<W: RecordWriter>(
     writer: &W,
     out: &mut Bytes,
@@ -96,6 +138,7 @@ fn put_act_records<W: RecordWriter>(
     }
 }
 
+#[inline(always)]
 fn put_needle<W: RecordWriter>(
     writer: &W,
     out: &mut Bytes,

@@ -17,9 +17,7 @@ loop-command-preserved g c =
     let puts = c.in_default-put_act.ensures.value in
     record {
       number = omega (arith, c.next.ensures.number, now.invariant.number);
-      place = c.in_default-put_act.ensures.place;
-      room = c.in_default-put_act.ensures.room;
-      stops = c.in_default-put_act.ensures.stops;
+      sound = c.in_default-put_act.ensures.sound;
       refusal = refusal_rest reach now.standing _ c.in-Some.act _ _ _ is puts.0 puts.2 now.invariant.refusal;
       written = written_rest spelling reach now.standing _ c.in-Some.act _ _ _ _ _ is puts.2 puts.1 now.invariant.written;
       stands = stands_rest reach now.standing _ c.in-Some.act _ _ _ is puts.2 now.invariant.stands;

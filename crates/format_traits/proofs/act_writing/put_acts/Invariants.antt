@@ -1,21 +1,16 @@
-use Rattle.std.proofs.Common.{◌≡◌, ◌≤◌, ◌++◌, drop, IsTrue}
+use Rattle.std.proofs.Common.{◌≡◌, ◌++◌, drop}
 use Rattle.std.specs.List.{concat}
-use Rattle.design_model.specs.declared.design.TheConstants.{MAX_COMMANDS}
-use Rattle.design_model.specs.declared.point.TheConstants.{NEEDLE_LIMIT}
 use Rattle.design_model.specs.Acts.{acts_along}
 use Rattle.design_model.specs.ActWalks.{acts_after}
-use Rattle.design_model.specs.Points.{is_within}
 use Rattle.format_traits.specs.Refusals.{refusal_from, first_refusal, beginning}
-use Rattle.format_traits.specs.Spellings.{records_from, records_of, standing_along}
+use Rattle.format_traits.specs.Spellings.{IsSound, records_from, records_of, standing_along}
 use Rattle.format_traits.proofs.act_writing.put_acts.Given as goal
 
 -- the records so far and those of the acts that are left are all records; so with the refusals
 abbrev pub invariant-loop-command : goal.invariant-loop-command
 invariant-loop-command g l = let w = g.W.RecordWriter in record {
   number : l.walk.number ≡ l.command-index;
-  place : IsTrue (is_within NEEDLE_LIMIT l.standing.place);
-  room : l.standing.room ≤ MAX_COMMANDS;
-  stops : l.standing.stops ≤ l.standing.room;
+  sound : IsSound l.standing;
   refusal : refusal_from (w.reach l.writer) l.standing (acts_after l.walk (drop l.command-index l.commands))
       ≡ first_refusal (w.reach l.writer) (acts_along l.commands);
   written : l.out ++ concat (records_from (w.spelling l.writer) (w.reach l.writer) l.standing
