@@ -44,15 +44,15 @@ fn words(rt: &HostRuntime) -> io::Result<Vec<String>> {
 fn start(rt: &HostRuntime, words: &[String]) -> Result<Status, AllocError> {
     let alloc = rt.alloc();
     let mut formats: Vec<Box<dyn Format>> = Vec::new(alloc);
-    formats.push(Box::new(alloc, Dst)?)?;
-    formats.push(Box::new(alloc, Exp)?)?;
-    formats.push(Box::new(alloc, Pec)?)?;
-    formats.push(Box::new(alloc, Pes)?)?;
-    formats.push(Box::new(alloc, List::new())?)?;
+    formats.push(Box::new(alloc, Dst::new(alloc))?)?;
+    formats.push(Box::new(alloc, Exp::new(alloc))?)?;
+    formats.push(Box::new(alloc, Pec::new(alloc))?)?;
+    formats.push(Box::new(alloc, Pes::new(alloc))?)?;
+    formats.push(Box::new(alloc, List::new(alloc))?)?;
     let mut store = DirStore::new(alloc, rt);
     let mut out = StdSink::new(rt.stdout());
     let mut err = StdSink::new(rt.stderr());
-    Ok(run(alloc, words, &formats, &mut store, &mut out, &mut err))
+    Ok(run(alloc, words, &mut formats, &mut store, &mut out, &mut err))
 }
 
 fn tell_memory(rt: &HostRuntime) -> Status {

@@ -1,11 +1,11 @@
 -- How a run ends.
 use Rattle.std.specs.Prelude.{◌≡◌, ℕ, ◌<◌, ◌⊎◌, List, length, Option, Some, None, Result, Ok, Err}
+use Rattle.design_model.specs.Designs.{DesignValue}
 use Rattle.design_picture.specs.Sheets.{picture_of}
 use Rattle.format_traits.specs.declared.fault.ReadFault.{ReadFault}
 use Rattle.format_traits.specs.declared.loaded.Loaded.{Loaded}
 use Rattle.format_traits.specs.Meanings.{Meaning}
 use Rattle.outside_io.specs.declared.limits.TheConstants.{MAX_FILE}
-use Rattle.outside_io.specs.Causes.{IsLonger}
 use Rattle.outside_io.specs.Files.{ChangesOnly, Files, HoldsNow, WhereTold}
 use Rattle.stitch_picture.specs.declared.finish.Halt.{Halt}
 use Rattle.stitch_picture.specs.declared.finish.Halt.TheVariants as halt
@@ -46,17 +46,10 @@ SaysNone m (Some content) = (MAX_FILE < length content)
 abbrev pub IsRefused : Meaning → List ℕ → Option Files → Type 0
 IsRefused m input files = WhereTold files (λ told. SaysNone m (told input))
 
--- what the reading of the input's bytes answers
-abbrev pub GivesBytes : List ℕ → Option Files → Result (List ℕ) Halt → Type 0
-GivesBytes input files (Ok bytes) = HoldsNow files input bytes
-GivesBytes input files (Err halt.Refused) = WhereTold files (λ told. IsLonger (told input) MAX_FILE)
-GivesBytes input files (Err other) = Unit {0}
-
--- what the showing of bytes answers
-abbrev pub GivesPicture : Meaning → List ℕ → Result (List ℕ) Halt → Type 0
-GivesPicture m bytes (Ok text) = IsPicture m bytes text
-GivesPicture m bytes (Err halt.Refused) = (fault : ReadFault) × (m.reads bytes ≡ Err fault)
-GivesPicture m bytes (Err other) = Unit {0}
+-- what the drawing of a design answers
+abbrev pub Draws : DesignValue → Result (List ℕ) Halt → Type 0
+Draws d (Ok text) = text ≡ picture_of d
+Draws d (Err why) = why ≡ halt.Memory
 
 -- what the showing of a file answers
 abbrev pub ShowsFile : Meaning → List ℕ → Option Files → Result (List ℕ) Halt → Type 0

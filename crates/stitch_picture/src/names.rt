@@ -1,8 +1,8 @@
 ghost use Rattle.std.specs.Prelude.{◌≡◌, IfSome, map, option_map, string_bytes};
 ghost use Rattle.outside_io.specs.Files.{IsName};
-ghost use Rattle.stitch_picture.specs.Orders.{format_of, is_name as is_a_name, is_svg as is_an_svg, names_by, names_of, names_value};
+ghost use Rattle.stitch_picture.specs.Orders.{is_name as is_a_name, is_svg as is_an_svg, names_by, names_of, names_value};
 
-use format_traits::{Format, find};
+
 use outside_io::MAX_NAME;
 
 /// The input file and the picture's file.
@@ -48,18 +48,4 @@ fn is_svg(word: &str) -> bool
     let bytes = word.as_bytes();
     let (_, tail) = bytes.split_at(bytes.len().saturating_sub(4));
     tail == b".svg".as_slice()
-}
-
-/// The format of a name, by its ending.
-pub(crate) fn format_for<'a>(
-    formats: &'a [Box<dyn Format>],
-    name: &str,
-) -> Option<&'a Box<dyn Format>>
-    ensures { option_map (λ f. meaning f.now) result
-        ≡ format_of (map (λ f. meaning f) formats.now) name.now }
-{
-    match find(formats, name) {
-        Some(place) => Some(&formats[place]),
-        None => None,
-    }
 }

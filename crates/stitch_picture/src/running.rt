@@ -5,9 +5,9 @@ ghost use Rattle.stitch_picture.specs.Runs.{Ends, OrderEnds};
 ghost use Rattle.stitch_picture.specs.declared.finish.Status.TheVariants as status;
 
 use crate::finish::{Status, tell, tell_halt, tell_usage};
-use crate::names::{Names, format_for, names_in};
+use crate::names::{Names, names_in};
 use crate::reading::picture_in;
-use format_traits::Format;
+use format_traits::{Format, find};
 use outside_io::{Failed, Sink, Store};
 use std::alloc::Global;
 
@@ -16,11 +16,11 @@ use std::alloc::Global;
 pub fn run<S: Store, E: Sink>(
     alloc: Global,
     words: &[String],
-    formats: &[Box<dyn Format>],
+    formats: &mut [Box<dyn Format>],
     store: &mut S,
     err: &mut E,
 ) -> Status
-    ensures { Ends (order_of (map (λ f. meaning f) formats.now) (map string_bytes words.now))
+    ensures { Ends (order_of (map (λ f. meaning f) formats.old) (map string_bytes words.now))
         (S.sight store.old).files (S.sight store.new).files result }
 {
     match names_in(words) {
@@ -32,17 +32,24 @@ pub fn run<S: Store, E: Sink>(
 fn run_named<S: Store, E: Sink>(
     alloc: Global,
     names: Names<'_>,
-    formats: &[Box<dyn Format>],
+    formats: &mut [Box<dyn Format>],
     store: &mut S,
     err: &mut E,
 ) -> Status
     requires input { IsName names.input.now }
     requires output { IsName names.output.now }
-    ensures { Ends (order_by (map (λ f. meaning f) formats.now) names.entry.input.now
+    ensures { Ends (order_by (map (λ f. meaning f) formats.old) names.entry.input.now
         names.entry.output.now) (S.sight store.old).files (S.sight store.new).files result }
 {
-    match format_for(formats, names.input) {
-        Some(format) => run_with(alloc, names.input, names.output, format, store, err),
+    match find(formats, names.input) {
+        Some(place) => run_with(
+            alloc,
+            names.input,
+            names.output,
+            &mut formats[place],
+            store,
+            err,
+        ),
         None => tell_usage(err),
     }
 }
@@ -51,13 +58,13 @@ fn run_with<S: Store, E: Sink>(
     alloc: Global,
     input: &str,
     output: &str,
-    format: &Box<dyn Format>,
+    format: &mut Box<dyn Format>,
     store: &mut S,
     err: &mut E,
 ) -> Status
     requires input { IsName input.now }
     requires output { IsName output.now }
-    ensures { OrderEnds (meaning format.now) input.now output.now
+    ensures { OrderEnds (meaning format.old) input.now output.now
         (S.sight store.old).files (S.sight store.new).files result }
 {
     match picture_in(alloc, input, format, store) {

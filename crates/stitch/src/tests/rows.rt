@@ -153,10 +153,10 @@ pub fn answer(
         owned.push(String::from_str(alloc, word)?)?;
     }
     let mut formats: Vec<Box<dyn Format>> = Vec::new(alloc);
-    formats.push(Box::new(alloc, Dst)?)?;
-    formats.push(Box::new(alloc, Exp)?)?;
-    formats.push(Box::new(alloc, Pec)?)?;
-    formats.push(Box::new(alloc, Pes)?)?;
-    formats.push(Box::new(alloc, List::new())?)?;
-    Ok(run(alloc, &owned, &formats, store, out, err))
+    formats.push(Box::new(alloc, Dst::new(alloc))?)?;
+    formats.push(Box::new(alloc, Exp::new(alloc))?)?;
+    formats.push(Box::new(alloc, Pec::new(alloc))?)?;
+    formats.push(Box::new(alloc, Pes::new(alloc))?)?;
+    formats.push(Box::new(alloc, List::new(alloc))?)?;
+    Ok(run(alloc, &owned, &mut formats, store, out, err))
 }

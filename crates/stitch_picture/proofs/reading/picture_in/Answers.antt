@@ -1,7 +1,7 @@
-use Rattle.stitch_picture.proofs.RunLemmas.{not_given}
+use Rattle.std.proofs.Common.{sym}
 use Rattle.stitch_picture.proofs.reading.picture_in.Goals as goal
 
-pub returns-in_err-bytes-clause-shown : goal.returns-in_err-bytes-clause-shown
-returns-in_err-bytes-clause-shown g c =
-    not_given ((g.dyn-1.0.entry c.args.format.now.vtable).1.meaning c.args.format.now.value) _ _ _ _
-    c.from_residual.ensures.1 c.in_err-bytes.ensures.gives
+pub returns-in-Err-Get-clause-shown : goal.returns-in-Err-Get-clause-shown
+returns-in-Err-Get-clause-shown g c =
+    c.unread.ensures ((g.dyn-1.0.entry c.args.format.now.vtable).1.meaning c.args.format.now.value) c.args.input.now (g.S.Store.sight c.args.store.now) (g.S.Store.sight c.load.new.store)
+    (rw (c.in-Err-Get.field-0-is, sym c.in-Err-Get.fault-is) at c.in-Err-Get.ensures.loads)
