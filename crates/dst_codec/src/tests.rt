@@ -1,11 +1,54 @@
-ghost use Rattle.std.specs.Prelude.{◌≡◌, IfOk};
+ghost use Rattle.std.specs.Prelude.{◌≡◌, IfOk, IsOk, false};
 ghost use Rattle.dst_codec.specs.Samples.{square as square_value};
 
 use crate::{Dst, decode_move, encode_move};
-use design_model::{Command, Design, ModelFault, Point, counts};
-use format_traits::{Format, ReadFault, WriteFault, find};
+use design_model::{Command, Design, Memory, ModelFault, Point, counts};
+use format_traits::{Format, Loaded, MAX_FED, ReadFault, WriteFault, find};
 use std::alloc::{AllocError, Global};
+use std::process::Abort;
 use std::test::Fail;
+
+/// The sizes of the pieces that files are fed in, in bytes; no file has as many as the last.
+const SIZES: [usize; 9] = [1, 2, 3, 5, 511, 512, 513, 4_096, 1_000_000];
+
+/// Feeds a piece.
+fn feed(rt: &impl Abort, format: &mut Dst, piece: &[u8]) -> Result<(), Memory>
+    ensures { IsOk result → (⟦<Dst as Format>⟧.feeding format.new).spoiled ≡ false }
+{
+    assert!(rt; format.taken().saturating_add(piece.len() as u64) <= MAX_FED);
+    format.feed(piece)
+}
+
+/// What stands in a file.
+fn parts(loaded: &Loaded) -> (&[u8], &[u8], &[Command], bool) {
+    let design = &loaded.design;
+    (
+        design.label(),
+        design.threads(),
+        design.commands(),
+        loaded.ended,
+    )
+}
+
+/// What a file reads as: one object reads it whole, and then in pieces of each size.
+fn read(rt: &impl Abort, alloc: Global, bytes: &[u8]) -> Result<Loaded, ReadFault> {
+    let mut format = Dst::new(alloc);
+    let whole = format.decode(alloc, bytes);
+    for size in SIZES {
+        assert!(rt; size > 0);
+        for piece in bytes.chunks(size) {
+            feed(rt, &mut format, piece)?;
+        }
+        assert_eq!(rt; format.taken(), bytes.len() as u64);
+        let fed = format.finish();
+        assert_eq!(rt;
+            fed.as_ref().map(parts),
+            whole.as_ref().map(parts),
+            "pieces of {size}"
+        );
+    }
+    whole
+}
 
 /// A closed square of 30 from the origin to the right and downwards.
 fn square(alloc: Global) -> Result<Design, ModelFault>
@@ -43,7 +86,10 @@ fn a_square_has_its_539_bytes(rt: HostRuntime) -> Result<(), Fail> {
     expected.extend_from_slice(&[
         0x82, 0x41, 0x83, 0x82, 0x82, 0x83, 0x82, 0x41, 0x83, 0x00, 0x00, 0xF3,
     ])?;
-    let file = Dst.encode(alloc, &design).ok().ok_or("not written")?;
+    let file = Dst::new(alloc)
+        .encode(alloc, &design)
+        .ok()
+        .ok_or("not written")?;
     assert_eq!(rt; file.as_slice(), expected.as_slice());
     assert_eq!(rt; file.len(), 539);
     Ok(())
@@ -61,8 +107,11 @@ fn spaces(alloc: Global, count: u32) -> Result<Vec<u8>, AllocError> {
 fn a_square_reads_as_its_needles_and_a_trim(rt: HostRuntime) -> Result<(), Fail> {
     let alloc = rt.alloc();
     let design = square(alloc).ok().ok_or("no design")?;
-    let file = Dst.encode(alloc, &design).ok().ok_or("not written")?;
-    let loaded = Dst.decode(alloc, file.as_slice()).ok().ok_or("not read")?;
+    let file = Dst::new(alloc)
+        .encode(alloc, &design)
+        .ok()
+        .ok_or("not written")?;
+    let loaded = read(&rt, alloc, file.as_slice()).ok().ok_or("not read")?;
     assert_eq!(rt; loaded.ended, true);
     let expected = [
         Command::Stitch(Point { x: 0, y: 0 }),
@@ -89,7 +138,7 @@ fn the_third_jump_of_a_run_reads_as_a_trim_too(rt: HostRuntime) -> Result<(), Fa
             file.extend_from_slice(&[0, 0, 0x83])?;
         }
         file.extend_from_slice(&[0, 0, 0x03, 0, 0, 0xF3])?;
-        let loaded = Dst.decode(alloc, file.as_slice()).ok().ok_or("not read")?;
+        let loaded = read(&rt, alloc, file.as_slice()).ok().ok_or("not read")?;
         assert_eq!(rt; loaded.design.commands().len(), commands, "{jumps} jumps");
     }
     Ok(())
@@ -100,7 +149,7 @@ fn a_file_without_an_end_is_read(rt: HostRuntime) -> Result<(), Fail> {
     let alloc = rt.alloc();
     let mut file = spaces(alloc, 512)?;
     file.extend_from_slice(&[0x00, 0x05, 0x03, 0x00, 0x05])?;
-    let loaded = Dst.decode(alloc, file.as_slice()).ok().ok_or("not read")?;
+    let loaded = read(&rt, alloc, file.as_slice()).ok().ok_or("not read")?;
     assert_eq!(rt; loaded.ended, false);
     assert_eq!(rt;
         loaded.design.commands(),
@@ -114,7 +163,7 @@ fn a_file_is_refused_at_its_first_fault(rt: HostRuntime) -> Result<(), Fail> {
     let alloc = rt.alloc();
     let short = spaces(alloc, 511)?;
     assert_eq!(rt;
-        Dst.decode(alloc, short.as_slice()).err(),
+        read(&rt, alloc, short.as_slice()).err(),
         Some(ReadFault::Short { at: 511 })
     );
     let mut file = spaces(alloc, 512)?;
@@ -122,15 +171,45 @@ fn a_file_is_refused_at_its_first_fault(rt: HostRuntime) -> Result<(), Fail> {
         file.extend_from_slice(&[0x05, 0x05, 0x07])?;
     }
     assert_eq!(rt;
-        Dst.decode(alloc, file.as_slice()).err(),
+        read(&rt, alloc, file.as_slice()).err(),
         Some(ReadFault::Range { at: 1253 })
     );
     let mut sequin = spaces(alloc, 512)?;
     sequin.extend_from_slice(&[0x00, 0x00, 0x43])?;
     assert_eq!(rt;
-        Dst.decode(alloc, sequin.as_slice()).err(),
+        read(&rt, alloc, sequin.as_slice()).err(),
         Some(ReadFault::Sequin { at: 512 })
     );
+    Ok(())
+}
+
+#[test]
+fn a_command_is_told_once_its_record_is_whole(rt: HostRuntime) -> Result<(), Fail> {
+    let mut format = Dst::new(rt.alloc());
+    let header = spaces(rt.alloc(), 512)?;
+    for byte in &header {
+        feed(&rt, &mut format, &[*byte])?;
+        assert_eq!(rt; format.so_far().len(), 0);
+    }
+    for (byte, told) in [
+        (0x00, 0),
+        (0x00, 0),
+        (0x03, 1),
+        (0x00, 1),
+        (0x05, 1),
+        (0x03, 2),
+        (0x00, 2),
+        (0x00, 2),
+        (0x43, 2),
+        (0x00, 2),
+        (0x50, 2),
+        (0x03, 2),
+    ] {
+        feed(&rt, &mut format, &[byte])?;
+        assert_eq!(rt; format.so_far().len(), told, "{} bytes", format.taken());
+    }
+    assert_eq!(rt; format.taken(), 524);
+    assert_eq!(rt; format.finish().err(), Some(ReadFault::Sequin { at: 518 }));
     Ok(())
 }
 
@@ -142,7 +221,7 @@ fn a_design_of_a_thousand_stops_is_refused_at_the_last(rt: HostRuntime) -> Resul
         design.push(Command::Stop).ok().ok_or("no stop")?;
     }
     assert_eq!(rt;
-        Dst.encode(alloc, &design).err(),
+        Dst::new(alloc).encode(alloc, &design).err(),
         Some(WriteFault::TooManyStops { number: 1000 })
     );
     Ok(())
@@ -163,8 +242,8 @@ fn the_greatest_moves_have_their_one_spelling(rt: HostRuntime) {
 #[test]
 fn a_name_finds_the_format_of_its_last_ending(rt: HostRuntime) -> Result<(), Fail> {
     let mut formats: Vec<Box<dyn Format>> = Vec::new(rt.alloc());
-    formats.push(Box::new(rt.alloc(), Dst)?)?;
-    formats.push(Box::new(rt.alloc(), Dst)?)?;
+    formats.push(Box::new(rt.alloc(), Dst::new(rt.alloc()))?)?;
+    formats.push(Box::new(rt.alloc(), Dst::new(rt.alloc()))?)?;
     for (name, found) in [
         ("sq.DST", Some(0)),
         ("a.b.dst", Some(0)),
@@ -207,8 +286,11 @@ fn large(alloc: Global) -> Result<Design, ModelFault> {
 fn a_large_design_reads_again(rt: HostRuntime) -> Result<(), Fail> {
     let alloc = rt.alloc();
     let design = large(alloc)?;
-    let file = Dst.encode(alloc, &design).ok().ok_or("not written")?;
-    let loaded = Dst.decode(alloc, file.as_slice()).ok().ok_or("not read")?;
+    let file = Dst::new(alloc)
+        .encode(alloc, &design)
+        .ok()
+        .ok_or("not written")?;
+    let loaded = read(&rt, alloc, file.as_slice()).ok().ok_or("not read")?;
     assert_eq!(rt; loaded.ended, true);
     assert_eq!(rt; loaded.design.label(), b"Rose of Damascus".as_slice());
     let all = counts(&loaded.design);
