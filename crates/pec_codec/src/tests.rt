@@ -1,8 +1,85 @@
-use crate::{read_block, write_block};
-use design_model::{Command, Design, ModelFault, Point, counts};
-use format_traits::{ReadFault, WriteFault};
+ghost use Rattle.std.specs.Prelude.{◌≡◌, IsOk, false};
+
+use crate::{BlockReader, read_block, write_block};
+use design_model::{Command, Design, Memory, ModelFault, Point, counts};
+use format_traits::{Fed, Loaded, MAX_FED, ReadFault, WriteFault};
 use std::alloc::{AllocError, Global};
+use std::process::Abort;
 use std::test::Fail;
+
+/// The sizes of the pieces that blocks are fed in, in bytes; no block has as many as the last.
+const SIZES: [usize; 9] = [1, 2, 3, 5, 511, 512, 513, 4_096, 1_000_000];
+
+/// A reader of blocks, and the number of bytes fed to it.
+#[derive(Drop)]
+struct Counted {
+    reader: BlockReader,
+    taken: u64,
+    ghost counts: { (⟦<BlockReader as Fed>⟧.feeding reader).taken ≡ taken },
+}
+
+impl Counted {
+    fn new(alloc: Global) -> Counted {
+        Counted {
+            reader: BlockReader::new(alloc),
+            taken: 0,
+        }
+    }
+
+    fn begin(&mut self, at: u32) {
+        self.reader.begin(at as u64);
+        self.taken = 0;
+    }
+
+    fn feed(&mut self, rt: &impl Abort, piece: &[u8]) -> Result<(), Memory>
+        ensures { IsOk result → (⟦<BlockReader as Fed>⟧.feeding self.new.reader).spoiled ≡ false }
+    {
+        let taken = self.taken.saturating_add(piece.len() as u64);
+        assert!(rt; taken <= MAX_FED);
+        self.taken = taken;
+        self.reader.feed(piece)
+    }
+
+    fn finish(&mut self) -> Result<Loaded, ReadFault> {
+        let told = self.reader.finish();
+        if !matches!(told, Err(ReadFault::Memory)) {
+            self.taken = 0;
+        }
+        told
+    }
+}
+
+/// What stands in a block.
+fn parts(loaded: &Loaded) -> (&[u8], &[u8], &[Command], bool) {
+    let design = &loaded.design;
+    (
+        design.label(),
+        design.threads(),
+        design.commands(),
+        loaded.ended,
+    )
+}
+
+/// What the block at an offset of a file reads as: at once, and by one reader in pieces of each size.
+fn read(rt: &impl Abort, alloc: Global, bytes: &[u8], at: u32) -> Result<Loaded, ReadFault> {
+    let whole = read_block(alloc, bytes, at as u64);
+    let mut reader = Counted::new(alloc);
+    let (_, block) = bytes.split_at_checked(at as usize).unwrap_or((bytes, &[]));
+    for size in SIZES {
+        assert!(rt; size > 0);
+        reader.begin(at);
+        for piece in block.chunks(size) {
+            reader.feed(rt, piece)?;
+        }
+        let fed = reader.finish();
+        assert_eq!(rt;
+            fed.as_ref().map(parts),
+            whole.as_ref().map(parts),
+            "pieces of {size}"
+        );
+    }
+    whole
+}
 
 fn sewn(alloc: Global, commands: &[Command]) -> Result<Design, ModelFault> {
     let mut design = Design::new(alloc);
@@ -23,6 +100,15 @@ fn block_of(alloc: Global, records: &[u8]) -> Result<Vec<u8>, AllocError> {
         bytes.push(b' ')?;
     }
     bytes.extend_from_slice(records)?;
+    Ok(bytes)
+}
+
+/// A file whose block begins at that offset.
+fn file_of(alloc: Global, start: u32, records: &[u8]) -> Result<Vec<u8>, AllocError> {
+    let mut bytes = block_of(alloc, records)?;
+    for _ in 0..start {
+        bytes.insert(0, 7)?;
+    }
     Ok(bytes)
 }
 
@@ -57,7 +143,7 @@ fn a_block_is_read_at_its_offset(rt: HostRuntime) -> Result<(), Fail> {
     let alloc = rt.alloc();
     let mut bytes = block_of(alloc, &[0x00, 0x00, 0x81, 0xF4, 0x80, 0x00, 0xFF])?;
     bytes.insert(0, 7)?;
-    let loaded = read_block(alloc, &bytes, 1).ok().ok_or("not read")?;
+    let loaded = read(&rt, alloc, &bytes, 1).ok().ok_or("not read")?;
     assert_eq!(rt; loaded.ended, true);
     assert_eq!(rt; loaded.design.commands(), [at(0, 0), at(500, 0)].as_slice());
     assert_eq!(rt; loaded.design.threads().len(), 33);
@@ -85,9 +171,59 @@ fn a_block_is_refused_at_its_first_fault(rt: HostRuntime) -> Result<(), Fail> {
         far.extend_from_slice(&[0x87, 0xFF, 0x00])?;
     }
     assert_eq!(rt;
-        read_block(alloc, &far, 0).err(),
+        read(&rt, alloc, &far, 0).err(),
         Some(ReadFault::Range { at: 528 + 14 * 3 })
     );
+    Ok(())
+}
+
+#[test]
+fn a_block_is_read_and_refused_wherever_it_begins(rt: HostRuntime) -> Result<(), Fail> {
+    let alloc = rt.alloc();
+    for start in [0, 8, 22] {
+        for (records, commands, ended) in [
+            ([0x00, 0x00, 0x81].as_slice(), [at(0, 0)].as_slice(), false),
+            (
+                &[0x00, 0x00, 0xFE, 0xB0, 0x02, 0x81, 0xF4, 0x80, 0x00, 0xFF],
+                &[at(0, 0), Command::Stop, at(500, 0)],
+                true,
+            ),
+        ] {
+            let file = file_of(alloc, start, records)?;
+            let loaded = read(&rt, alloc, &file, start)?;
+            assert_eq!(rt; loaded.design.commands(), commands);
+            assert_eq!(rt; loaded.ended, ended);
+        }
+        let mut short = file_of(alloc, start, &[])?;
+        short.pop();
+        assert_eq!(rt;
+            read(&rt, alloc, &short, start).err(),
+            Some(ReadFault::Short {
+                at: start as u64 + 527
+            })
+        );
+    }
+    Ok(())
+}
+
+#[test]
+fn a_point_out_of_range_leaves_the_commands_before_it(rt: HostRuntime) -> Result<(), Fail> {
+    let alloc = rt.alloc();
+    let far = block_of(alloc, [[0x87, 0xFF, 0x00]; 15].as_flattened())?;
+    for start in [0, 8, 22] {
+        let mut reader = Counted::new(alloc);
+        reader.begin(start);
+        for piece in [far.as_slice(), &[0x00, 0x00, 0xFF]] {
+            reader.feed(&rt, piece)?;
+            assert_eq!(rt; reader.reader.so_far().len(), 14);
+        }
+        assert_eq!(rt;
+            reader.finish().err(),
+            Some(ReadFault::Range {
+                at: start as u64 + 570
+            })
+        );
+    }
     Ok(())
 }
 
@@ -133,7 +269,7 @@ fn a_large_design_reads_again(rt: HostRuntime) -> Result<(), Fail> {
     let alloc = rt.alloc();
     let design = large(alloc)?;
     let block = write_block(alloc, &design).ok().ok_or("not written")?;
-    let loaded = read_block(alloc, block.as_slice(), 0)
+    let loaded = read(&rt, alloc, block.as_slice(), 0)
         .ok()
         .ok_or("not read")?;
     assert_eq!(rt; loaded.ended, true);
