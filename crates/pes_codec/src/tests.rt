@@ -1,12 +1,80 @@
+ghost use Rattle.std.specs.Prelude.{◌≡◌, IsOk, false};
+
 use crate::{Pec, Pes};
-use design_model::{Command, Design, ModelFault, Point, counts};
-use format_traits::{Format, ReadFault};
-use std::alloc::Global;
+use design_model::{Command, Design, Memory, ModelFault, Point, counts};
+use format_traits::{Format, Loaded, MAX_FED, ReadFault};
+use std::alloc::{AllocError, Global};
+use std::process::Abort;
 use std::test::Fail;
+
+/// The sizes of the pieces that files are fed in, in bytes; no file has as many as the last.
+const SIZES: [usize; 9] = [1, 2, 3, 5, 511, 512, 513, 4_096, 1_000_000];
+
+/// Feeds a piece.
+fn feed<F: Format>(rt: &impl Abort, format: &mut F, piece: &[u8]) -> Result<(), Memory>
+    ensures { IsOk result → (F.feeding format.new).spoiled ≡ false }
+{
+    assert!(rt; format.taken().saturating_add(piece.len() as u64) <= MAX_FED);
+    format.feed(piece)
+}
+
+/// What stands in a file.
+fn parts(loaded: &Loaded) -> (&[u8], &[u8], &[Command], bool) {
+    let design = &loaded.design;
+    (
+        design.label(),
+        design.threads(),
+        design.commands(),
+        loaded.ended,
+    )
+}
+
+/// What a file reads as: one object reads it whole, and then in pieces of each size.
+fn read<F: Format>(
+    rt: &impl Abort,
+    format: &mut F,
+    alloc: Global,
+    bytes: &[u8],
+) -> Result<Loaded, ReadFault> {
+    let whole = format.decode(alloc, bytes);
+    for size in SIZES {
+        assert!(rt; size > 0);
+        for piece in bytes.chunks(size) {
+            feed(rt, format, piece)?;
+        }
+        assert_eq!(rt; format.taken(), bytes.len() as u64);
+        let fed = format.finish();
+        assert_eq!(rt;
+            fed.as_ref().map(parts),
+            whole.as_ref().map(parts),
+            "pieces of {size}"
+        );
+    }
+    whole
+}
+
+fn read_pec(rt: &impl Abort, alloc: Global, bytes: &[u8]) -> Result<Loaded, ReadFault> {
+    read(rt, &mut Pec::new(alloc), alloc, bytes)
+}
+
+fn read_pes(rt: &impl Abort, alloc: Global, bytes: &[u8]) -> Result<Loaded, ReadFault> {
+    read(rt, &mut Pes::new(alloc), alloc, bytes)
+}
 
 /// The records of a square of 30, its trim and its end.
 const RECORDS: [u8; 15] = [
     0x00, 0x00, 0x1E, 0x00, 0x00, 0x1E, 0x62, 0x00, 0x00, 0x62, 0xA0, 0x00, 0xA0, 0x00, 0xFF,
+];
+
+/// What these records read as.
+const READ: [Command; 7] = [
+    Command::Stitch(Point { x: 0, y: 0 }),
+    Command::Stitch(Point { x: 30, y: 0 }),
+    Command::Stitch(Point { x: 30, y: 30 }),
+    Command::Stitch(Point { x: 0, y: 30 }),
+    Command::Stitch(Point { x: 0, y: 0 }),
+    Command::Trim,
+    Command::Jump(Point { x: 0, y: 0 }),
 ];
 
 fn at(x: i32, y: i32) -> Command {
@@ -34,7 +102,10 @@ fn square(alloc: Global) -> Result<Design, ModelFault> {
 fn a_square_is_written_and_read_as_pec(rt: HostRuntime) -> Result<(), Fail> {
     let alloc = rt.alloc();
     let design = square(alloc).ok().ok_or("no design")?;
-    let file = Pec.encode(alloc, &design).ok().ok_or("not written")?;
+    let file = Pec::new(alloc)
+        .encode(alloc, &design)
+        .ok()
+        .ok_or("not written")?;
     let bytes = file.as_slice();
     assert_eq!(rt; bytes.len(), 1007);
     assert_eq!(rt; &bytes[..11], b"#PEC0001LA:".as_slice());
@@ -42,7 +113,7 @@ fn a_square_is_written_and_read_as_pec(rt: HostRuntime) -> Result<(), Fail> {
     assert_eq!(rt; &bytes[522..525], [0x1F, 0, 0].as_slice());
     assert_eq!(rt; &bytes[528..532], [0x1E, 0, 0x1E, 0].as_slice());
     assert_eq!(rt; &bytes[536..551], RECORDS.as_slice());
-    let loaded = Pec.decode(alloc, bytes).ok().ok_or("not read")?;
+    let loaded = read_pec(&rt, alloc, bytes).ok().ok_or("not read")?;
     assert_eq!(rt; loaded.ended, true);
     assert_eq!(rt; loaded.design.threads(), [5].as_slice());
     assert_eq!(rt; loaded.design.commands().len(), 7);
@@ -53,12 +124,15 @@ fn a_square_is_written_and_read_as_pec(rt: HostRuntime) -> Result<(), Fail> {
 fn a_square_is_written_and_read_as_pes(rt: HostRuntime) -> Result<(), Fail> {
     let alloc = rt.alloc();
     let design = square(alloc).ok().ok_or("no design")?;
-    let file = Pes.encode(alloc, &design).ok().ok_or("not written")?;
+    let file = Pes::new(alloc)
+        .encode(alloc, &design)
+        .ok()
+        .ok_or("not written")?;
     let bytes = file.as_slice();
     assert_eq!(rt; bytes.len(), 1021);
     assert_eq!(rt; &bytes[..12], b"#PES0001\x16\x00\x00\x00".as_slice());
     assert_eq!(rt; &bytes[550..565], RECORDS.as_slice());
-    let loaded = Pes.decode(alloc, bytes).ok().ok_or("not read")?;
+    let loaded = read_pes(&rt, alloc, bytes).ok().ok_or("not read")?;
     assert_eq!(rt; loaded.ended, true);
     assert_eq!(rt; loaded.design.threads(), [5].as_slice());
     Ok(())
@@ -77,16 +151,70 @@ fn files_are_refused_by_signature_and_length(rt: HostRuntime) -> Result<(), Fail
         ),
     ];
     for (bytes, fault) in cases {
-        assert_eq!(rt; Pes.decode(alloc, bytes).err(), Some(fault), "{bytes:?}");
+        assert_eq!(rt; read_pes(&rt, alloc, bytes).err(), Some(fault), "{bytes:?}");
     }
     assert_eq!(rt;
-        Pec.decode(alloc, b"#PAC0001").err(),
+        read_pec(&rt, alloc, b"#PAC0001").err(),
         Some(ReadFault::Signature { at: 0 })
     );
     assert_eq!(rt;
-        Pec.decode(alloc, b"#PEC0001").err(),
+        read_pec(&rt, alloc, b"#PEC0001").err(),
         Some(ReadFault::Short { at: 8 })
     );
+    Ok(())
+}
+
+/// A file with so many bytes of filler, a blank header of its block, and these records.
+fn file_of(
+    alloc: Global,
+    front: &[u8],
+    filler: u32,
+    records: &[u8],
+) -> Result<Vec<u8>, AllocError> {
+    let mut bytes = Vec::from_slice(alloc, front)?;
+    for _ in 0..filler {
+        bytes.push(0xFF)?;
+    }
+    for _ in 0..528 {
+        bytes.push(b' ')?;
+    }
+    bytes.extend_from_slice(records)?;
+    Ok(bytes)
+}
+
+/// A design that leaves its range by the last of these records.
+const FAR: [[u8; 3]; 15] = [[0x87, 0xFF, 0x00]; 15];
+
+#[test]
+fn a_block_is_read_and_refused_wherever_it_begins(rt: HostRuntime) -> Result<(), Fail> {
+    let alloc = rt.alloc();
+    for (front, filler, range) in [
+        (b"#PES0001\x16\x00\x00\x00".as_slice(), 10, 592),
+        (b"#PES0001\x58\x02\x00\x00".as_slice(), 588, 1_170),
+    ] {
+        let sound = file_of(alloc, front, filler, &RECORDS)?;
+        let loaded = read_pes(&rt, alloc, &sound)?;
+        assert_eq!(rt; loaded.design.commands(), READ.as_slice());
+        let faulty = file_of(alloc, front, filler, FAR.as_flattened())?;
+        let fault = read_pes(&rt, alloc, &faulty).err();
+        assert_eq!(rt; fault, Some(ReadFault::Range { at: range }));
+    }
+    let cut = file_of(alloc, b"#PES0001\xE8\x03\x00\x00", 10, &RECORDS)?;
+    let fault = read_pes(&rt, alloc, &cut).err();
+    assert_eq!(rt; fault, Some(ReadFault::Short { at: 565 }));
+    Ok(())
+}
+
+#[test]
+fn a_point_out_of_range_leaves_the_commands_before_it(rt: HostRuntime) -> Result<(), Fail> {
+    let front = b"#PES0001\x16\x00\x00\x00";
+    let file = file_of(rt.alloc(), front, 10, FAR.as_flattened())?;
+    let mut format = Pes::new(rt.alloc());
+    for (piece, taken) in [(file.as_slice(), 595), (&RECORDS, 610)] {
+        feed(&rt, &mut format, piece)?;
+        assert_eq!(rt; format.taken(), taken);
+        assert_eq!(rt; format.so_far().len(), 14);
+    }
     Ok(())
 }
 
@@ -99,7 +227,7 @@ fn a_block_may_begin_in_the_front_of_its_file(rt: HostRuntime) -> Result<(), Fai
         bytes.push(b' ')?;
     }
     bytes.extend_from_slice(&[0x00, 0x00, 0xFF])?;
-    let loaded = Pes.decode(alloc, &bytes).ok().ok_or("not read")?;
+    let loaded = read_pes(&rt, alloc, &bytes).ok().ok_or("not read")?;
     assert_eq!(rt; loaded.design.commands(), [at(0, 0)].as_slice());
     assert_eq!(rt; loaded.design.threads(), [32; 33].as_slice());
     assert_eq!(rt; loaded.design.label(), [].as_slice());
@@ -130,12 +258,27 @@ fn large(alloc: Global) -> Result<Design, ModelFault> {
     Ok(design)
 }
 
+/// Compares what a file of the large design reads as.
+fn compare_large(rt: &impl Abort, loaded: &Loaded) {
+    assert_eq!(rt; loaded.ended, true);
+    assert_eq!(rt; loaded.design.label(), b"Rose of Damascus".as_slice());
+    assert_eq!(rt; loaded.design.threads(), [9, 200, 64, 4].as_slice());
+    let all = counts(&loaded.design);
+    assert_eq!(rt; [all.needles, all.trims, all.stops], [5_000, 2_497, 3]);
+}
+
 #[test]
 fn a_large_design_reads_again_at_any_offset(rt: HostRuntime) -> Result<(), Fail> {
     let alloc = rt.alloc();
     let design = large(alloc)?;
-    let pes = Pes.encode(alloc, &design).ok().ok_or("not written")?;
-    let pec = Pec.encode(alloc, &design).ok().ok_or("not written")?;
+    let pes = Pes::new(alloc)
+        .encode(alloc, &design)
+        .ok()
+        .ok_or("not written")?;
+    let pec = Pec::new(alloc)
+        .encode(alloc, &design)
+        .ok()
+        .ok_or("not written")?;
     let block = pec.as_slice().get(8..).ok_or("no block")?;
     let mut moved = Vec::new(alloc);
     moved.extend_from_slice(b"#PES0060\x04\x03\x00\x00")?;
@@ -146,19 +289,9 @@ fn a_large_design_reads_again_at_any_offset(rt: HostRuntime) -> Result<(), Fail>
     let mut other = Vec::new(alloc);
     other.extend_from_slice(b"#PEC____")?;
     other.extend_from_slice(block)?;
-    for loaded in [
-        Pes.decode(alloc, pes.as_slice()).ok().ok_or("not read")?,
-        Pec.decode(alloc, pec.as_slice()).ok().ok_or("not read")?,
-        Pes.decode(alloc, &moved).ok().ok_or("not read elsewhere")?,
-        Pec.decode(alloc, &other)
-            .ok()
-            .ok_or("not read by another version")?,
-    ] {
-        assert_eq!(rt; loaded.ended, true);
-        assert_eq!(rt; loaded.design.label(), b"Rose of Damascus".as_slice());
-        assert_eq!(rt; loaded.design.threads(), [9, 200, 64, 4].as_slice());
-        let all = counts(&loaded.design);
-        assert_eq!(rt; [all.needles, all.trims, all.stops], [5_000, 2_497, 3]);
-    }
+    compare_large(&rt, &read_pes(&rt, alloc, pes.as_slice())?);
+    compare_large(&rt, &read_pec(&rt, alloc, pec.as_slice())?);
+    compare_large(&rt, &read_pes(&rt, alloc, &moved)?);
+    compare_large(&rt, &read_pec(&rt, alloc, &other)?);
     Ok(())
 }
