@@ -33,6 +33,7 @@ macro_rules! refused {
 
 mod checks;
 mod doubles;
+mod feeding;
 mod files;
 mod limits;
 mod lists;

@@ -101,14 +101,16 @@ unloaded_halts name reads_as next store store' (halt.NotRead lost) refuses read 
 unloaded_halts name reads_as next store store' (halt.Refused why) refuses (inl read) =
     halts_at name (λ bytes. next (reads_as bytes)) store store' (halt.Refused why) read
 unloaded_halts name reads_as next store store' (halt.Refused why) refuses (inr unread_input) =
-    let input = unread_input.input in
-    (inr (
-      input.bytes,
-      input.read.0,
-      subst (λ (r : Result Loaded ReadFault). Refuses (next r) store.files (refusal_of why)) (sym input.is)
-          (subst (λ (v : RefusalValue). Refuses (next (Err unread_input.fault)) store.files v) (sym unread_input.told)
-          (refuses store.files unread_input.fault)),
-    ), input.read.1)
+    let input = unread_input.input in (
+      inr (
+        input.bytes,
+        input.read.0,
+        subst (λ (r : Result Loaded ReadFault). Refuses (next r) store.files (refusal_of why)) (sym input.is)
+            (subst (λ (v : RefusalValue). Refuses (next (Err unread_input.fault)) store.files v) (sym unread_input.told)
+            (refuses store.files unread_input.fault)),
+      ),
+      input.read.1,
+    )
 unloaded_halts name reads_as next store store' halt.Memory refuses same = same
 
 pub unloaded_here : (name : List ℕ) (reads_as : List ℕ → Result Loaded ReadFault) (next : Result Loaded ReadFault → Plan)

@@ -47,7 +47,13 @@ pub(crate) fn rewrite<'a, S: Store>(
     ensures same { map (λ f. meaning f) formats.new ≡ map (λ f. meaning f) formats.old }
 {
     let loaded = load_at(formats, places.source, store, names.input)?;
-    remade(alloc, names, loaded, format_at(formats, places.target), changes)
+    remade(
+        alloc,
+        names,
+        loaded,
+        format_at(formats, places.target),
+        changes,
+    )
 }
 
 fn remade<'a>(

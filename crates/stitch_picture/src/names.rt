@@ -2,7 +2,6 @@ ghost use Rattle.std.specs.Prelude.{◌≡◌, IfSome, map, option_map, string_b
 ghost use Rattle.outside_io.specs.Files.{IsName};
 ghost use Rattle.stitch_picture.specs.Orders.{is_name as is_a_name, is_svg as is_an_svg, names_by, names_of, names_value};
 
-
 use outside_io::MAX_NAME;
 
 /// The input file and the picture's file.

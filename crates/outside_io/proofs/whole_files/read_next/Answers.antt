@@ -13,7 +13,7 @@ returns-then-count-limit-clause-reads g c =
       λ before of_at begun told is.
           let both = length-append before (take c.in-Ok.count buffer) in
           longer_than (told c.args.name.now) before buffer _ c.args.at c.in-Ok.count c.args.limit (begun told is) (sym of_at)
-              (read.gives told is) read.bound refl (omega (arith, of_at, both, taken, beyond)),
+          (read.gives told is) read.bound refl (omega (arith, of_at, both, taken, beyond)),
     )
 
 pub returns-clause-reads : goal.returns-clause-reads

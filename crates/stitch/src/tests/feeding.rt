@@ -1,0 +1,86 @@
+//! That a stitch file is fed to its format, and not decoded whole.
+use crate::tests::rows::behind;
+use design_model::{Bytes, Command, Design, Memory};
+use dst_codec::Dst;
+use format_traits::{Format, Loaded, ReadFault, WriteFault};
+use outside_io::{MemSink, MemStore};
+use std::alloc::Global;
+use std::test::Fail;
+use stitch_cli::{Status, run};
+
+/// The DST format, but for whole files it has never memory.
+#[derive(Drop)]
+struct FedAlone {
+    dst: Dst,
+}
+
+impl Format for FedAlone {
+    ghost use Rattle.dst_codec.specs.Format.{dst as dst_meaning};
+
+    ghost meaning = { λ _. dst_meaning };
+
+    ghost feeding = { λ f. ⟦<Dst as Format>⟧.feeding f.dst };
+
+    fn ext(&self) -> &str {
+        self.dst.ext()
+    }
+
+    fn limit(&self) -> u32 {
+        self.dst.limit()
+    }
+
+    fn decode(&self, _alloc: Global, _bytes: &[u8]) -> Result<Loaded, ReadFault> {
+        Err(ReadFault::Memory)
+    }
+
+    fn encode(&self, alloc: Global, design: &Design) -> Result<Bytes, WriteFault> {
+        self.dst.encode(alloc, design)
+    }
+
+    fn begin(&mut self) {
+        self.dst.begin();
+    }
+
+    fn feed(&mut self, piece: &[u8]) -> Result<(), Memory> {
+        self.dst.feed(piece)
+    }
+
+    fn finish(&mut self) -> Result<Loaded, ReadFault> {
+        self.dst.finish()
+    }
+
+    fn taken(&self) -> u64 {
+        self.dst.taken()
+    }
+
+    fn so_far(&self) -> &[Command] {
+        self.dst.so_far()
+    }
+}
+
+#[test]
+fn a_file_is_shown_that_can_only_be_fed(rt: HostRuntime) -> Result<(), Fail> {
+    let alloc = rt.alloc();
+    let file = behind(alloc, b"", 512, 1, &[0x00, 0x05, 0x03, 0x00, 0x05])?;
+    let mut store = MemStore::new(alloc);
+    store.put_file("a.dst", file.as_slice())?;
+    let mut out = MemSink::new(alloc, 1_000)?;
+    let mut err = MemSink::new(alloc, 1_000)?;
+    let mut formats: Vec<Box<dyn Format>> = Vec::new(alloc);
+    formats.push(Box::new(
+        alloc,
+        FedAlone {
+            dst: Dst::new(alloc),
+        },
+    )?)?;
+    let mut words = Vec::new(alloc);
+    words.push(String::from_str(alloc, "show")?)?;
+    words.push(String::from_str(alloc, "a.dst")?)?;
+    let status = run(alloc, &words, &mut formats, &mut store, &mut out, &mut err);
+    assert_eq!(rt; status, Status::Done);
+    assert_eq!(rt;
+        out.taken(),
+        b"format dst\nlabel []\ncommands 1\nneedles 1\ntrims 0\nstops 0\nextent 30 0 30 0\nended no\nblock 1 thread 1 needles 1\n".as_slice()
+    );
+    Ok(())
+}
