@@ -1,11 +1,11 @@
-use super::rows::{Holds, Row, Step, play};
+use super::rows::play;
+use row_tables::{Holds, Row, done, records, refused};
 use std::test::Fail;
-use stitch_cli::Status;
 
 const SHOW: &[&str] = &["show", "a.dst"];
 
 /// Cut off in its second record; three jumps, which read as a trim; two jumps; a stop alone.
-const SHOWN: &[Row] = &[
+static SHOWN: &[Row] = &[
     Row {
         before: &[("a.dst", records!(&[0x00, 0x05, 0x03, 0x00, 0x05]))],
         steps: &[done!(
@@ -49,7 +49,7 @@ const SHOWN: &[Row] = &[
 ];
 
 /// Files that are none of their format; the last has too many commands.
-const NOT_SHOWN: &[Row] = &[
+static NOT_SHOWN: &[Row] = &[
     Row {
         before: &[("a.dst", Holds::Behind(b"", 511, 0, b""))],
         steps: &[refused!(SHOW, "stitch: a.dst: byte 511: file too short\n")],
@@ -85,7 +85,7 @@ const NOT_SHOWN: &[Row] = &[
     },
 ];
 
-const HOOPS: &[Row] = &[
+static HOOPS: &[Row] = &[
     Row {
         before: &[("a.exp", Holds::Bytes(&[0x00, 0x00, 0x1E, 0x00, 0x00, 0xE2]))],
         steps: &[

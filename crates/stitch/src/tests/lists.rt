@@ -1,9 +1,9 @@
-use super::rows::{Holds, Row, Step, play};
+use super::rows::play;
+use row_tables::{Holds, Row, done, refused};
 use std::test::Fail;
-use stitch_cli::Status;
 
 /// Designs as lists, lists as designs, and texts that are none.
-const LISTS: &[Row] = &[
+static LISTS: &[Row] = &[
     Row {
         before: &[(
             "a.rw",

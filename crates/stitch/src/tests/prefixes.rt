@@ -1,5 +1,6 @@
-use super::rows::{Holds, answer, stocked};
+use super::rows::{answer, stocked};
 use outside_io::{MemSink, MemStore};
+use row_tables::Holds;
 use std::alloc::Global;
 use std::process::Abort;
 use std::test::Fail;
@@ -78,9 +79,10 @@ fn dst_commands(count: usize) -> usize {
     if records < 8 { records } else { 9 }
 }
 
-fn has_line(out: &[u8], line: &[u8]) -> bool {
-    for part in out.split(|byte| *byte == b'\n') {
-        if part == line {
+/// Whether a text has this line, which isn't its first and comes with the ends of lines around it.
+fn has_line(text: &[u8], line: &[u8]) -> bool {
+    for start in 0..text.len() {
+        if text[start..].starts_with(line) {
             return true;
         }
     }
@@ -110,11 +112,11 @@ fn shows(
         return Ok(());
     }
     assert_eq!(rt; status, Status::Done, "{count} of {name}");
-    let ended = has_line(out.taken(), b"ended yes");
+    let ended = has_line(out.taken(), b"\nended yes\n");
     assert_eq!(rt; ended, has_end(file.ends, count), "{count} of {name}");
     if name == "p.dst" {
         let commands = dst_commands(count);
-        let line = format!(in alloc; "commands {commands}")?;
+        let line = format!(in alloc; "\ncommands {commands}\n")?;
         assert!(rt; has_line(out.taken(), line.as_bytes()), "{count} of {name}");
     }
     Ok(())

@@ -1,6 +1,6 @@
-use super::rows::{Holds, Row, Step, play};
+use super::rows::play;
+use row_tables::{Holds, Row, done, records, refused};
 use std::test::Fail;
-use stitch_cli::Status;
 
 /// In EXP: a stitch, four jumps of 100 to the right, and a stitch.
 const FLOAT: [u8; 20] = [
@@ -44,7 +44,7 @@ const THREE_WRITTEN: &[u8] = &[
     0x80, 0x04, 0x05, 0x05, 0x00, 0x00,
 ];
 
-const REFITS: &[Row] = &[
+static REFITS: &[Row] = &[
     // A stitch of 122 is too long for DST, one of (-5, 128) for EXP.
     Row {
         before: &[("a.exp", Holds::Bytes(&[0x00, 0x00, 0x7A, 0x00]))],
@@ -102,7 +102,7 @@ const FIVE_REPORT: &str = "needles 5 trims 0 stops 2\n";
 
 const ONE_REPORT: &str = "needles 1 trims 0 stops 0\n";
 
-const WRITTEN: &[Row] = &[
+static WRITTEN: &[Row] = &[
     Row {
         before: &[("a.exp", Holds::Bytes(FIVE))],
         steps: &[
@@ -183,7 +183,7 @@ const WRITTEN: &[Row] = &[
     },
 ];
 
-const EDITS: &[Row] = &[
+static EDITS: &[Row] = &[
     // A quarter turn brings what points to the right downwards.
     Row {
         before: &[("a.exp", Holds::Bytes(&[0x00, 0x00, 0x1E, 0x00]))],
@@ -249,7 +249,7 @@ const THREE_REPORT: &str = "needles 3 trims 1 stops 1\n";
 
 const BACK: &[(&str, Holds)] = &[("c.exp", Holds::Bytes(THREE_WRITTEN))];
 
-const THERE_AND_BACK: &[Row] = &[Row {
+static THERE_AND_BACK: &[Row] = &[Row {
     before: &[("a.exp", Holds::Bytes(THREE))],
     steps: &[
         done!(&["convert", "a.exp", "b.dst"], THREE_REPORT, &[]),

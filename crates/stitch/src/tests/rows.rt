@@ -1,46 +1,15 @@
-//! Rows of tests as data, and the one function that runs them: commands one after another over one store.
+//! The one function that runs rows of tests: commands one after another over one store.
 use dst_codec::Dst;
 use exp_codec::Exp;
 use format_traits::Format;
 use outside_io::{MemSink, MemStore};
 use pes_codec::{Pec, Pes};
+use row_tables::{Holds, Row, Says, Step, has_part};
 use std::alloc::Global;
 use std::process::Abort;
 use std::test::Fail;
 use stitch_cli::{Status, run};
 use stitch_text::List;
-
-/// What a file holds.
-#[derive(Clone, Copy, Debug)]
-pub enum Holds {
-    /// These bytes.
-    Bytes(&'static [u8]),
-    /// A text, filled with spaces up to that length, and then so many times these bytes.
-    Behind(&'static [u8], usize, usize, &'static [u8]),
-    /// So many bytes, and from that offset on these.
-    At(usize, usize, &'static [u8]),
-    /// What the file of that name holds.
-    Same(&'static str),
-    /// There is no such file.
-    Nothing,
-}
-
-/// A command, and what it leaves.
-#[derive(Clone, Copy, Debug)]
-pub struct Step {
-    pub words: &'static [&'static str],
-    pub status: Status,
-    pub out: &'static str,
-    pub err: &'static str,
-    pub after: &'static [(&'static str, Holds)],
-}
-
-/// The files that are there, and commands one after another.
-#[derive(Clone, Copy, Debug)]
-pub struct Row {
-    pub before: &'static [(&'static str, Holds)],
-    pub steps: &'static [Step],
-}
 
 /// The names that have room for what commands write.
 const WRITTEN: [&str; 10] = [
@@ -65,7 +34,7 @@ pub fn stocked(alloc: Global, before: &[(&'static str, Holds)]) -> Result<MemSto
         put(alloc, &mut store, name, *holds)?;
     }
     for name in WRITTEN {
-        store.prepare(name, 20_000)?;
+        store.prepare(name, 300_000)?;
     }
     Ok(store)
 }
@@ -99,14 +68,20 @@ pub fn behind(
 }
 
 fn take(rt: &impl Abort, alloc: Global, step: &Step, store: &mut MemStore) -> Result<(), Fail> {
-    let mut out = MemSink::new(alloc, 10_000)?;
-    let mut err = MemSink::new(alloc, 10_000)?;
+    let mut out = MemSink::new(alloc, 100_000)?;
+    let mut err = MemSink::new(alloc, 1_000)?;
     let words = step.words;
     let before = sizes(store);
+    store.fail_at(step.fails.store)?;
+    out.fail_at(step.fails.out)?;
+    err.fail_at(step.fails.err)?;
     let status = answer(alloc, words, store, &mut out, &mut err)?;
     assert_eq!(rt; err.taken(), step.err.as_bytes(), "{words:?}");
-    assert_eq!(rt; status, step.status, "{words:?}");
-    assert_eq!(rt; out.taken(), step.out.as_bytes(), "{words:?}");
+    assert_eq!(rt; status as u8, step.status, "{words:?}");
+    match step.out {
+        Says::All(text) => assert_eq!(rt; out.taken(), text.as_bytes(), "{words:?}"),
+        Says::Last(text) => assert!(rt; out.taken().ends_with(text.as_bytes()), "{words:?}"),
+    }
     if status == Status::Refused {
         assert_eq!(rt; sizes(store), before, "{words:?}");
     }
@@ -120,7 +95,9 @@ fn take(rt: &impl Abort, alloc: Global, step: &Step, store: &mut MemStore) -> Re
 fn sizes(store: &MemStore) -> [Option<usize>; 10] {
     let mut sizes = [None; 10];
     for (size, name) in sizes.iter_mut().zip(WRITTEN) {
-        *size = store.file(name).map(|file| file.len());
+        if let Some(file) = store.file(name) {
+            *size = Some(file.len());
+        }
     }
     sizes
 }
@@ -132,9 +109,7 @@ fn is_held(store: &MemStore, name: &str, holds: Holds) -> bool {
         (Some(file), Holds::Behind(_, length, _, piece)) => {
             file.len().checked_sub(length) == Some(piece.len()) && file.ends_with(piece)
         }
-        (Some(file), Holds::At(size, offset, bytes)) => {
-            file.len() == size && offset <= size && file[offset..].starts_with(bytes)
-        }
+        (Some(file), Holds::At(size, offset, bytes)) => has_part(file, size, offset, bytes),
         (None, Holds::Nothing) => true,
         _ => false,
     }

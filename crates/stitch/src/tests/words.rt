@@ -1,4 +1,5 @@
-use super::rows::{Row, Step, play};
+use super::rows::play;
+use row_tables::{Row, Says, step};
 use std::test::Fail;
 use stitch_cli::Status;
 
@@ -17,17 +18,11 @@ const USAGE: &str = "usage: stitch route DRAWING OUT CERT
 /// A step whose words ask for nothing.
 macro_rules! unasked {
     ($words:expr) => {
-        Step {
-            words: $words,
-            status: Status::Usage,
-            out: "",
-            err: USAGE,
-            after: &[],
-        }
+        step!($words, 2, Says::All(""), USAGE, &[])
     };
 }
 
-const UNASKED: &[Row] = &[Row {
+static UNASKED: &[Row] = &[Row {
     before: &[],
     steps: &[
         unasked!(&[]),

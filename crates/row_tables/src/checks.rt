@@ -1,6 +1,4 @@
-use super::rows::{Holds, Row, Step, play};
-use std::test::Fail;
-use stitch_cli::Status;
+use crate::{Holds, Row, done, refused};
 
 const TO_DST: &[&str] = &["route", "a.rw", "b.dst", "b.cert"];
 
@@ -19,7 +17,7 @@ const FOUR_REPORT: &str =
     "block 1 piece 1 lines 6 cost 6 retraced 2 penetrations 9\npieces 1 penetrations 9\n";
 
 /// A line there and back, and what may be wrong with what is said of it.
-const JUDGED: &[Row] = &[
+pub static JUDGED: &[Row] = &[
     Row {
         before: &[
             ("a.rw", Holds::Bytes(LINE)),
@@ -128,7 +126,7 @@ const JUDGED: &[Row] = &[
 ];
 
 /// The sample of number 75, whose four junctions are each joined with each.
-const SAMPLED: &[Row] = &[Row {
+pub static SAMPLED: &[Row] = &[Row {
     before: &[],
     steps: &[
         done!(
@@ -149,13 +147,3 @@ const SAMPLED: &[Row] = &[Row {
         done!(&["check", "s.rw", "b.pes", "b.cert"], "yes\n", &[]),
     ],
 }];
-
-#[test]
-fn a_design_is_judged_by_what_its_certificate_says(rt: HostRuntime) -> Result<(), Fail> {
-    play(&rt, rt.alloc(), JUDGED)
-}
-
-#[test]
-fn a_sample_is_written_told_of_and_routed(rt: HostRuntime) -> Result<(), Fail> {
-    play(&rt, rt.alloc(), SAMPLED)
-}

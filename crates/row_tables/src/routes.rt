@@ -1,6 +1,4 @@
-use super::rows::{Holds, Row, Step, play};
-use std::test::Fail;
-use stitch_cli::Status;
+use crate::{Holds, Row, done, records, refused};
 
 /// A square of 30 from the origin to the right and downwards.
 const SQUARE: &[u8] = b"redwork 1\nstep 30\ncolor 5\nline 0 0 30 0 30 30 0 30 0 0\n";
@@ -43,7 +41,7 @@ const FREE: &[u8] = b"# a square\r\n redwork\t1\r\ncolor 05\n\nline 7 -3 37 -3 3
 const TWO_REPORT: &str =
     "block 1 piece 1 lines 1 cost 4 retraced 0 penetrations 5\nblock 2 piece 2 lines 1 cost 4 retraced 0 penetrations 5\npieces 2 penetrations 10\n";
 
-const CLOSED: &[Row] = &[
+pub static CLOSED: &[Row] = &[
     Row {
         before: &[("a.rw", Holds::Bytes(SQUARE))],
         steps: &[
@@ -90,7 +88,7 @@ const CLOSED: &[Row] = &[
     },
 ];
 
-const MEETING: &[Row] = &[
+pub static MEETING: &[Row] = &[
     // A line there and back.
     Row {
         before: &[(
@@ -207,7 +205,7 @@ const STAR: &[u8] =
 const ROSE: &[u8] =
     b"redwork 1\nname Rose\n# stem and leaves\ncolor 22\nline 0 600 0 400\nline 0 400 0 200\nline 0 400 -100 350 -150 400 0 400\nline 0 400 100 300 200 300\nline 0 400 100 400 200 300\nline 0 400 200 300\n# flower\ncolor 5\nline -50 100 0 50\nline 0 50 50 100\nline 50 100 0 150\nline 0 150 -50 100\nline -50 100 -100 0 0 50\nline 0 50 100 0 50 100\nline 50 100 100 200 0 150\nline 0 150 -100 200 -50 100\nline 0 50 0 -50\nline 0 90 10 100 0 110 -10 100 0 90\n";
 
-const PATTERN: &[Row] = &[Row {
+pub static PATTERN: &[Row] = &[Row {
     before: &[("a.rw", Holds::Bytes(ROSE))],
     steps: &[
         done!(
@@ -238,7 +236,7 @@ const PATTERN: &[Row] = &[Row {
 }];
 
 /// A step of 125, which EXP takes; texts that say no drawing; drawings beyond their limits.
-const NOT_ROUTED: &[Row] = &[
+pub static NOT_ROUTED: &[Row] = &[
     Row {
         before: &[(
             "a.rw",
@@ -291,23 +289,3 @@ const NOT_ROUTED: &[Row] = &[
         steps: &[refused!(TO_DST, "stitch: a.rw: line 10: more than 200000 steps\n")],
     },
 ];
-
-#[test]
-fn closed_lines_are_sewn_along(rt: HostRuntime) -> Result<(), Fail> {
-    play(&rt, rt.alloc(), CLOSED)
-}
-
-#[test]
-fn lines_that_meet_are_sewn_as_one_thread(rt: HostRuntime) -> Result<(), Fail> {
-    play(&rt, rt.alloc(), MEETING)
-}
-
-#[test]
-fn a_pattern_is_routed_shown_and_turned(rt: HostRuntime) -> Result<(), Fail> {
-    play(&rt, rt.alloc(), PATTERN)
-}
-
-#[test]
-fn a_drawing_that_is_none_or_has_too_long_a_step_is_refused(rt: HostRuntime) -> Result<(), Fail> {
-    play(&rt, rt.alloc(), NOT_ROUTED)
-}

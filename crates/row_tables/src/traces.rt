@@ -1,6 +1,4 @@
-use super::rows::{Holds, Row, Step, play};
-use std::test::Fail;
-use stitch_cli::Status;
+use crate::{Holds, Row, Says, done, refused, step};
 
 const TO_DST: &[&str] = &["route", "a.rw", "b.dst", "b.cert"];
 
@@ -9,7 +7,7 @@ const OF_DST: &[&str] = &["trace", "b.dst", "s.rw"];
 const OF_EXP: &[&str] = &["trace", "a.exp", "s.rw"];
 
 /// What files sew, drawn.
-const TRACED: &[Row] = &[
+pub static TRACED: &[Row] = &[
     // A closed line, of which each link is new.
     Row {
         before: &[(
@@ -79,13 +77,7 @@ const TRACED: &[Row] = &[
         before: &[("a.exp", Holds::Bytes(&[0x00, 0x00]))],
         steps: &[
             refused!(OF_EXP, "stitch: a.exp: nothing is sewn\n"),
-            Step {
-                words: OF_DST,
-                status: Status::Fault,
-                out: "",
-                err: "stitch: cannot read b.dst\n",
-                after: &[],
-            },
+            step!(OF_DST, 3, Says::All(""), "stitch: cannot read b.dst\n", &[]),
         ],
     },
     // A link is longer than a step may be.
@@ -100,8 +92,3 @@ const TRACED: &[Row] = &[
         )],
     },
 ];
-
-#[test]
-fn what_a_file_sews_is_drawn(rt: HostRuntime) -> Result<(), Fail> {
-    play(&rt, rt.alloc(), TRACED)
-}

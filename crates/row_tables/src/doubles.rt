@@ -1,6 +1,4 @@
-use super::rows::{Holds, Row, Step, play};
-use std::test::Fail;
-use stitch_cli::Status;
+use crate::{Holds, Row, done, records, refused};
 
 const BOTH_WAYS: &[&str] = &["double", "a.rw", "b.dst", "b.cert"];
 
@@ -13,7 +11,7 @@ const SQUARE_RECORDS: [u8; 39] = [
     0x83, 0x82, 0x41, 0x83, 0x00, 0x00, 0xf3,
 ];
 
-const DOUBLED: &[Row] = &[
+pub static DOUBLED: &[Row] = &[
     // A closed line, for which no pass back is needed.
     Row {
         before: &[(
@@ -86,8 +84,3 @@ const DOUBLED: &[Row] = &[
         steps: &[refused!(BOTH_WAYS, "stitch: a.rw: line 3: too few points\n")],
     },
 ];
-
-#[test]
-fn each_line_is_sewn_once_in_each_direction(rt: HostRuntime) -> Result<(), Fail> {
-    play(&rt, rt.alloc(), DOUBLED)
-}

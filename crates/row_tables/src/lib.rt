@@ -1,0 +1,22 @@
+//! Rows of tests as data: the files that are there, commands one after another and what each leaves;
+//! and the rows of drawings.
+#![tactic(auto)]
+
+mod checks;
+mod doubles;
+mod held_parts;
+mod macros;
+mod routes;
+mod rows;
+mod starts_and_ends;
+mod traces;
+mod versions;
+
+pub use checks::{JUDGED, SAMPLED};
+pub use doubles::DOUBLED;
+pub use held_parts::has_part;
+pub use routes::{CLOSED, MEETING, NOT_ROUTED, PATTERN};
+pub use rows::{Calls, Holds, Row, Says, Step};
+pub use starts_and_ends::ENDED;
+pub use traces::TRACED;
+pub use versions::{NOT_MIGRATED, VERSIONS};
