@@ -11,7 +11,8 @@ use Rattle.design_files.specs.declared.loading.LoadFault.{LoadFault}
 use Rattle.design_files.specs.declared.loading.LoadFault.TheVariants as load
 
 -- the file is read whole, and its bytes read as that
-pub record IsLoaded (reads : List ℕ → Result Loaded ReadFault) (name : List ℕ) (old new : StoreSight)
+pub record IsLoaded (reads : List ℕ → Result Loaded ReadFault) (name : List ℕ)
+    (old new : StoreSight)
     (answer : Result Loaded ReadFault) : Type 0 where
   pub bytes : List ℕ
   pub whole : ReadsWhole name MAX_FILE old new (Ok bytes)
@@ -32,14 +33,16 @@ pub record IsFedWith (reads : List ℕ → Result Loaded ReadFault) (bytes : Lis
   pub rest : (more : List ℕ) → f.rest more ≡ reads (bytes ++ more)
 
 -- the file was read whole and fed
-pub record IsWholeFed (reads : List ℕ → Result Loaded ReadFault) (name : List ℕ) (old new : StoreSight)
+pub record IsWholeFed (reads : List ℕ → Result Loaded ReadFault) (name : List ℕ)
+    (old new : StoreSight)
     (f : Feeding) : Type 0 where
   pub bytes : List ℕ
   pub whole : ReadsWhole name MAX_FILE old new (Ok bytes)
   pub fed : IsFedWith reads bytes f
 
 -- what each answer of feeding a file means
-abbrev pub FeedsWhole : {T : Type 0} → (List ℕ → Result Loaded ReadFault) → List ℕ → StoreSight → StoreSight
+abbrev pub FeedsWhole : {T : Type 0} → (List ℕ → Result Loaded ReadFault) → List ℕ
+    → StoreSight → StoreSight
     → Result T GetFault → Feeding → Type 0
 FeedsWhole reads name old new (Ok _) f = IsWholeFed reads name old new f
 FeedsWhole reads name old new (Err fault) f = ReadsWhole name MAX_FILE old new (Err fault)

@@ -6,4 +6,11 @@ use Rattle.dst_codec.specs.Reading.{reads, moves, shown}
 use Rattle.dst_codec.specs.Writing.{writes}
 
 abbrev pub dst : Meaning
-dst = record { ending = codes "dst"; limit = LIMIT; reads = reads; writes = writes; moves = moves; shown = shown }
+dst = record {
+  ending = codes "dst";
+  limit = LIMIT;
+  reads = reads;
+  writes = writes;
+  moves = moves;
+  shown = shown;
+}

@@ -6,4 +6,11 @@ use Rattle.exp_codec.specs.Reading.{reads, moves, shown}
 use Rattle.exp_codec.specs.Writing.{writes}
 
 abbrev pub exp : Meaning
-exp = record { ending = codes "exp"; limit = LIMIT; reads = reads; writes = writes; moves = moves; shown = shown }
+exp = record {
+  ending = codes "exp";
+  limit = LIMIT;
+  reads = reads;
+  writes = writes;
+  moves = moves;
+  shown = shown;
+}

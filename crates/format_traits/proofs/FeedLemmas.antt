@@ -8,7 +8,8 @@ fed_on : (old new : Stream) (was now : SoFar) (start taken : ℕ) (before piece 
     → length before ≤ taken → 0 < length piece → Passes old new now (start + (taken - length before)) before piece after
     → whether ≡ false → then ≡ false
     → IsFed (feeding_of old was start taken before whether) piece (feeding_of new now start (taken + length piece) after then)
-fed_on old new was now start taken before [] after whether then fits some passes sound still = absurd (let no : ⊥ = omega (arith, some) in no)
+fed_on old new was now start taken before [] after whether then fits some passes sound still =
+    absurd (let no : ⊥ = omega (arith, some) in no)
 fed_on old new was now start taken before (byte ∷ bytes) after whether then fits some passes sound still = record {
   was = sound;
   sound = still;

@@ -1,4 +1,4 @@
--- What it means to feed a format object: the state that contracts see, and what each call does to it.
+-- What it means to feed a format object: the state that contracts see, and what each call does.
 use Rattle.std.specs.Prelude.{◌≡◌, ℕ, ◌+◌, Bool, true, false, List, [], ◌++◌, length, Result, Ok, Err}
 use Rattle.design_model.specs.declared.command.Command.{Command}
 use Rattle.design_model.specs.declared.memory.Memory.{Memory}

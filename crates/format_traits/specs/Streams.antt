@@ -1,5 +1,5 @@
--- What the bytes of a file come to while they are read in pieces. A stream is what is still to come:
--- what the file reads as, and the commands that it gives, once the bytes from an offset on are known.
+-- What the bytes of a file come to while they are read in pieces. A stream is what is still to
+-- come: what the file reads as, and the commands that it gives, by the bytes from an offset on.
 use Rattle.std.specs.Prelude.{◌≡◌, ℕ, ◌+◌, ◌<◌, ◌≤◌, List, ◌++◌, length, drop, Result}
 use Rattle.design_model.specs.declared.command.Command.{Command}
 use Rattle.format_traits.specs.declared.decoder.TheConstants.{MOST_PENDING}
@@ -32,7 +32,8 @@ pub record ComesOn (one other : Stream) (at there : ℕ) (before after : List �
   pub given : (more : List ℕ) → one.given at (before ++ more) ≡ other.given there (after ++ more)
 
 -- so many of the bytes at an offset were taken; those that are left are few, and give nothing yet
-pub record Takes (old new : Stream) (so_far : SoFar) (at : ℕ) (bytes : List ℕ) (size : ℕ) : Type 0 where
+pub record Takes (old new : Stream) (so_far : SoFar) (at : ℕ) (bytes : List ℕ)
+    (size : ℕ) : Type 0 where
   pub there : size ≤ length bytes
   pub few : length bytes < size + MOST_PENDING
   pub on : ComesOn old new at (at + size) bytes (drop size bytes)
@@ -40,7 +41,8 @@ pub record Takes (old new : Stream) (so_far : SoFar) (at : ℕ) (bytes : List �
 
 -- a piece was passed on behind the bytes that were pending at an offset; what is pending then ends
 -- where the piece ends
-pub record Passes (old new : Stream) (so_far : SoFar) (at : ℕ) (before piece after : List ℕ) : Type 0 where
+pub record Passes (old new : Stream) (so_far : SoFar) (at : ℕ)
+    (before piece after : List ℕ) : Type 0 where
   pub few : length after ≤ length before + length piece
   pub on : (there : ℕ) → there + length after ≡ at + length before + length piece
       → ComesOn old new at there (before ++ piece) after

@@ -12,9 +12,9 @@ use crate::keeping::{keep, keep_both};
 use crate::placing::moved;
 use design_model::{Command, Design, Point};
 
-/// Adds the commands of the record at that offset, and gives the place after it.
 // A stitch goes the same way as the others, but in a copy of its own: LLVM then knows all along it
 // that the event is one.
+/// Adds the commands of the record at that offset, and gives the place after it.
 #[inline(always)]
 pub(crate) fn keep_event(
     design: &mut Design,
@@ -45,10 +45,8 @@ fn keep_here(design: &mut Design, at: u64, place: Point, event: Event) -> Result
     ensures others { SameButCommands design.old design.new }
 {
     let there = place_after(place, event);
-    match keep_commands(design, at, event, there) {
-        Ok(()) => Ok(there),
-        Err(fault) => Err(fault),
-    }
+    keep_commands(design, at, event, there)?;
+    Ok(there)
 }
 
 /// The place after an event.

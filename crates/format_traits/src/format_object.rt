@@ -32,6 +32,14 @@ pub trait Format: Drop {
     /// What was fed of a file, and what comes of it with any bytes more.
     ghost feeding: { Self → Feeding };
 
+    /// What a file's bytes read as.
+    fn decode(&self, alloc: Global, bytes: &[u8]) -> Result<Loaded, ReadFault>
+        ensures { Reads ((meaning self.now).reads bytes.now) result };
+
+    /// The number of bytes fed.
+    fn taken(&self) -> u64
+        ensures { result ≡ (feeding self.now).taken };
+
     /// The ending of the format's file names: small letters and digits of ASCII.
     fn ext(&self) -> &str
         ensures value { result.now ≡ (meaning self.now).ending }
@@ -42,10 +50,6 @@ pub trait Format: Drop {
         ensures value { result ≡ (meaning self.now).limit }
         ensures least { LEAST_LIMIT ≤ result }
         ensures most { result ≤ GREATEST_LIMIT };
-
-    /// What a file's bytes read as.
-    fn decode(&self, alloc: Global, bytes: &[u8]) -> Result<Loaded, ReadFault>
-        ensures { Reads ((meaning self.now).reads bytes.now) result };
 
     /// The file of a design. The acts are judged in order, and at one act the refusals come in the
     /// order of `WriteFault`.
@@ -75,10 +79,6 @@ pub trait Format: Drop {
         ensures same { meaning self.new ≡ meaning self.old }
         ensures told { Finishes (meaning self.new).reads (meaning self.new).shown (feeding self.old) result
             (feeding self.new) };
-
-    /// The number of bytes fed.
-    fn taken(&self) -> u64
-        ensures { result ≡ (feeding self.now).taken };
 
     /// The commands that were read so far.
     fn so_far(&self) -> &[Command]

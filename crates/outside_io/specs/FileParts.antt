@@ -17,7 +17,8 @@ IsBegun files name bytes = WhereTold files (λ told. Begins (told name) bytes)
 
 -- a part of a file: so many first bytes of the buffer stand behind those before; where there are
 -- none, these are the file
-pub record IsNextPart (files : Option Files) (name before buffer : List ℕ) (count : ℕ) : Type 0 where
+pub record IsNextPart (files : Option Files) (name before buffer : List ℕ)
+    (count : ℕ) : Type 0 where
   pub on : IsBegun files name (before ++ take count buffer)
   pub end : count ≡ 0 → HoldsNow files name before
 

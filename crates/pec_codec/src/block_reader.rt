@@ -32,7 +32,8 @@ impl BlockReader {
     /// Forgets all that was fed, and starts a block at that offset of a file. It takes no memory.
     pub fn begin(&mut self, at: u64)
         requires { at < 2 ^ 32 }
-        ensures { IsFresh (reads_by layout at) (given_by layout at) (⟦<BlockReader as Fed>⟧.feeding self.new) }
+        ensures { IsFresh (reads_by layout at) (given_by layout at)
+            (⟦<BlockReader as Fed>⟧.feeding self.new) }
     {
         self.feed.begin(at as u32);
     }

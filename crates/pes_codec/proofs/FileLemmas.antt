@@ -166,7 +166,8 @@ before_long opening begun new so_far at skip size bytes back there of_back same 
       there = omega (arith, left, in_back, there);
       few = omega (arith, left, few, there);
       on = record {
-        rest = λ more. ap (λ b. if b then Err (fault.Short (at + length (bytes ++ more))) else reads_by layout (at + skip) (drop skip (bytes ++ more))) (test more)
+        rest = λ more. ap (λ b. if b then Err (fault.Short (at + length (bytes ++ more))) else reads_by layout (at + skip) (drop skip
+            (bytes ++ more))) (test more)
             ∙ ap (reads_by layout (at + skip)) (behind more) ∙ sym (same.rest (at + skip) (back ++ more)) ∙ takes.on.rest more
             ∙ ap (λ n. new.rest n (drop size back ++ more)) far ∙ ap (λ gone. new.rest (at + (skip + size)) (gone ++ more)) gone;
         given = λ more. ap (λ b. if b then [] else given_by layout (at + skip) (drop skip (bytes ++ more))) (test more)

@@ -52,4 +52,7 @@ commands_at block (stage.Refused f) = []
 
 -- both
 abbrev pub so_far_at : SoFar → FileStage → SoFar
-so_far_at block stage = record { answer = answer_at block stage; commands = commands_at block stage }
+so_far_at block stage = record {
+  answer = answer_at block stage;
+  commands = commands_at block stage;
+}

@@ -1,4 +1,4 @@
--- How a file opens: with so many bytes, by which it is known, and which tell where its block begins.
+-- How a file opens: with so many bytes, by which it is known and which tell where its block is.
 use Rattle.std.specs.Prelude.{ℕ, ◌+◌, List, [], Bool, length, drop, nat_lt, Result, Err, if◌then◌else◌}
 use Rattle.design_model.specs.declared.command.Command.{Command}
 use Rattle.format_traits.specs.declared.fault.ReadFault.{ReadFault}

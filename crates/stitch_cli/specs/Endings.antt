@@ -102,7 +102,8 @@ LoadsInput reads name store store' (Err (halt.Missing missing)) =
 LoadsInput reads name store store' (Err (halt.NotRead lost)) =
     ReadsInput name store store' (Err (halt.NotRead lost))
 LoadsInput reads name store store' (Err (halt.Refused why)) =
-    ReadsInput name store store' (Err (halt.Refused why)) ⊎ IsUnreadInput reads name store store' why
+    ReadsInput name store store' (Err (halt.Refused why))
+    ⊎ IsUnreadInput reads name store store' why
 LoadsInput reads name store store' (Err halt.Memory) = store' ≡ store
 
 -- the report is printed; or it could not be, and its line is told

@@ -39,7 +39,8 @@ fn load_input<'a, S: Store>(
     name: &'a str,
 ) -> Result<Loaded, Halt<'a>>
     requires { IsName name.now }
-    ensures loads { LoadsInput (meaning format.old).reads name.now (S.sight store.old) (S.sight store.new) result }
+    ensures loads { LoadsInput (meaning format.old).reads name.now (S.sight store.old)
+        (S.sight store.new) result }
     ensures same { meaning format.new ≡ meaning format.old }
 {
     match load(store, name, format) {

@@ -8,7 +8,8 @@ use Rattle.pes_codec.proofs.file_decoder.FileDecoder.take_before.Goals as goal
 pub returns-then-length-skip : goal.returns-then-length-skip
 returns-then-length-skip g c =
     let block = c.args.self.now.block in
-    before_short g.F.FileFront.opening (stream_at layout pec_records block.design block.place block.stage) (so_far_at block.design block.stage)
+    before_short g.F.FileFront.opening (stream_at layout pec_records block.design block.place block.stage) (so_far_at block.design
+    block.stage)
     c.args.at c.args.skip c.args.bytes.now c.if-length-skip.true
 
 pub returns : goal.returns

@@ -8,7 +8,8 @@ use Rattle.pes_codec.proofs.file_decoder.FileDecoder.take_front.Goals as goal
 pub returns-then-bytes-length : goal.returns-then-bytes-length
 returns-then-bytes-length g c =
     let block = c.args.self.now.block in
-    front_short g.F.FileFront.opening (stream_at layout pec_records block.design block.place block.stage) (so_far_at block.design block.stage)
+    front_short g.F.FileFront.opening (stream_at layout pec_records block.design block.place block.stage) (so_far_at block.design
+    block.stage)
     c.args.at _ c.args.bytes.now _ c.if-bytes-length.true
     c.length.ensures.value c.length.ensures.few c.front_fault.ensures
 
