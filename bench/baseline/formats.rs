@@ -1,9 +1,9 @@
-//! The four formats, by the ending of a name.
+//! The five formats, by the ending of a name.
 
 use crate::design::Design;
 use crate::reading::{Loaded, ReadFault};
 use crate::writing::{Limits, WriteFault};
-use crate::{dst, exp, pec, pes};
+use crate::{dst, exp, lst, pec, pes};
 
 #[derive(Clone, Copy, PartialEq, Eq)]
 pub enum Format {
@@ -11,6 +11,7 @@ pub enum Format {
     Exp,
     Pec,
     Pes,
+    Lst,
 }
 
 impl Format {
@@ -21,6 +22,7 @@ impl Format {
             "exp" => Some(Format::Exp),
             "pec" => Some(Format::Pec),
             "pes" => Some(Format::Pes),
+            "lst" => Some(Format::Lst),
             _ => None,
         }
     }
@@ -31,6 +33,7 @@ impl Format {
             Format::Exp => "exp",
             Format::Pec => "pec",
             Format::Pes => "pes",
+            Format::Lst => "lst",
         }
     }
 
@@ -39,6 +42,7 @@ impl Format {
             Format::Dst => &dst::LIMITS,
             Format::Exp => &exp::LIMITS,
             Format::Pec | Format::Pes => &pec::LIMITS,
+            Format::Lst => &lst::LIMITS,
         }
     }
 
@@ -48,6 +52,7 @@ impl Format {
             Format::Exp => exp::decode(bytes),
             Format::Pec => pec::decode(bytes),
             Format::Pes => pes::decode(bytes),
+            Format::Lst => lst::decode(bytes),
         }
     }
 
@@ -57,6 +62,7 @@ impl Format {
             Format::Exp => exp::encode(design),
             Format::Pec => pec::encode(design),
             Format::Pes => pes::encode(design),
+            Format::Lst => lst::encode(design),
         }
     }
 }

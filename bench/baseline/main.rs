@@ -7,6 +7,7 @@ mod dst;
 mod edits;
 mod exp;
 mod formats;
+mod lst;
 mod pec;
 mod pes;
 mod reading;

@@ -6,8 +6,8 @@ pub const SHORT: &str = "file too short";
 pub const SIGNATURE: &str = "signature not known";
 pub const SEQUIN: &str = "sequin";
 pub const CONTROL: &str = "control code not known";
-const RANGE: &str = "point out of range";
-const TOO_MANY: &str = "more than 1000000 commands";
+pub const RANGE: &str = "point out of range";
+pub const TOO_MANY: &str = "more than 1000000 commands";
 
 pub struct Loaded {
     pub design: Design,

@@ -38,6 +38,15 @@ def conversions(size):
             yield Case(f"convert {source} to {target}", words, output, size)
 
 
+def lists(size):
+    """The stitch list, read and written."""
+    for source, target in (("exp", "lst"), ("lst", "exp"), ("lst", "lst")):
+        output = f"written.{target}"
+        words = ("convert", f"{size}.{source}", output)
+        yield Case(f"convert {source} to {target}", words, output, size)
+    yield Case("show lst", ("show", f"{size}.lst"), None, size)
+
+
 def refits(size):
     for flags in (("--split", "--cut"), ("--cut", "--split")):
         words = ("convert", f"wide-{size}.pes", "written.dst", *flags)
@@ -68,12 +77,12 @@ def others():
     yield Case("show stops.exp", ("show", "stops.exp"))
     yield Case("convert stops.exp to exp", ("convert", "stops.exp", "written.exp"), "written.exp")
     for kind in ("hostile", "zeros"):
-        for ext in FORMATS:
+        for ext in (*FORMATS, "lst"):
             yield Case(f"show {kind}.{ext}", ("show", f"{kind}.{ext}"))
 
 
 def all_cases(sizes):
     for size in sizes.commands:
-        for family in (shows, conversions, refits, edits, hoops):
+        for family in (shows, conversions, lists, refits, edits, hoops):
             yield from family(size)
     yield from others()

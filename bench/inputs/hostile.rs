@@ -23,6 +23,7 @@ fn beginning(format: Format) -> Vec<u8> {
         Format::Exp => Vec::new(),
         Format::Pec => [b"#PEC0001LA:hostile".as_slice(), &[b' '; 518]].concat(),
         Format::Pes => [b"#PES0001\x16".as_slice(), &[0; 13], b"LA:hostile", &[b' '; 518]].concat(),
+        Format::Lst => b"stitch-list 1\nlabel [hostile]\nblock 1\n".to_vec(),
     }
 }
 

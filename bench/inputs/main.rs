@@ -17,6 +17,8 @@ mod exp;
 #[path = "../baseline/formats.rs"]
 mod formats;
 mod hostile;
+#[path = "../baseline/lst.rs"]
+mod lst;
 #[path = "../baseline/pec.rs"]
 mod pec;
 #[path = "../baseline/pes.rs"]
@@ -36,7 +38,8 @@ use design::Design;
 use formats::Format;
 use sewing::{sew, Cloth};
 
-const FORMATS: [Format; 4] = [Format::Dst, Format::Exp, Format::Pec, Format::Pes];
+const FORMATS: [Format; 5] =
+    [Format::Dst, Format::Exp, Format::Pec, Format::Pes, Format::Lst];
 
 fn write_design(folder: &Path, name: &str, design: &Design, format: Format) {
     let bytes = match format.encode(design) {
