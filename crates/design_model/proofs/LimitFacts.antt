@@ -1,9 +1,12 @@
 -- The limits of designs, in numbers, and of the whole numbers that words spell. Points are in tenths
 -- of a millimetre, labels in bytes.
-use Rattle.std.proofs.Common.{◌≡◌, [], ◌∷◌, refl, arith}
+use Rattle.std.proofs.Common.{◌≡◌, pos, negsuc, true, false, [], ◌∷◌, map, refl, arith}
+use Rattle.design_model.specs.declared.command.Command.TheVariants.{Stitch, Jump, Trim, Stop}
 use Rattle.design_model.specs.declared.design.TheConstants.{MAX_COMMANDS, MAX_LABEL, MAX_THREADS}
+use Rattle.design_model.specs.declared.point.Point.{Point}
 use Rattle.design_model.specs.declared.point.TheConstants.{JUMP_LIMIT, NEEDLE_LIMIT}
 use Rattle.design_model.specs.declared.whole_number.TheConstants.{MAX_WHOLE}
+use Rattle.design_model.specs.Commands.{takes_point}
 use Rattle.design_model.specs.Labels.{IsLabel, IsPrintable}
 
 -- how far a needle and a jump may reach on each axis
@@ -12,6 +15,25 @@ known_needle = refl
 
 pub known_jump : JUMP_LIMIT ≡ 32767
 known_jump = refl
+
+-- a stitch can be moved as far as a needle reaches and a jump farther, on each axis; a trim and a stop have no point
+abbrev far : Point
+far = record { x = pos 0; y = negsuc 29999 }
+
+abbrev farther : Point
+farther = record { x = pos 30001; y = pos 0 }
+
+abbrev too_far : Point
+too_far = record { x = pos 0; y = pos 32768 }
+
+pub known_stitch : map (takes_point (Stitch farther)) (far ∷ farther ∷ []) ≡ true ∷ false ∷ []
+known_stitch = refl
+
+pub known_jump_point : map (takes_point (Jump far)) (farther ∷ too_far ∷ []) ≡ true ∷ false ∷ []
+known_jump_point = refl
+
+pub known_no_point : takes_point Trim far ∷ takes_point Stop far ∷ [] ≡ false ∷ false ∷ []
+known_no_point = refl
 
 -- how much a design holds
 pub known_commands : MAX_COMMANDS ≡ 1000000

@@ -1,6 +1,7 @@
 -- Worked values of the lookup of a name's format.
-use Rattle.std.proofs.Common.{◌≡◌, ℕ, true, List, [], ◌∷◌, Some, None, Ok, refl, codes}
+use Rattle.std.proofs.Common.{◌≡◌, ℕ, true, false, List, [], ◌∷◌, map, Some, None, Ok, refl, codes}
 use Rattle.format_traits.specs.Endings.{ending_in, found_in}
+use Rattle.format_traits.specs.Laws.{is_ending_byte}
 use Rattle.format_traits.specs.Meanings.{Meaning}
 use Rattle.format_traits.specs.Readings.{loaded_with}
 use Rattle.format_traits.specs.Records.{over, course_of}
@@ -44,3 +45,11 @@ known_not_found_without_dot = refl
 
 pub known_not_found_at_end : found_in (named (codes "dst") ∷ []) (codes "a.") ≡ None
 known_not_found_at_end = refl
+
+-- a, z, 0 and 9 may stand in an ending, and what lies next to them and capitals may not
+pub known_ending_bytes : map is_ending_byte (97 ∷ 122 ∷ 48 ∷ 57 ∷ []) ≡ true ∷ true ∷ true ∷ true ∷ []
+known_ending_bytes = refl
+
+pub known_other_bytes : map is_ending_byte (96 ∷ 123 ∷ 47 ∷ 58 ∷ 65 ∷ 90 ∷ [])
+    ≡ false ∷ false ∷ false ∷ false ∷ false ∷ false ∷ []
+known_other_bytes = refl

@@ -1,12 +1,13 @@
 -- Worked values of files.
-use Rattle.std.proofs.Common.{◌≡◌, true, [], ◌∷◌, ◌++◌, length, replicate, codes, Err, IsOkAnd, refl}
+use Rattle.std.proofs.Common.{◌≡◌, ℕ, pos, true, List, [], ◌∷◌, ◌++◌, length, replicate, codes, Err, IsOkAnd, refl}
 use Rattle.design_model.specs.declared.command.Command.TheVariants.{Stitch}
+use Rattle.design_model.specs.declared.point.Point.{Point}
 use Rattle.design_model.specs.Designs.{DesignValue}
 use Rattle.design_model.specs.Points.{origin}
 use Rattle.format_traits.specs.declared.fault.ReadFault.TheVariants as fault
 use Rattle.pes_codec.specs.declared.front.TheConstants.{OFFSET_END, PEC_BLOCK}
 use Rattle.pes_codec.specs.Files.{block_offset, pec_front, pes_front}
-use Rattle.pes_codec.specs.Reading.{pec_reads, pes_reads}
+use Rattle.pes_codec.specs.Reading.{pec_moves, pec_reads, pec_shown, pes_moves, pes_reads, pes_shown}
 use Rattle.pes_codec.specs.Writing.{pec_writes, pes_writes}
 
 -- one stitch at the origin
@@ -83,3 +84,30 @@ pub known_own_front : IsOkAnd (pes_reads (codes "#PES0001" ++ 0x00 ∷ 0x00 ∷ 
       ended = true;
     })
 known_own_front = refl
+
+-- a block of a stitch to the right and further downwards, and the end; what follows is not looked at
+abbrev block : List ℕ
+block = replicate 528 32 ++ 0x05 ∷ 0x07 ∷ 0xFF ∷ 0x01 ∷ 0x01 ∷ []
+
+abbrev target : Point
+target = record { x = pos 5; y = pos 7 }
+
+-- it stands at offset 8 of a PEC file, and here at 14 of a PES file
+pub known_pec_moves : pec_moves (codes "#PEC0001" ++ block) ≡ target ∷ []
+known_pec_moves = refl
+
+pub known_pec_shown : pec_shown (codes "#PEC0001" ++ block) ≡ Stitch target ∷ []
+known_pec_shown = refl
+
+pub known_pes_moves : pes_moves (codes "#PES0001" ++ 0x0E ∷ 0x00 ∷ 0x00 ∷ 0x00 ∷ 0x00 ∷ 0x00 ∷ block) ≡ target ∷ []
+known_pes_moves = refl
+
+pub known_pes_shown : pes_shown (codes "#PES0001" ++ 0x0E ∷ 0x00 ∷ 0x00 ∷ 0x00 ∷ 0x00 ∷ 0x00 ∷ block) ≡ Stitch target ∷ []
+known_pes_shown = refl
+
+-- a file that isn't known moves and shows nothing
+pub known_other_moves : pec_moves (codes "#PES0001" ++ block) ≡ []
+known_other_moves = refl
+
+pub known_other_shown : pec_shown (codes "#PES0001" ++ block) ≡ []
+known_other_shown = refl
