@@ -56,9 +56,25 @@ fn place_after(place: Point, event: Event) -> Point
     ensures { result ≡ place_by event place }
 {
     match event {
-        Event::Trim | Event::Stop => place,
-        Event::Stitch(step) | Event::Jump(step) | Event::TrimmedJump(step) | Event::StopBy(step) =>
-            moved(place, step),
+        Event::Stitch(step) | Event::Jump(step) => moved(place, step),
+        Event::TrimmedJump(_) | Event::Trim | Event::Stop | Event::StopBy(_) => {
+            place_after_cut(place, event)
+        }
+    }
+}
+
+/// The same for an event that trims or stops.
+#[cold]
+#[inline(never)]
+fn place_after_cut(place: Point, event: Event) -> Point
+    requires cuts { cuts event ≡ true }
+    requires place { IsTrue (is_within JUMP_LIMIT place) }
+    requires small { IsTrue (list_all (λ move. is_within GREATEST_STEP move) (moves_in event)) }
+    ensures { result ≡ place_by event place }
+{
+    match event {
+        Event::TrimmedJump(step) | Event::StopBy(step) => moved(place, step),
+        _ => place,
     }
 }
 
