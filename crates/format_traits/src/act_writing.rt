@@ -63,13 +63,33 @@ fn put_act<W: RecordWriter>(
         Act::Needle { float: false, .. } if !standing.loose => {
             put_act_here(writer, out, standing, act)
         }
-        _ => {
-            let mut after = *standing;
-            put_act_apart(writer, out, &mut after, act)?;
-            *standing = after;
-            Ok(())
-        }
+        _ => put_act_copied(writer, out, standing, act),
     }
+}
+
+/// The same apart, with a copy of the act and of how it stands: lent themselves, they would live in memory all
+/// along the loop.
+#[inline(always)]
+fn put_act_copied<W: RecordWriter>(
+    writer: &W,
+    out: &mut Bytes,
+    standing: &mut Standing,
+    act: NumberedAct,
+) -> Result<(), WriteFault>
+    requires sound { IsSound standing.old }
+    requires act { IsTrue (is_act_in_range act.act) }
+    ensures value { PutsAct (W.spelling writer.now) (W.reach writer.now) standing.old act
+        out.old result standing.new out.new }
+    ensures sound { OnOk result (IsSound standing.new) }
+{
+    let copy = NumberedAct {
+        number: act.number,
+        act: act.act,
+    };
+    let mut after = *standing;
+    put_act_apart(writer, out, &mut after, copy)?;
+    *standing = after;
+    Ok(())
 }
 
 #[cold]
@@ -102,12 +122,13 @@ fn put_act_here<W: RecordWriter>(
         out.old result standing.new out.new }
     ensures sound { OnOk result (IsSound standing.new) }
 {
+    let before = *standing;
     let reach = writer.reach();
-    if let Some(fault) = reach.refusal(standing, act.number, act.act) {
+    if let Some(fault) = reach.refusal(&before, act.number, act.act) {
         return Err(fault);
     }
-    put_act_records(writer, out, standing, act.act)?;
-    *standing = standing.after(reach.limit, act.act);
+    put_act_records(writer, out, &before, act.act)?;
+    *standing = before.after(reach.limit, act.act);
     Ok(())
 }
 

@@ -121,6 +121,8 @@ fn part(step: i32, count: u32, done: u32) -> i32
     floor_part(step, count, done)
 }
 
+// Most moves are of one part, which takes no division.
+#[tactic(auto, using(crate::proofs::rereading::Hops::axis_all, crate::proofs::rereading::Hops::axis_none))]
 fn floor_part(step: i32, count: u32, done: u32) -> i32
     requires size { unsigned_abs step ≤ GREATEST_MOVE }
     requires there { done ≤ count }
@@ -128,5 +130,11 @@ fn floor_part(step: i32, count: u32, done: u32) -> i32
     requires count { count ≤ MOST_HOPS }
     ensures { result ≡ int_div_euclid (pos done *ℤ step) (pos count) }
 {
+    if done == 0 {
+        return 0;
+    }
+    if done == count {
+        return step;
+    }
     (done as i32 * step).div_euclid(count as i32)
 }
