@@ -6,7 +6,7 @@ use crate::draft::Draft;
 use crate::label_line::label_of;
 use crate::list_line::{is_end, line_of, thread_of};
 use crate::list_stage::ListStage;
-use crate::words::{spells, split_first};
+use crate::words::{spells, split_line};
 use design_model::{Command, Design, Memory};
 use format_traits::{Decoder, Loaded, ReadFault};
 use std::alloc::Global;
@@ -49,7 +49,7 @@ impl ListDecoder {
     {
         let mut at = start;
         let mut rest = bytes;
-        while let Some((line, after)) = split_first(rest, b'\n') {
+        while let Some((line, after)) = split_line(rest) {
             self.take_line(at, line)?;
             at += line.len() as u64 + 1;
             rest = after;
@@ -169,6 +169,9 @@ impl Decoder for ListDecoder {
     }
 
     fn take(&mut self, at: u64, bytes: &[u8]) -> Result<usize, Memory> {
+        if let ListStage::Refused(_) = self.stage {
+            return Ok(bytes.len());
+        }
         let size = self.take_lines(at, bytes)?;
         let (_, part) = bytes.split_at(size);
         Ok(size + self.take_part(at + size as u64, part))

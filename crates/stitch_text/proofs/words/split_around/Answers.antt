@@ -1,13 +1,13 @@
 use Rattle.std.proofs.Common.{arith}
 use Rattle.std.proofs.lemmas.Bool.Decides.{nat_tests}
 use Rattle.stitch_text.proofs.PartLemmas.{first_part, one_part}
-use Rattle.stitch_text.proofs.words.split_first.Goals as goal
+use Rattle.stitch_text.proofs.words.split_around.Goals as goal
 
 pub returns-then-is_empty-clause-none : goal.returns-then-is_empty-clause-none
 returns-then-is_empty-clause-none c =
-    one_part _ _ _ _ c.first_place.ensures.value c.first_place.ensures.within c.split_at.ensures.back (grind (arith, nat_tests))
+    one_part _ _ _ _ c.requires.value c.requires.within c.split_at.ensures.back (grind (arith, nat_tests))
 
 pub returns-clause-some : goal.returns-clause-some
 returns-clause-some c =
-    first_part _ _ _ _ _ _ c.first_place.ensures.value c.split_at.ensures.front c.split_at.ensures.back
+    first_part _ _ _ _ _ _ c.requires.value c.split_at.ensures.front c.split_at.ensures.back
     (grind (arith, nat_tests)) c.split_at-2.ensures.back

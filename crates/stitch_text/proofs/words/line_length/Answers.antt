@@ -1,0 +1,7 @@
+use Rattle.std.proofs.Common.{◌∙◌}
+use Rattle.stitch_text.proofs.PartLemmas.{place_found}
+use Rattle.stitch_text.proofs.words.line_length.Goals as goal
+
+pub returns-clause-value : goal.returns-clause-value
+returns-clause-value c =
+    c.unwrap_or.ensures ∙ place_found 10 c.args.bytes.now c.memchr.result c.memchr.ensures
