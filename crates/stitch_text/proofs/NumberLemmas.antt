@@ -1,5 +1,6 @@
 -- Numbers as words: what a word says, and the one word that says it.
-use Rattle.std.proofs.Common.{◌≡◌, ℕ, ℤ, pos, negsuc, zero, suc, ◌<◌, ◌≤◌, ◌^◌, ◌==◌, ◌&&◌, ◌||◌, Bool, true, false, not, nat_le, unsigned_abs, List, [], ◌∷◌, length, get_or, if◌then◌else◌, subst, ap, sym, refl, ◌∙◌, inl, inr, arith}
+use Rattle.std.proofs.Common.{◌≡◌, ℕ, ℤ, pos, negsuc, zero, suc, ◌<◌, ◌≤◌, ◌^◌, ◌==◌, ◌&&◌, ◌||◌, Bool, true, false, not, nat_le, unsigned_abs, List, [], ◌∷◌, length, get_or, if◌then◌else◌, int_le, true≢false, subst, ap, sym, refl, ◌∙◌, inl, inr, arith}
+use lib.Dec.{leb-zero}
 use Rattle.std.proofs.lemmas.Bool.{and_from, and_parts, cases_order, not-true}
 use Rattle.std.proofs.lemmas.Bool.Decides.{nat_tests}
 use Rattle.std.proofs.lemmas.Fmt.{decimal-digits_value, decimal_digit, decimal_nonempty, digits_decimal, digits_value-decimal, first_decimal}
@@ -32,6 +33,11 @@ digits_inner (b ∷ ds) digits =
 pub signed_inner : (z : ℤ) → unsigned_abs z < 2 ^ 63 → list_all is_inner (signed_decimal z) ≡ true
 signed_inner (pos n) small = digits_inner (decimal n) (digits_decimal own n (omega (arith, small)))
 signed_inner (negsuc n) small = digits_inner (decimal (suc n)) (digits_decimal own (suc n) (omega (arith, small)))
+
+-- a number below zero is a minus sign and the digits of its size
+pub minus_first : (z : ℤ) → int_le (pos 0) z ≡ false → 45 ∷ decimal (unsigned_abs z) ≡ signed_decimal z
+minus_first (pos n) here = absurd (true≢false (sym (leb-zero n) ∙ here))
+minus_first (negsuc n) here = refl
 
 -- digits spell the number that they write
 numeral_some : (ds : List ℕ) → 0 < length ds → all_ascii_digits ds ≡ true → is_numeral ds ≡ true

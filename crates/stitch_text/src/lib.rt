@@ -14,6 +14,7 @@ mod label_line;
 mod list_decoder;
 mod list_line;
 mod list_stage;
+mod point_line;
 mod promises;
 mod stitch_list;
 #[cfg(test)]

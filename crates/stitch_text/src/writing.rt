@@ -1,5 +1,4 @@
 ghost use Rattle.std.specs.Prelude.{◌≡◌, ◌≤◌, ◌∷◌, ◌++◌, [], IsTrue, OnOk};
-ghost use Rattle.std.specs.Fmt.{signed_decimal};
 ghost use Rattle.design_model.specs.declared.design.TheConstants.{MAX_COMMANDS};
 ghost use Rattle.design_model.specs.declared.point.TheConstants.{NEEDLE_LIMIT};
 ghost use Rattle.design_model.specs.Acts.{acts_of};
@@ -8,12 +7,13 @@ ghost use Rattle.design_model.specs.Designs.{thread_of};
 ghost use Rattle.design_model.specs.Points.{is_within};
 ghost use Rattle.format_traits.specs.Laws.{KeepsLaws, Writes};
 ghost use Rattle.stitch_text.specs.Format.{stitch_list};
-ghost use Rattle.stitch_text.specs.StitchLists.{act_line, block_line, headed, point_line, writes};
+ghost use Rattle.stitch_text.specs.StitchLists.{act_line, block_line, headed, writes};
 ghost use Rattle.stitch_text.specs.Steps.{PutsLine, PutsLines};
 
+use crate::point_line::put_point;
 use crate::promises::written_reads_again;
 use crate::stitch_list::{LIMIT, reach};
-use design_model::{Act, ActWalk, Bytes, Design, Memory, NumberedAct, Point};
+use design_model::{Act, ActWalk, Bytes, Design, Memory, NumberedAct};
 use format_traits::{Standing, WriteFault};
 use itoa::Buffer;
 use std::alloc::Global;
@@ -105,10 +105,12 @@ fn put_line(text: &mut Bytes, design: &Design, stops: u32, act: Act) -> Result<(
     match act {
         Act::Needle { at, float: true } => put_point(text, b"float", at)?,
         Act::Needle { at, float: false } => put_point(text, b"needle", at)?,
-        Act::Trim => text.append(b"trim")?,
-        Act::Stop => put_block(text, design.thread(stops + 1))?,
+        Act::Trim => text.append(b"trim\n")?,
+        Act::Stop => {
+            put_block(text, design.thread(stops + 1))?;
+            text.push(b'\n')?;
+        }
     }
-    text.push(b'\n')?;
     Ok(())
 }
 
@@ -118,24 +120,5 @@ fn put_block(text: &mut Bytes, thread: u8) -> Result<(), Memory>
     let mut buffer = Buffer::new();
     text.append(b"block ")?;
     text.append(buffer.format(thread).as_bytes())?;
-    Ok(())
-}
-
-fn put_point(text: &mut Bytes, word: &[u8], at: Point) -> Result<(), Memory>
-    ensures { OnOk result (text.new ≡ text.old ++ point_line word.now at) }
-{
-    text.append(word)?;
-    text.push(b' ')?;
-    put_number(text, at.x)?;
-    text.push(b' ')?;
-    put_number(text, at.y)?;
-    Ok(())
-}
-
-fn put_number(text: &mut Bytes, number: i32) -> Result<(), Memory>
-    ensures { OnOk result (text.new ≡ text.old ++ signed_decimal number) }
-{
-    let mut buffer = Buffer::new();
-    text.append(buffer.format(number).as_bytes())?;
     Ok(())
 }

@@ -1,0 +1,59 @@
+ghost use Rattle.std.specs.Prelude.{◌≡◌, ◌≤◌, ◌<◌, ◌+◌, ◌∷◌, ◌++◌, [], drop, length, OnOk};
+ghost use Rattle.std.specs.Fmt.{signed_decimal};
+ghost use Rattle.stitch_text.specs.StitchLists.{point_line};
+
+use design_model::{Bytes, Memory, Point};
+use itoa::write_digits;
+
+/// More bytes than two numbers have, a space before each and the end of the line.
+const ROOM: usize = 32;
+
+/// Adds the line of a word and a point.
+pub(crate) fn put_point(text: &mut Bytes, word: &[u8], at: Point) -> Result<(), Memory>
+    ensures { OnOk result (text.new ≡ text.old ++ (point_line word.now at ++ 10 ∷ [])) }
+{
+    let mut room = [b'\n'; ROOM];
+    let start = point_before(&mut room, ROOM - 1, at);
+    text.append(word)?;
+    text.append(&room[start..])?;
+    Ok(())
+}
+
+/// Puts a space and a number for each coordinate before that place, and tells where they begin.
+fn point_before(room: &mut [u8], end: usize, at: Point) -> usize
+    requires some { 24 ≤ end }
+    requires there { end ≤ length room.old }
+    ensures within { result ≤ end }
+    ensures written { drop result room.new
+        ≡ 32 ∷ (signed_decimal at.x ++ (32 ∷ (signed_decimal at.y ++ drop end room.old))) }
+{
+    let y = number_before(room, end, at.y);
+    let gap = space_before(room, y);
+    let x = number_before(room, gap, at.x);
+    space_before(room, x)
+}
+
+fn space_before(room: &mut [u8], end: usize) -> usize
+    requires some { 0 < end }
+    requires there { end ≤ length room.old }
+    ensures start { result + 1 ≡ end }
+    ensures written { drop result room.new ≡ 32 ∷ drop end room.old }
+{
+    room[end - 1] = b' ';
+    end - 1
+}
+
+fn number_before(room: &mut [u8], end: usize, number: i32) -> usize
+    requires some { 11 ≤ end }
+    requires there { end ≤ length room.old }
+    ensures start { result + length (signed_decimal number) ≡ end }
+    ensures most { end ≤ result + 11 }
+    ensures written { drop result room.new ≡ signed_decimal number ++ drop end room.old }
+{
+    let start = write_digits(number.unsigned_abs() as u64, room, end);
+    if number >= 0 {
+        return start;
+    }
+    room[start - 1] = b'-';
+    start - 1
+}
