@@ -1,5 +1,5 @@
 -- The lines of a text, judged one after another.
-use Rattle.std.proofs.Common.{◌≡◌, ◌≢◌, ℕ, ◌+◌, List, [], ◌∷◌, Option, Bool, false, Result, bytes_eq, length, if◌then◌else◌, ap, sym, refl, ◌∙◌}
+use Rattle.std.proofs.Common.{◌≡◌, ◌≢◌, ℕ, ◌+◌, List, [], ◌∷◌, Option, Bool, false, Result, bytes_eq, codes, length, if◌then◌else◌, ap, sym, refl, ◌∙◌}
 use Rattle.design_model.specs.Designs.{DesignValue}
 use Rattle.format_traits.specs.declared.fault.ReadFault.{ReadFault}
 use Rattle.stitch_text.specs.declared.draft.Draft.{Draft}
@@ -46,6 +46,13 @@ pub many_words : (word x behind y rest : List ℕ) → words_in behind ≡ y ∷
     → words_said (word ∷ x ∷ words_in behind) ≡ words_said []
 many_words word x behind y rest are =
     ap (λ words. words_said (word ∷ x ∷ words)) are ∙ four_words word x y (words_in rest) (some_part 32 rest)
+
+-- another word before two or more says nothing
+pub other_word : (word x : List ℕ) (words : List (List ℕ)) → words ≢ [] → bytes_eq word (codes "needle") ≡ false
+    → bytes_eq word (codes "float") ≡ false → words_said (word ∷ x ∷ words) ≡ words_said []
+other_word word x [] some sewn float = absurd (some refl)
+other_word word x (y ∷ []) some sewn float = rw (sewn, float) refl
+other_word word x (y ∷ next ∷ words) some sewn float = refl
 
 -- a line that is judged
 pub acts_judged : (at : ℕ) (draft : Draft) (text line after : List ℕ) (said : Option ListLine)

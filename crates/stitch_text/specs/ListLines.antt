@@ -21,6 +21,11 @@ needle_said float (whole.Value x) (whole.Value y) =
 needle_said float x whole.NotANumber = None
 needle_said float x y = Some line.Far
 
+-- the first word of such an act
+abbrev pub needle_word : Bool → List ℕ
+needle_word true = codes "float"
+needle_word false = codes "needle"
+
 -- what a line of one word says
 abbrev pub word_said : List ℕ → Option ListLine
 word_said word =

@@ -1,5 +1,5 @@
-ghost use Rattle.std.specs.Prelude.{◌≡◌, ◌∷◌, []};
-ghost use Rattle.stitch_text.specs.ListLines.{block_said, line_said, needle_said, word_said, words_said};
+ghost use Rattle.std.specs.Prelude.{◌≡◌, ◌∷◌, ◌++◌, [], codes, IfSome};
+ghost use Rattle.stitch_text.specs.ListLines.{block_said, line_said, needle_said, needle_word, word_said, words_said};
 ghost use Rattle.stitch_text.specs.Readings.{is_end as is_last, thread_said};
 ghost use Rattle.stitch_text.specs.Words.{words_in};
 
@@ -31,6 +31,34 @@ pub(crate) fn line_of(line: &[u8]) -> Option<ListLine>
     if line.len() > MAX_LINE {
         return None;
     }
+    match after_needle(line) {
+        Some(rest) => sewn_line(rest),
+        None => line_of_any(line),
+    }
+}
+
+/// What stands behind the word of a needle that is sewn on, with which nearly all lines begin.
+fn after_needle(line: &[u8]) -> Option<&[u8]>
+    ensures { IfSome result (λ rest. line.now ≡ codes "needle " ++ rest.now) }
+{
+    match line {
+        [b'n', b'e', b'e', b'd', b'l', b'e', b' ', rest @ ..] => Some(rest),
+        _ => None,
+    }
+}
+
+fn sewn_line(rest: &[u8]) -> Option<ListLine>
+    ensures { result ≡ words_said (codes "needle" ∷ words_in rest.now) }
+{
+    match split_first(rest, b' ') {
+        Some((x, behind)) => needle_line(false, x, behind),
+        None => None,
+    }
+}
+
+fn line_of_any(line: &[u8]) -> Option<ListLine>
+    ensures { result ≡ words_said (words_in line.now) }
+{
     match split_first(line, b' ') {
         Some((word, rest)) => line_of_words(word, rest),
         None => line_of_word(line),
@@ -73,9 +101,21 @@ fn line_of_words(word: &[u8], rest: &[u8]) -> Option<ListLine>
     ensures { result ≡ words_said (word.now ∷ words_in rest.now) }
 {
     match split_first(rest, b' ') {
-        Some((x, behind)) => needle_line(word, x, behind),
+        Some((x, behind)) => line_of_more(word, x, behind),
         None => block_line(word, rest),
     }
+}
+
+fn line_of_more(word: &[u8], x: &[u8], behind: &[u8]) -> Option<ListLine>
+    ensures { result ≡ words_said (word.now ∷ x.now ∷ words_in behind.now) }
+{
+    if spells(word, "needle") {
+        return needle_line(false, x, behind);
+    }
+    if spells(word, "float") {
+        return needle_line(true, x, behind);
+    }
+    None
 }
 
 fn block_line(word: &[u8], number: &[u8]) -> Option<ListLine>
@@ -100,25 +140,13 @@ fn block_of(number: Whole) -> Option<ListLine>
     }
 }
 
-fn needle_line(word: &[u8], x: &[u8], behind: &[u8]) -> Option<ListLine>
-    ensures { result ≡ words_said (word.now ∷ x.now ∷ words_in behind.now) }
+fn needle_line(float: bool, x: &[u8], behind: &[u8]) -> Option<ListLine>
+    ensures { result ≡ words_said (needle_word float ∷ x.now ∷ words_in behind.now) }
 {
     match split_first(behind, b' ') {
         Some(_) => None,
-        None => needle_of_words(word, x, behind),
+        None => needle(float, number_in(x), number_in(behind)),
     }
-}
-
-fn needle_of_words(word: &[u8], x: &[u8], y: &[u8]) -> Option<ListLine>
-    ensures { result ≡ words_said (word.now ∷ x.now ∷ y.now ∷ []) }
-{
-    if spells(word, "needle") {
-        return needle(false, number_in(x), number_in(y));
-    }
-    if spells(word, "float") {
-        return needle(true, number_in(x), number_in(y));
-    }
-    None
 }
 
 fn needle(float: bool, x: Whole, y: Whole) -> Option<ListLine>
