@@ -1,55 +1,86 @@
-"""Counts what a program does, the same on every machine: its instructions, and its jumps by a table."""
+"""Counts what a program does, the same on every machine: its instructions, and the jumps through a table that it
+takes."""
 
 import re
 import shutil
 import subprocess
+import tempfile
+from dataclasses import dataclass
+from pathlib import Path
+from typing import Optional
 
 from building import say
 from places import INPUTS
 
-# The crates whose functions read, write or walk through commands.
-INNER = ("design_model::", "format_traits::", "dst_codec::", "exp_codec::", "pec_codec::", "pes_codec::")
 FUNCTION = re.compile(r"^[0-9a-f]+ <(.*)>:$")
-TABLE_JUMP = re.compile(r"\sjmp\s+\*%")
-COLLECTED = re.compile(r"Collected : (\d+)")
+TABLE_JUMP = re.compile(r"^\s*([0-9a-f]+):\s+(?:notrack )?jmp\s+\*%")
 
 
-def instructions(program, words):
-    """The instructions of one run among the inputs, by valgrind's callgrind."""
-    tool = ["valgrind", "--tool=callgrind", "--callgrind-out-file=/dev/null", program, *words]
-    run = subprocess.run(tool, cwd=INPUTS, stdout=subprocess.DEVNULL, stderr=subprocess.PIPE, text=True)
-    return int(COLLECTED.search(run.stderr).group(1))
+@dataclass(frozen=True)
+class Count:
+    """What one run took: its instructions, its jumps through a table, and the function that took the most of them."""
 
-
-def count_all(cases, programs):
-    """The instructions of each case for each program; of none where there is no valgrind."""
-    if not shutil.which("valgrind"):
-        say("valgrind is not on the PATH: no instructions are counted")
-        return {}
-    say("counting instructions")
-    return {case: [instructions(program, case.words) for program in programs] for case in cases}
+    instructions: int
+    jumps: Optional[int]
+    jumper: str
 
 
 def table_jumps(program):
-    """How many jumps through a register each function of a program has."""
+    """The function of each jump through a register in a program, by the jump's address; none without objdump."""
+    if not shutil.which("objdump"):
+        return None
     tool = ["objdump", "-d", "--no-show-raw-insn", program]
     jumps, function = {}, ""
     for line in subprocess.run(tool, stdout=subprocess.PIPE, text=True, check=True).stdout.splitlines():
         head = FUNCTION.match(line)
+        jump = TABLE_JUMP.match(line)
         if head:
-            function = head.group(1)
-        elif TABLE_JUMP.search(line):
-            jumps[function] = jumps.get(function, 0) + 1
+            function = head.group(1).split("::<")[0]
+        elif jump:
+            jumps[int(jump.group(1), 16)] = function
     return jumps
 
 
-def jumps_line(program):
-    """How many of them are in the functions that read, write or walk."""
-    if not shutil.which("objdump"):
-        return "Jumps through a table: not counted (objdump is not on the PATH)."
-    jumps = table_jumps(program)
-    inner = sum(count for function, count in jumps.items() if function.startswith(INNER))
-    return (
-        f"Jumps through a table (`jmp *%`): {inner} in the functions of the codecs and of what they "
-        f"stand on, {sum(jumps.values())} in all of `stitch`."
-    )
+def executed(profile):
+    """The object and the address of each instruction in a profile, and how often it was executed there."""
+    object_name, below_call = "", False
+    for line in profile:
+        if line.startswith("ob="):
+            object_name = line[3:].strip()
+        elif line.startswith("0x") and not below_call:
+            address, _, count = line.split()
+            yield object_name, int(address, 16), int(count)
+        below_call = line.startswith("calls=")
+
+
+def count_of(program, words, jumps):
+    """What one run among the inputs takes, by valgrind's callgrind."""
+    with tempfile.TemporaryDirectory() as folder:
+        kept = Path(folder) / "profile"
+        tool = ["valgrind", "--tool=callgrind", "--dump-instr=yes", "--compress-pos=no", "--compress-strings=no"]
+        run = [*tool, f"--callgrind-out-file={kept}", program, *words]
+        subprocess.run(run, cwd=INPUTS, stdout=subprocess.DEVNULL, stderr=subprocess.DEVNULL)
+        with open(kept) as profile:
+            rows = list(executed(profile))
+    total = sum(count for _, _, count in rows)
+    if jumps is None:
+        return Count(total, None, "")
+    taken = {}
+    for object_name, address, count in rows:
+        if address in jumps and object_name == str(program):
+            function = jumps[address]
+            taken[function] = taken.get(function, 0) + count
+    return Count(total, sum(taken.values()), max(taken, key=taken.get, default=""))
+
+
+def count_all(cases, programs):
+    """The counts of each case for each program; of none where there is no valgrind."""
+    if not shutil.which("valgrind"):
+        say("valgrind is not on the PATH: no instructions are counted")
+        return {}
+    say("counting instructions, and jumps through a table")
+    jumps = [table_jumps(program) for program in programs]
+    return {
+        case: [count_of(program, case.words, of_it) for program, of_it in zip(programs, jumps)]
+        for case in cases
+    }

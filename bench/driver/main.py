@@ -58,7 +58,6 @@ def main():
     cases = [case for case in all_cases(sizes) if asked.only in case.name]
     measured, differences = measuring.measure_all(cases, (stitch, BIN / "baseline"))
     counts = counting.count_all([case for case, _ in measured], (stitch, BIN / "baseline"))
-    first += "\n\n" + counting.jumps_line(stitch)
     text = tables.report(first, sizes, starts, measured, counts, measuring.commands_of)
     print(text)
     if differences:

@@ -5,6 +5,8 @@ from cases import FORMATS
 HIGHEST_RATIO = 1.2
 HIGHEST_GROWTH = 12.0
 HIGHEST_START = 2.0
+# A jump through a table that is taken less than once in so many commands costs nothing that can be measured.
+COMMANDS_A_JUMP = 10
 
 
 def marked(number, limit, digits=2):
@@ -19,33 +21,45 @@ def table(heads, rows):
     return "\n".join(lines)
 
 
-def counted(counts):
-    """Millions of instructions of both programs and their ratio, where they were counted."""
+def jumped(count, commands):
+    """The jumps through a table of a run; where they are many, bold, with the function that takes the most."""
+    if count.jumps is None:
+        return "–"
+    if count.jumps * COMMANDS_A_JUMP <= commands:
+        return f"{count.jumps:,}"
+    return f"**{count.jumps:,}** in `{count.jumper}`"
+
+
+def counted(counts, commands):
+    """Millions of instructions of both programs, their ratio and the jumps of ours, where they were counted."""
     if not counts:
-        return ["–", "–", "–"]
+        return ["–", "–", "–", "–"]
     ours, theirs = counts
-    return [f"{ours / 1e6:.1f}", f"{theirs / 1e6:.1f}", marked(ours / theirs, HIGHEST_RATIO)]
+    ratio = marked(ours.instructions / theirs.instructions, HIGHEST_RATIO)
+    millions = [f"{count.instructions / 1e6:.1f}" for count in counts]
+    return [*millions, ratio, jumped(ours, commands)]
 
 
-def cost_row(case, costs, counts):
+def cost_row(case, costs, counts, commands):
     ours, theirs = costs
     return [
         case.name,
         f"{ours.cpu:.4f}",
         f"{theirs.cpu:.4f}",
         marked(ours.cpu / theirs.cpu, HIGHEST_RATIO),
-        *counted(counts),
+        *counted(counts, commands),
         f"{ours.peak:.1f}",
         f"{theirs.peak:.1f}",
         marked(ours.peak / theirs.peak, HIGHEST_RATIO),
     ]
 
 
-def cost_table(measured, counts):
+def cost_table(measured, counts, commands):
     heads = ["Case", "Stitch, cpu s", "plain, cpu s", "ratio"]
-    heads += ["Stitch, instructions, million", "plain", "ratio"]
+    heads += ["Stitch, instructions, million", "plain", "ratio", "Stitch, table jumps"]
     heads += ["Stitch, peak MB", "plain, peak MB", "ratio"]
-    return table(heads, [cost_row(case, costs, counts.get(case)) for case, costs in measured])
+    rows = [cost_row(case, costs, counts.get(case), commands) for case, costs in measured]
+    return table(heads, rows)
 
 
 def growth_table(measured, middle, largest):
@@ -80,10 +94,11 @@ def report(head, sizes, starts, measured, counts, commands_of):
     for size in reversed(sizes.commands):
         chosen = [(case, costs) for case, costs in measured if case.size == size]
         if chosen:
-            parts += [f"### {size:,} commands", cost_table(chosen, counts)]
+            parts += [f"### {size:,} commands", cost_table(chosen, counts, size)]
     chosen = [(case, costs) for case, costs in measured if case.size is None]
     if chosen:
-        parts += [f"### {sizes.stops:,} stops, and {sizes.bytes:,} hostile bytes", cost_table(chosen, counts)]
+        parts += [f"### {sizes.stops:,} stops, and {sizes.bytes:,} hostile bytes"]
+        parts += [cost_table(chosen, counts, sizes.stops)]
     middle, largest = sizes.commands[1:]
     parts += [f"### Growth of cpu time from {middle:,} to {largest:,}", growth_table(measured, middle, largest)]
     return "\n\n".join(parts) + "\n"
