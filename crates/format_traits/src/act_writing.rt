@@ -92,6 +92,8 @@ fn put_act_copied<W: RecordWriter>(
     Ok(())
 }
 
+// Loose needles and stops go the same way as the others, but each in a copy of its own: LLVM then knows all along
+// it what the act is, and its hops are counted once.
 #[cold]
 #[inline(never)]
 fn put_act_apart<W: RecordWriter>(
@@ -106,7 +108,11 @@ fn put_act_apart<W: RecordWriter>(
         out.old result standing.new out.new }
     ensures sound { OnOk result (IsSound standing.new) }
 {
-    put_act_here(writer, out, standing, act)
+    match act.act {
+        Act::Needle { .. } if standing.loose => put_act_here(writer, out, standing, act),
+        Act::Stop => put_act_here(writer, out, standing, act),
+        _ => put_act_here(writer, out, standing, act),
+    }
 }
 
 #[inline(always)]
@@ -182,9 +188,6 @@ fn put_needle<W: RecordWriter>(
 }
 
 /// Adds the records of a float of so many jumps.
-// Floats and loose needles are few, and so apart from the writers' loops.
-#[cold]
-#[inline(never)]
 fn put_float<W: RecordWriter>(
     writer: &W,
     out: &mut Bytes,
@@ -234,8 +237,6 @@ fn put_stitched<W: RecordWriter>(
 }
 
 /// Adds so many jumps that make up a move, and a stitch on the spot.
-#[cold]
-#[inline(never)]
 fn put_hops<W: RecordWriter>(
     writer: &W,
     out: &mut Bytes,
