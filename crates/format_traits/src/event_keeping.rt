@@ -12,8 +12,8 @@ use crate::keeping::{keep, keep_both};
 use crate::placing::moved;
 use design_model::{Command, Design, Point};
 
-// A stitch goes the same way as the others, but in a copy of its own: LLVM then knows all along it
-// that the event is one.
+// The event is looked at once, in three arms: a stitch and a jump go the same way, each in a copy of its own, and all
+// else goes apart. Were it looked at twice, or in more arms, a jump through a table would be taken at each record.
 /// Adds the commands of the record at that offset, and gives the place after it.
 #[inline(always)]
 pub(crate) fn keep_event(
@@ -31,7 +31,12 @@ pub(crate) fn keep_event(
 {
     match event {
         Event::Stitch(_) => keep_here(design, at, place, event),
-        _ => keep_here(design, at, place, event),
+        Event::Jump(_) => keep_here(design, at, place, event),
+        _ => {
+            let there = place_after_cut(place, event);
+            keep_cut(design, at, event, there)?;
+            Ok(there)
+        }
     }
 }
 
@@ -57,9 +62,7 @@ fn place_after(place: Point, event: Event) -> Point
 {
     match event {
         Event::Stitch(step) | Event::Jump(step) => moved(place, step),
-        Event::TrimmedJump(_) | Event::Trim | Event::Stop | Event::StopBy(_) => {
-            place_after_cut(place, event)
-        }
+        _ => place_after_cut(place, event),
     }
 }
 
@@ -87,9 +90,7 @@ fn keep_commands(design: &mut Design, at: u64, event: Event, there: Point) -> Re
     match event {
         Event::Stitch(_) => keep(design, at, Command::Stitch(there)),
         Event::Jump(_) => keep(design, at, Command::Jump(there)),
-        Event::TrimmedJump(_) | Event::Trim | Event::Stop | Event::StopBy(_) => {
-            keep_cut(design, at, event, there)
-        }
+        _ => keep_cut(design, at, event, there),
     }
 }
 
