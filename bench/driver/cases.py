@@ -11,10 +11,11 @@ class Sizes:
     commands: tuple
     stops: int
     bytes: int
+    places: tuple
 
 
-FULL = Sizes((10_000, 100_000, 1_000_000), 100_000, 64 * 1024 * 1024)
-SMALL = Sizes((1_000, 10_000, 100_000), 1_000, 1024 * 1024)
+FULL = Sizes((10_000, 100_000, 1_000_000), 100_000, 64 * 1024 * 1024, (64, 128, 256, 512, 1_024))
+SMALL = Sizes((1_000, 10_000, 100_000), 1_000, 1024 * 1024, (64, 128, 256))
 
 
 @dataclass(frozen=True)

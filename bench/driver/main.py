@@ -8,11 +8,13 @@ import building
 import counting
 import document
 import machine
+import matchings
 import measuring
 import routes
 import tables
 from building import say
 from cases import FULL, SMALL, all_cases
+from distances import KINDS
 from places import BIN, STITCH
 
 
@@ -33,29 +35,34 @@ def head():
 
 
 def measure_routes(stitch):
-    """The table of routes, where LEMON is here."""
-    if not routes.can_measure():
-        say("no g++, or no LEMON (liblemon-dev): routes are left out")
-        return
+    """The table of routes."""
     text = routes.report(stitch)
     print(text)
     document.put(text, "routes")
 
 
-def main():
-    asked = words()
-    sizes = SMALL if asked.sizes == "small" else FULL
+def measure_matchings(asked, sizes):
+    """The tables of matchings, of those whose name has the word."""
+    kinds = [kind for kind in KINDS if asked.only in f"match {kind}"]
+    if kinds:
+        text = matchings.report(kinds, sizes.places)
+        print(text)
+        if sizes is FULL and not asked.only:
+            document.put(text, "matchings")
+
+
+def measure_files(asked, sizes, cases):
+    """The tables of the file commands, and whether some case differs."""
     stitch = asked.stitch.resolve() if asked.stitch else STITCH
     if not asked.stitch:
         building.build_stitch()
-    for name in ("baseline", "inputs", "meter"):
-        building.build_plain(name)
+    building.build_plain("baseline")
+    building.build_plain("inputs")
     building.make_inputs(sizes)
 
     first = head()
     programs = {"`stitch`": stitch, "plain": BIN / "baseline", "`/bin/true`": Path("/bin/true")}
     starts = list(zip(programs, measuring.starts_of(programs.values())))
-    cases = [case for case in all_cases(sizes) if asked.only in case.name]
     measured, differences = measuring.measure_all(cases, (stitch, BIN / "baseline"))
     counts = counting.count_all([case for case, _ in measured], (stitch, BIN / "baseline"))
     text = tables.report(first, sizes, starts, measured, counts, measuring.commands_of)
@@ -64,11 +71,26 @@ def main():
         for difference in differences:
             say(str(difference))
         say(f"{len(differences)} cases differ, {len(measured)} are equal")
-        return 1
+        return True
     if sizes is FULL and not asked.only:
         document.put(text, "measured")
-        measure_routes(stitch)
     say(f"all {len(measured)} cases are equal")
+    return False
+
+
+def main():
+    asked = words()
+    sizes = SMALL if asked.sizes == "small" else FULL
+    building.build_plain("meter")
+    cases = [case for case in all_cases(sizes) if asked.only in case.name]
+    if cases and measure_files(asked, sizes, cases):
+        return 1
+    if not routes.can_measure():
+        say("no g++, or no LEMON (liblemon-dev): routes and matchings are left out")
+        return 0
+    if sizes is FULL and not asked.only:
+        measure_routes(asked.stitch.resolve() if asked.stitch else STITCH)
+    measure_matchings(asked, sizes)
     return 0
 
 

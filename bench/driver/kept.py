@@ -1,0 +1,56 @@
+"""Builds a program that is kept here, over copies of the crates that it stands on.
+
+The gate reads each .rt and .antt file of the repository as a crate's, so these have other endings here."""
+
+import shutil
+import subprocess
+
+from places import BENCH, REPOSITORY
+
+ENDINGS = {".rattle": ".rt", ".claims": ".antt"}
+CRATES = REPOSITORY / "crates"
+
+
+def stands_on():
+    """What each crate of the repository stands on, lowest first."""
+    rows = [line.split("#")[0] for line in (REPOSITORY / "crates.txt").read_text().splitlines()]
+    parts = [row.split(":") for row in rows if row.strip()]
+    return {name.strip(): libraries.split() for name, libraries in parts}
+
+
+def copy_crate(name, target):
+    """What a crate is made of, and what was proved and built of it."""
+    for part in ("src", "specs", "proofs", "out/rlib"):
+        shutil.rmtree(target / part, ignore_errors=True)
+        if (CRATES / name / part).is_dir():
+            shutil.copytree(CRATES / name / part, target / part)
+
+
+def copy_kept(source, target):
+    """A tree of kept files, with the endings of a crate's."""
+    for part in ("src", "specs", "proofs"):
+        shutil.rmtree(target / part, ignore_errors=True)
+    for file in source.rglob("*"):
+        if file.suffix in ENDINGS:
+            place = (target / file.relative_to(source)).with_suffix(ENDINGS[file.suffix])
+            place.parent.mkdir(parents=True, exist_ok=True)
+            shutil.copy(file, place)
+
+
+def built(source, libraries):
+    """The program of a folder, proved and built below bench/out/."""
+    name, rows = source.name, stands_on()
+    top = BENCH / "out" / name
+    program = top / "crates" / name / "out" / name
+    program.unlink(missing_ok=True)
+    below = {library: rows[library] for library in rows if library in libraries}
+    for library in below:
+        copy_crate(library, top / "crates" / library)
+    copy_kept(source, top / "crates" / name)
+    lines = [f"{crate}: {' '.join(parts)}\n" for crate, parts in {**below, name: libraries}.items()]
+    (top / "crates.txt").write_text("".join(lines))
+    # without words nothing is begun, and the status says so
+    run = subprocess.run(["rt", "run"], cwd=top / "crates" / name, stdin=subprocess.DEVNULL, capture_output=True)
+    if not program.exists():
+        raise SystemExit(f"bench: {name} is not proved or not built:\n{run.stdout.decode()}{run.stderr.decode()}")
+    return program
