@@ -6,7 +6,7 @@ use Rattle.design_model.specs.declared.command.Command.TheVariants as command
 use Rattle.design_model.specs.Acts.{acts_along}
 use Rattle.design_model.specs.Points.{origin}
 use Rattle.step_splitter.specs.declared.refitting.RefitMode.TheVariants as mode
-use Rattle.step_splitter.specs.Refits.{is_near_act, refitted_acts, refitted_commands}
+use Rattle.step_splitter.specs.Refits.{is_near_act, is_no_float, refitted_acts, refitted_commands}
 use Rattle.step_splitter.proofs.SplitFacts.{at}
 
 -- a needle that is no float, and one that is
@@ -30,6 +30,11 @@ known_near = refl
 pub known_floor : refitted_acts mode.Split 127 (needle (pos 0) (pos 0) ∷ needle (negsuc 4) (pos 128) ∷ [])
     ≡ needle (pos 0) (pos 0) ∷ needle (negsuc 2) (pos 64) ∷ needle (negsuc 4) (pos 128) ∷ []
 known_floor = refl
+
+-- a move begins where the needle before went down: from (100, 0) to (110, 0) are 10, and on to (110, 13) are 13
+pub known_on : refitted_acts mode.Split 10 (needle (pos 100) (pos 0) ∷ needle (pos 110) (pos 0) ∷ needle (pos 110) (pos 13) ∷ [])
+    ≡ needle (pos 100) (pos 0) ∷ needle (pos 110) (pos 0) ∷ needle (pos 110) (pos 6) ∷ needle (pos 110) (pos 13) ∷ []
+known_on = refl
 
 -- neither a loose needle nor a float is split, however far it lies
 pub known_loose :
@@ -67,3 +72,12 @@ known_loose_near = refl
 
 pub known_float_near : is_near_act 121 false origin (float (pos 122) (pos 0)) ≡ true
 known_float_near = refl
+
+-- a trim and a stop move no needle
+pub known_other_near : (is_near_act 1 false origin act.Trim ≡ true) × (is_near_act 1 false origin act.Stop ≡ true)
+known_other_near = (refl, refl)
+
+-- of all acts a needle alone may be a float
+pub known_no_floats : (is_no_float (float (pos 1) (pos 0)) ≡ false) × (is_no_float (needle (pos 1) (pos 0)) ≡ true)
+    × (is_no_float act.Trim ≡ true) × (is_no_float act.Stop ≡ true)
+known_no_floats = (refl, refl, refl, refl)

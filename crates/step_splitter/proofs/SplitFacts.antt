@@ -3,6 +3,7 @@ use Rattle.std.proofs.Common.{◌≡◌, ℤ, pos, negsuc, [], ◌∷◌, refl}
 use Rattle.design_model.specs.declared.point.Point.{Point}
 use Rattle.design_model.specs.Points.{origin}
 use Rattle.step_splitter.specs.declared.segment.TheConstants.{MAX_STEP}
+use Rattle.step_splitter.specs.Chains.{last_from}
 use Rattle.step_splitter.specs.Steps.{floor_quotient, split_points, steps_of}
 
 -- the point at those numbers
@@ -40,3 +41,8 @@ known_two_steps = refl
 pub known_split : split_points origin (at (negsuc 6) (pos 3)) 3
     ≡ at (negsuc 2) (pos 1) ∷ at (negsuc 4) (pos 2) ∷ at (negsuc 6) (pos 3) ∷ []
 known_split = refl
+
+-- the last of some points, and of none the point before
+pub known_last : (last_from origin (at (pos 1) (pos 2) ∷ at (pos 3) (pos 4) ∷ []) ≡ at (pos 3) (pos 4))
+    × (last_from (at (pos 5) (pos 6)) [] ≡ at (pos 5) (pos 6))
+known_last = (refl, refl)
