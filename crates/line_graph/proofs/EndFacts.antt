@@ -1,12 +1,14 @@
 -- Starts and ends, worked out by hand: an angle of two lines and a stroke in one block, a stroke at the angle's first
 -- point in the next one.
-use Rattle.std.proofs.Common.{◌≡◌, ℕ, pos, true, false, List, [], ◌∷◌, Ok, Err, Some, None, refl}
+use Rattle.std.proofs.Common.{◌≡◌, ℕ, pos, true, false, Bool, List, [], ◌∷◌, ◌++◌, Ok, Err, Some, None, refl}
 use Rattle.design_model.specs.declared.point.Point.{Point}
 use Rattle.line_sections.specs.declared.spot.Spot.{Spot}
 use Rattle.line_sections.specs.Lines.{LineValue}
 use Rattle.line_graph.specs.declared.draw_kind.DrawKind.TheVariants as kind
 use Rattle.line_graph.specs.Drawings.{DrawingValue}
-use Rattle.line_graph.specs.PieceGraphs.{piece_of}
+use Rattle.line_graph.specs.declared.pass.Pass.{Pass}
+use Rattle.line_graph.specs.PieceGraphs.{odd_junctions, piece_of}
+use Rattle.line_graph.specs.PieceWalks.{fits}
 use Rattle.line_graph.specs.WalkEnds.{are_joined, end_added, is_junction, start_added, walk_end_added}
 
 abbrev at : ℕ → ℕ → Point
@@ -98,3 +100,43 @@ known_piece = refl
 -- and none where no other is its own
 pub known_stroke : (piece_of (drawn (spot 0 0 0 ∷ []) []) (3 ∷ [])).start ≡ None
 known_stroke = refl
+
+-- the angle and the stroke at its end with those starts and ends, and whether a walk fits it
+abbrev goes : List Spot → List Spot → List Pass → Bool
+goes starts ends walk = fits (piece_of (drawn starts ends) (0 ∷ 2 ∷ [])) walk
+
+abbrev pass : ℕ → Bool → Pass
+pass line back = record { line = line; back = back }
+
+-- both lines back lead from the far end of the stroke to where the angle begins, both forth the other way
+abbrev home : List Pass
+home = pass 2 true ∷ pass 0 true ∷ []
+
+abbrev out : List Pass
+out = pass 0 false ∷ pass 2 false ∷ []
+
+-- a walk begins at the start and ends at the end
+pub known_ways : (goes (spot 0 10 10 ∷ []) (spot 0 0 0 ∷ []) home ≡ true) × (goes (spot 0 10 10 ∷ []) (spot 0 0 0 ∷ []) out ≡ false)
+    × (goes (spot 0 10 10 ∷ []) (spot 0 0 0 ∷ []) (home ++ out) ≡ false)
+known_ways = (refl, refl, refl)
+
+-- with one of them it begins and ends there, and with none where it likes
+pub known_one_start : (goes (spot 0 10 10 ∷ []) [] (home ++ out) ≡ true) × (goes (spot 0 10 10 ∷ []) [] (out ++ home) ≡ false)
+    × (goes (spot 0 10 10 ∷ []) [] home ≡ false)
+known_one_start = (refl, refl, refl)
+
+pub known_one_end : (goes [] (spot 0 10 10 ∷ []) (home ++ out) ≡ true) × (goes [] (spot 0 10 10 ∷ []) (out ++ home) ≡ false)
+known_one_end = (refl, refl)
+
+pub known_closed : (goes [] [] (out ++ home) ≡ true) × (goes [] [] out ≡ false)
+known_closed = (refl, refl)
+
+-- start and end change from odd to even or back where both are said and differ
+pub known_odd : (odd_junctions (piece_of (drawn (spot 0 10 10 ∷ []) (spot 0 0 0 ∷ [])) (0 ∷ 2 ∷ [])) ≡ [])
+    × (odd_junctions (piece_of (drawn (spot 0 10 10 ∷ []) (spot 0 10 0 ∷ [])) (0 ∷ 2 ∷ [])) ≡ 0 ∷ 1 ∷ [])
+    × (odd_junctions (piece_of (drawn (spot 0 10 10 ∷ []) []) (0 ∷ 2 ∷ [])) ≡ 0 ∷ 2 ∷ [])
+known_odd = (refl, refl, refl)
+
+-- the spot of another block has the number of no junction here
+pub known_other : (piece_of (drawn (spot 1 0 0 ∷ []) []) (0 ∷ 2 ∷ [])).start ≡ None
+known_other = refl

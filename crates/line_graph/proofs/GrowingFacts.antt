@@ -1,9 +1,9 @@
 -- Worked values of drawings that grow: what comes before the first block, and lines that may not come.
-use Rattle.std.proofs.Common.{◌≡◌, pos, negsuc, true, false, [], ◌∷◌, Ok, Err, codes, refl}
+use Rattle.std.proofs.Common.{◌≡◌, pos, negsuc, true, false, [], ◌∷◌, Ok, Err, codes, replicate, refl}
 use Rattle.line_graph.proofs.Places.{place}
 use Rattle.line_graph.specs.declared.draw_kind.DrawKind.TheVariants as kind
 use Rattle.line_graph.specs.Drawings.{DrawingValue}
-use Rattle.line_graph.specs.Growing.{are_in_range, drawing_begun, finished, line_added, with_block, with_line}
+use Rattle.line_graph.specs.Growing.{are_in_range, block_added, drawing_begun, finished, line_added, with_block, with_line}
 
 -- a drawing of one block, which has no line yet
 abbrev blank : DrawingValue
@@ -50,8 +50,25 @@ pub known_line : line_added begun (place (pos 4) (pos 2) ∷ place (pos 4) (negs
     })
 known_line = refl
 
+-- the first line is in the first block, and the next one in the block that came last
+abbrev grown : DrawingValue
+grown = with_line (with_block (with_line begun (place (pos 4) (pos 2) ∷ [])) 8) (place (pos 6) (pos 7) ∷ [])
+
+pub known_blocks : (grown.threads ≡ 3 ∷ 8 ∷ [])
+    × (grown.lines ≡ record { block = 0; points = place (pos 4) (pos 2) ∷ [] } ∷ record { block = 1; points = place (pos 6) (pos 7) ∷ [] } ∷ [])
+known_blocks = (refl, refl)
+
 -- a drawing ends with a block, and with a line in its last block
 pub known_ends : (finished blank ≡ Err kind.NoBlock)
     × (finished begun ≡ Err kind.EmptyBlock)
-    × (finished (with_line begun (place (pos 4) (pos 2) ∷ [])) ≡ Ok (with_line begun (place (pos 4) (pos 2) ∷ [])))
-known_ends = (refl, refl, refl)
+    × (finished (with_block (with_line begun (place (pos 4) (pos 2) ∷ [])) 8) ≡ Err kind.EmptyBlock)
+    × (finished grown ≡ Ok grown)
+known_ends = (refl, refl, refl, refl)
+
+-- an empty block is told before there are too many, of which 255 are the most
+abbrev full : DrawingValue
+full = record (with_line begun (place (pos 4) (pos 2) ∷ [])) { threads = replicate 255 1 }
+
+pub known_block_kinds : (block_added full 9 ≡ Err kind.EmptyBlock)
+    × (block_added (with_line full (place (pos 6) (pos 7) ∷ [])) 9 ≡ Err kind.TooManyBlocks)
+known_block_kinds = (refl, refl)

@@ -1,5 +1,5 @@
 -- Worked values of the graphs of pieces, and of walks that fit them. Costs count steps of at most 10.
-use Rattle.std.proofs.Common.{◌≡◌, ℕ, true, false, List, [], ◌∷◌, None, refl}
+use Rattle.std.proofs.Common.{◌≡◌, ℕ, true, false, List, [], ◌∷◌, None, Some, refl}
 use Rattle.design_model.specs.declared.point.Point.{Point}
 use Rattle.line_sections.specs.Lines.{LineValue}
 use Rattle.line_graph.specs.declared.edge.Edge.{Edge}
@@ -7,7 +7,9 @@ use Rattle.line_graph.specs.declared.pass.Pass.{Pass}
 use Rattle.line_graph.specs.Drawings.{DrawingValue}
 use Rattle.line_graph.specs.PieceGraphs.{degree, odd_junctions, piece_of}
 use Rattle.line_graph.specs.PieceParts.{labelled, parts_of}
-use Rattle.line_graph.specs.PieceWalks.{fits, walk_cost}
+use Rattle.line_graph.specs.KeptPieces.{all_below, all_cost, ends_below, is_below}
+use Rattle.line_graph.specs.PieceWalks.{fits, passes, piece_cost, rises, walk_cost}
+use Rattle.line_graph.specs.Runs.{block_of_walk}
 use Rattle.line_graph.proofs.WalkFacts.{at}
 
 -- a line through these points in a block
@@ -90,6 +92,18 @@ known_lick = refl
 pub known_lick_cost : walk_cost (piece_of lollipop (1 ∷ 2 ∷ [])) (forth 1 ∷ back 2 ∷ forth 2 ∷ []) ≡ 10
 known_lick_cost = refl
 
+-- each line of the piece once
+pub known_lollipop_cost : piece_cost (piece_of lollipop (1 ∷ 2 ∷ [])) ≡ 8
+known_lollipop_cost = refl
+
+-- the stick is passed twice, in whichever direction
+pub known_passes : (passes 2 (forth 1 ∷ back 2 ∷ forth 2 ∷ []) ≡ 2) × (passes 1 (forth 1 ∷ back 2 ∷ forth 2 ∷ []) ≡ 1)
+known_passes = (refl, refl)
+
+-- a walk is sewn in the block of its first line
+pub known_block_of_walk : block_of_walk lollipop (back 2 ∷ forth 0 ∷ []) ≡ 1
+known_block_of_walk = refl
+
 -- a line of another piece is no part of it
 pub known_stray : fits (piece_of lollipop (1 ∷ 2 ∷ [])) (forth 1 ∷ back 0 ∷ forth 2 ∷ []) ≡ false
 known_stray = refl
@@ -126,6 +140,21 @@ known_broken = refl
 -- nor one that leaves a line out
 pub known_uncovered : fits (piece_of theta (0 ∷ 1 ∷ 2 ∷ [])) (forth 0 ∷ forth 1 ∷ []) ≡ false
 known_uncovered = refl
+
+-- numbers that rise repeat none
+pub known_rising : (rises (1 ∷ 3 ∷ 4 ∷ []) ≡ true) × (rises (1 ∷ 3 ∷ 3 ∷ []) ≡ false) × (rises (2 ∷ 3 ∷ 1 ∷ []) ≡ false)
+known_rising = (refl, refl, refl)
+
+-- what is below a number is less, and both ends of an edge are asked
+pub known_below : (all_below 3 (2 ∷ 0 ∷ []) ≡ true) × (all_below 3 (0 ∷ 3 ∷ []) ≡ false)
+    × (ends_below 2 (edge 0 1 1 ∷ []) ≡ true) × (ends_below 2 (edge 0 2 1 ∷ []) ≡ false)
+    × (ends_below 2 (edge 1 0 1 ∷ edge 2 0 1 ∷ []) ≡ false)
+    × (is_below 2 None ≡ true) × (is_below 2 (Some 1) ≡ true) × (is_below 2 (Some 2) ≡ false)
+known_below = (refl, refl, refl, refl, refl, refl, refl, refl)
+
+-- one step is a cost, and none isn't
+pub known_costs : (all_cost (edge 0 1 1 ∷ edge 1 2 3 ∷ []) ≡ true) × (all_cost (edge 0 1 1 ∷ edge 1 2 0 ∷ []) ≡ false)
+known_costs = (refl, refl)
 
 -- the lines with a label
 pub known_labelled : labelled (0 ∷ 1 ∷ 0 ∷ 1 ∷ 4 ∷ 1 ∷ []) 1 ≡ 1 ∷ 3 ∷ 5 ∷ []

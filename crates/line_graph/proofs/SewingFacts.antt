@@ -1,9 +1,9 @@
--- A worked value of sewing in two blocks.
-use Rattle.std.proofs.Common.{◌≡◌, pos, negsuc, [], ◌∷◌, codes, false, refl}
+-- Worked values of sewing in several blocks.
+use Rattle.std.proofs.Common.{◌≡◌, ℕ, pos, negsuc, [], ◌∷◌, codes, false, refl}
 use Rattle.design_model.specs.declared.command.Command.TheVariants.{Stitch, Stop, Trim}
 use Rattle.line_graph.proofs.Places.{place}
 use Rattle.line_graph.specs.Drawings.{DrawingValue}
-use Rattle.line_graph.specs.Runs.{sewn_design}
+use Rattle.line_graph.specs.Runs.{Run, sewn_design, stops_after}
 
 -- two strokes in two blocks
 abbrev strokes : DrawingValue
@@ -17,9 +17,19 @@ strokes = record {
   ends = [];
 }
 
--- a stop stands between the strokes, since their blocks differ by one
+-- the design has the drawing's label and threads; a stop stands between the strokes, since their blocks differ by one
 pub known_stop :
-    (sewn_design strokes ((record { line = 0; back = false } ∷ []) ∷ (record { line = 1; back = false } ∷ []) ∷ [])).commands
-    ≡ Stitch (place (pos 0) (pos 0)) ∷ Stitch (place (negsuc 2) (pos 4)) ∷ Trim
-    ∷ Stop ∷ Stitch (place (pos 10) (pos 2)) ∷ Stitch (place (pos 3) (pos 4)) ∷ Trim ∷ []
+    sewn_design strokes ((record { line = 0; back = false } ∷ []) ∷ (record { line = 1; back = false } ∷ []) ∷ []) ≡ record {
+      label = codes "ab";
+      threads = 5 ∷ 0 ∷ [];
+      commands = Stitch (place (pos 0) (pos 0)) ∷ Stitch (place (negsuc 2) (pos 4)) ∷ Trim
+          ∷ Stop ∷ Stitch (place (pos 10) (pos 2)) ∷ Stitch (place (pos 3) (pos 4)) ∷ Trim ∷ [];
+    }
 known_stop = refl
+
+-- runs in the blocks 0, 2, 2 and 3 have three stops between them
+abbrev run : ℕ → Run
+run block = record { block = block; needles = place (pos 0) (pos 0) ∷ [] }
+
+pub known_stops : stops_after 0 (run 0 ∷ run 2 ∷ run 2 ∷ run 3 ∷ []) ≡ 3
+known_stops = refl

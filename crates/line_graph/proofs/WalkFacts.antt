@@ -4,6 +4,7 @@ use Rattle.design_model.specs.declared.command.Command.TheVariants.{Stitch, Trim
 use Rattle.design_model.specs.declared.point.Point.{Point}
 use Rattle.line_graph.specs.declared.pass.Pass.{Pass}
 use Rattle.line_graph.specs.Drawings.{DrawingValue}
+use Rattle.line_graph.specs.Needles.{line_steps}
 use Rattle.line_graph.specs.Runs.{commands_after, runs_of}
 use Rattle.line_graph.specs.Walks.{cost_of_line, needles_of, needles_of_walk}
 
@@ -40,6 +41,10 @@ known_square = refl
 
 pub known_square_cost : cost_of_line square 0 ≡ 4
 known_square_cost = refl
+
+-- three steps across and two down, each segment by itself
+pub known_steps : line_steps 10 (at 0 0 ∷ at 30 0 ∷ at 30 15 ∷ []) ≡ 5
+known_steps = refl
 
 -- a stroke forth and back takes its far end once
 pub known_retrace : needles_of_walk stroke (forth ∷ back ∷ [])
