@@ -147,6 +147,23 @@ known_tour = record {
     each (suc (suc zero)) below = refl
     each (suc (suc (suc k))) below = absurd (omega arith)
 
+-- the line back from the end to the start counts with the others: each line once can be passed from one to the other
+pub known_can_between : CanPass (between (Some 0) (Some 1)) none_again
+known_can_between = record {
+  beside = refl;
+  even = λ j. four (bit (0 == j)) (bit (1 == j));
+  few = omega arith;
+}
+  where
+    four : (x y : ℕ) → (((y + x) + 0) + ((0 + 1) * (x + y) + ((0 + 1) * (x + y) + ((0 + 1) * (x + y) + 0)))) % 2 ≡ 0
+    four x y = omega arith
+
+pub known_cannot_between : CanPass (between (Some 0) (Some 1)) first_again → ⊥
+known_cannot_between can = odd _ refl (can.even 0)
+  where
+    odd : (n : ℕ) → n ≡ 1 → n ≡ 0 → ⊥
+    odd n one none = omega (arith, one, none)
+
 -- each line once is no closed walk, but it is one from one junction to the other
 pub known_cannot : CanPass closed none_again → ⊥
 known_cannot can = odd _ refl (can.even 0)
@@ -188,3 +205,9 @@ known_no_first tour = other (tour.begins refl)
   where
     other : forth 1 ≡ forth 0 → ⊥
     other is = cc
+
+pub known_no_way : IsTour closed none_again (forth 0 ∷ back 1 ∷ forth 2 ∷ []) → ⊥
+known_no_way tour = astray _ refl tour.led
+  where
+    astray : (b : Bool) → b ≡ false → b ≡ true → ⊥
+    astray b one other = cc
