@@ -56,6 +56,10 @@ known_double = record {
   begins = refl;
 }
 
+-- a start and an end that are said are forgotten, and nothing else
+pub known_unbound : unbound (record tail { start = Some 1; end = Some 2 }) ≡ tail
+known_unbound = refl
+
 -- it fits, and costs twice the 12 steps of the lines
 pub known_fit : fits (unbound tail) there_and_back ≡ true
 known_fit = refl
