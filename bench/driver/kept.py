@@ -4,6 +4,7 @@ The gate reads each .rt and .antt file of the repository as a crate's, so these 
 
 import shutil
 import subprocess
+from pathlib import Path
 
 from places import BENCH, REPOSITORY
 
@@ -18,12 +19,28 @@ def stands_on():
     return {name.strip(): libraries.split() for name, libraries in parts}
 
 
+def all_below(libraries, rows):
+    """These and all that they stand on, of the crates of the repository, lowest first."""
+    wanted = set(libraries)
+    for name in reversed(rows):
+        if name in wanted:
+            wanted.update(rows[name])
+    return {name: rows[name] for name in rows if name in wanted}
+
+
+def is_newer(stamp, other):
+    """Whether what was built there is newer, or the only one."""
+    return stamp.exists() and not (other.exists() and other.stat().st_mtime >= stamp.stat().st_mtime)
+
+
 def copy_crate(name, target):
-    """What a crate is made of, and what was proved and built of it."""
-    for part in ("src", "specs", "proofs", "out/rlib"):
+    """What a crate is made of, and what was proved and built of it, where that is news."""
+    source, stamp = CRATES / name, Path("out", "rlib", "stamp")
+    parts = ["src", "specs", "proofs"] + (["out/rlib"] if is_newer(source / stamp, target / stamp) else [])
+    for part in parts:
         shutil.rmtree(target / part, ignore_errors=True)
-        if (CRATES / name / part).is_dir():
-            shutil.copytree(CRATES / name / part, target / part)
+        if (source / part).is_dir():
+            shutil.copytree(source / part, target / part)
 
 
 def copy_kept(source, target):
@@ -43,7 +60,7 @@ def built(source, libraries):
     top = BENCH / "out" / name
     program = top / "crates" / name / "out" / name
     program.unlink(missing_ok=True)
-    below = {library: rows[library] for library in rows if library in libraries}
+    below = all_below(libraries, rows)
     for library in below:
         copy_crate(library, top / "crates" / library)
     copy_kept(source, top / "crates" / name)

@@ -5,6 +5,7 @@ import struct
 import subprocess
 
 import kept
+import machine
 from building import say
 from distances import KINDS, table_of
 from measuring import Cost
@@ -101,9 +102,17 @@ def growth_table(matchings):
     return table(["Table", "LEMON", "Stitch"], rows)
 
 
+def head():
+    return (
+        f"Processor: {machine.processor()}. Kit: {machine.kit()}. LEMON by `g++ -O2`. Date: {machine.date()}. "
+        f"Load of the machine at the start: {machine.load()}."
+    )
+
+
 def report(kinds, sizes):
     """The tables of matchings. Fails where a total differs."""
     programs = build()
+    first = head()
     say("making tables")
     INPUTS.mkdir(parents=True, exist_ok=True)
     matchings = [Matching(kind, places) for kind in kinds for places in sizes]
@@ -111,7 +120,7 @@ def report(kinds, sizes):
         for matching in matchings:
             matching.measure(programs)
         say(f"matchings, round {turn + 1} of {ROUNDS}: all totals are equal")
-    parts = [table(HEADS, [matching.row() for matching in matchings])]
+    parts = [first, table(HEADS, [matching.row() for matching in matchings])]
     if LARGEST in sizes:
         parts += ["Growth from 256 places to 1,024, as a power of n:", growth_table(matchings)]
     return "\n\n".join(parts) + "\n"
