@@ -126,7 +126,8 @@ pub known_one_start : (goes (spot 0 10 10 ∷ []) [] (home ++ out) ≡ true) × 
 known_one_start = (refl, refl, refl)
 
 pub known_one_end : (goes [] (spot 0 10 10 ∷ []) (home ++ out) ≡ true) × (goes [] (spot 0 10 10 ∷ []) (out ++ home) ≡ false)
-known_one_end = (refl, refl)
+    × (goes [] (spot 0 10 10 ∷ []) out ≡ false)
+known_one_end = (refl, refl, refl)
 
 pub known_closed : (goes [] [] (out ++ home) ≡ true) × (goes [] [] out ≡ false)
 known_closed = (refl, refl)

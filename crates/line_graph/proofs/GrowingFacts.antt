@@ -55,7 +55,8 @@ abbrev grown : DrawingValue
 grown = with_line (with_block (with_line begun (place (pos 4) (pos 2) ∷ [])) 8) (place (pos 6) (pos 7) ∷ [])
 
 pub known_blocks : (grown.threads ≡ 3 ∷ 8 ∷ [])
-    × (grown.lines ≡ record { block = 0; points = place (pos 4) (pos 2) ∷ [] } ∷ record { block = 1; points = place (pos 6) (pos 7) ∷ [] } ∷ [])
+    × (grown.lines ≡ record { block = 0; points = place (pos 4) (pos 2) ∷ [] }
+    ∷ record { block = 1; points = place (pos 6) (pos 7) ∷ [] } ∷ [])
 known_blocks = (refl, refl)
 
 -- a drawing ends with a block, and with a line in its last block
@@ -72,3 +73,11 @@ full = record (with_line begun (place (pos 4) (pos 2) ∷ [])) { threads = repli
 pub known_block_kinds : (block_added full 9 ≡ Err kind.EmptyBlock)
     × (block_added (with_line full (place (pos 6) (pos 7) ∷ [])) 9 ≡ Err kind.TooManyBlocks)
 known_block_kinds = (refl, refl)
+
+-- and a repeated point before there are too many lines, of which 1,024 are the most
+abbrev crowded : DrawingValue
+crowded = record begun { lines = replicate 1024 (record { block = 0; points = place (pos 4) (pos 2) ∷ [] }) }
+
+pub known_line_kinds : (line_added crowded (place (pos 4) (pos 2) ∷ place (pos 4) (pos 2) ∷ []) ≡ Err kind.RepeatedPoint)
+    × (line_added crowded (place (pos 4) (pos 2) ∷ place (pos 4) (pos 3) ∷ []) ≡ Err kind.TooManyLines)
+known_line_kinds = (refl, refl)
