@@ -1,6 +1,8 @@
 mod PutLemmas
 mod ReportLemmas
+mod SegmentLemmas
 mod TextFacts
 mod ReasonFacts
 mod ReportFacts
 mod DesignFacts
+mod TracingFacts

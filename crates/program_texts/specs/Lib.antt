@@ -10,6 +10,8 @@ pub mod Reasons
 -- the reports
 pub mod Reports
 pub mod PieceReports
+pub mod PieceSums
 pub mod DoubleReports
+pub mod TracingReports
 pub mod DesignReports
 pub mod PutSteps

@@ -32,7 +32,7 @@ pub fn print_route(alloc: Global, pieces: &[Piece], certs: &[PieceCert]) -> Resu
 }
 
 /// What the report says of pieces, each with its certificate, numbered from 1 on.
-pub fn reports_of(
+pub(crate) fn reports_of(
     alloc: Global,
     pieces: &[Piece],
     certs: &[PieceCert],

@@ -5,9 +5,9 @@ use Rattle.design_model.specs.Designs.{DesignValue}
 use Rattle.format_traits.specs.declared.loaded.Loaded.{Loaded}
 use Rattle.step_splitter.specs.declared.refitting.RefitMode.{RefitMode}
 use Rattle.step_splitter.specs.declared.refitting.RefitMode.TheVariants as mode
-use Rattle.stitch_cli.specs.declared.changing.ChangeFault.{ChangeFault}
-use Rattle.stitch_cli.specs.declared.changing.ChangeFault.TheVariants as reason
-use Rattle.stitch_cli.specs.ChangedDesigns.{Becomes, BecomesAll, RefitsTo}
+use Rattle.design_changes.specs.declared.change_faults.ChangeFault.{ChangeFault}
+use Rattle.design_changes.specs.declared.change_faults.ChangeFault.TheVariants as reason
+use Rattle.design_changes.specs.ChangedDesigns.{Becomes, BecomesAll, RefitsTo}
 use Rattle.stitch_cli.specs.OrderNames.{RewriteOrder}
 use Rattle.stitch_cli.specs.Products.{ProductValue}
 use Rattle.stitch_cli.specs.Refusals.{RefusalValue}

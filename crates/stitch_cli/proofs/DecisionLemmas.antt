@@ -8,6 +8,7 @@ use Rattle.drawing_text.specs.declared.draw_fault.DrawFault.{DrawFault}
 use Rattle.drawing_text.specs.DrawingText.{drawing_as2, drawing_of}
 use Rattle.format_traits.specs.declared.fault.ReadFault.{ReadFault}
 use Rattle.format_traits.specs.declared.loaded.Loaded.{Loaded}
+use Rattle.format_traits.specs.Meanings.{Meaning}
 use Rattle.hoop_check.specs.declared.fitting.Fit.{Fit}
 use Rattle.hoop_check.specs.declared.fitting.Fit.TheVariants as fit
 use Rattle.hoop_check.specs.Fits.{fit_of}
@@ -25,7 +26,7 @@ use Rattle.program_texts.specs.declared.status.Status.{Status}
 use Rattle.program_texts.specs.declared.status.Status.TheVariants as status
 use Rattle.stitch_cli.specs.Checks.{IsDisproved, IsProved, check_cert, check_design, check_drawing}
 use Rattle.stitch_cli.specs.Commands.{plan_of}
-use Rattle.stitch_cli.specs.DoubleRuns.{double_above, double_read}
+use Rattle.stitch_cli.specs.DoubleRuns.{IsDoubleRun}
 use Rattle.stitch_cli.specs.Endings.{Ends, Halts, OrderEnds, all, but_report, halted, made, status_of, up_to}
 use Rattle.stitch_cli.specs.Hoops.{hoop_fitted, hoop_read}
 use Rattle.stitch_cli.specs.Migrations.{migrate_read}
@@ -38,7 +39,8 @@ use Rattle.stitch_cli.specs.Plans.{ComesTo, IsAccepted, IsInput, IsTooLong, Make
 use Rattle.stitch_cli.specs.Products.{ProductValue}
 use Rattle.stitch_cli.specs.Refusals.{RefusalValue, refusal_of}
 use Rattle.stitch_cli.specs.Rewrites.{rewrite_read}
-use Rattle.stitch_cli.specs.Routes.{route_above, route_read}
+use Rattle.stitch_cli.specs.Routes.{IsRouted}
+use Rattle.stitch_cli.specs.Sewings.{sewing_above, sewing_read}
 use Rattle.stitch_cli.specs.RunSights.{IsQuietRun, Sights}
 use Rattle.stitch_cli.specs.Runs.{AsksFor, IsDecided, IsOrMemory}
 use Rattle.stitch_cli.specs.Shows.{show_read}
@@ -93,13 +95,14 @@ IsExact (refuses why) = Unit {0}
 IsExact (accepts Is) = Unit {0}
 IsExact (decides Is) = (product : ProductValue) (why : RefusalValue) → Is (Ok product) → Is (Err why) → ⊥
 
-route_exact : (order : RouteOrder) (read : Result DrawingValue DrawFault) → IsExact (route_read order read)
-route_exact order (Ok d) = above (nat_lt order.format.limit d.step)
+sewing_exact : (Sewn : Meaning → DrawingValue → (bytes cert report : List ℕ) → Type 0) (order : RouteOrder) (read : Result DrawingValue DrawFault)
+    → IsExact (sewing_read Sewn order read)
+sewing_exact Sewn order (Ok d) = above (nat_lt order.format.limit d.step)
   where
-    above : (b : Bool) → IsExact (route_above order d b)
+    above : (b : Bool) → IsExact (sewing_above Sewn order d b)
     above true = tt
     above false = tt
-route_exact order (Err fault) = tt
+sewing_exact Sewn order (Err fault) = tt
 
 -- a verdict is not both yes and no: there is one list of the pieces
 not_proved : PiecesAreOne → (d : DrawingValue) (design : DesignValue) (certs : List PieceCert) (product : ProductValue) (why : RefusalValue)
@@ -130,14 +133,6 @@ rewrite_exact : (order : RewriteOrder) (read : Result Loaded ReadFault) → IsEx
 rewrite_exact order (Ok loaded) = λ product why made refused. rewritten_not_both order loaded product why made refused
 rewrite_exact order (Err fault) = tt
 
-double_exact : (order : RouteOrder) (read : Result DrawingValue DrawFault) → IsExact (double_read order read)
-double_exact order (Ok d) = above (nat_lt order.format.limit d.step)
-  where
-    above : (b : Bool) → IsExact (double_above order d b)
-    above true = tt
-    above false = tt
-double_exact order (Err fault) = tt
-
 migrate_exact : (order : MigrateOrder) (read : Result DrawingValue DrawFault) → IsExact (migrate_read order read)
 migrate_exact order (Ok d) = tt
 migrate_exact order (Err fault) = tt
@@ -165,12 +160,12 @@ hoop_exact order (Err fault) = tt
 
 -- each order's plan is so
 order_exact : PiecesAreOne → (order : Order) → IsExact (plan_of order)
-order_exact one (routing order) = λ bytes. route_exact order (drawing_of bytes)
+order_exact one (routing order) = λ bytes. sewing_exact IsRouted order (drawing_of bytes)
 order_exact one (checking order) = λ bytes. check_exact one order (drawing_of bytes)
 order_exact one (sampling order) = tt
 order_exact one (migrating order) = λ bytes. migrate_exact order (drawing_as2 bytes)
 order_exact one (tracing order) = λ bytes. trace_exact order (order.format.reads bytes)
-order_exact one (doubling order) = λ bytes. double_exact order (drawing_of bytes)
+order_exact one (doubling order) = λ bytes. sewing_exact IsDoubleRun order (drawing_of bytes)
 order_exact one (rewriting order) = λ bytes. rewrite_exact order (order.source.reads bytes)
 order_exact one (showing order) = λ bytes. show_exact order (order.format.reads bytes)
 order_exact one (hooping order) = λ bytes. hoop_exact order (order.format.reads bytes)

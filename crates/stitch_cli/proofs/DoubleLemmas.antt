@@ -16,12 +16,12 @@ use Rattle.route_core.specs.declared.routed.Routed.{Routed}
 use Rattle.route_core.specs.Doubles.{IsDoubleOver, IsDoubled}
 use Rattle.route_core.specs.Routes.{walks_of}
 use Rattle.program_texts.specs.DoubleReports.{double_report}
-use Rattle.stitch_cli.specs.DoubleRuns.{DoubleMakes}
+use Rattle.stitch_cli.specs.DoubleRuns.{IsDoubleRun}
 use Rattle.stitch_cli.specs.OrderNames.{RouteOrder}
 use Rattle.stitch_cli.specs.Products.{ProductValue, two_outputs}
 use Rattle.program_texts.specs.Reports.{penetrations_of}
 use Rattle.program_texts.specs.PieceReports.{reports_from, piece_report}
-use Rattle.stitch_cli.specs.Routes.{SewsIn, piece_reports}
+use Rattle.stitch_cli.specs.Sewings.{SewnMakes, SewsIn, piece_reports}
 use Rattle.stitch_cli.proofs.ReportLemmas.{reports_are}
 use Rattle.stitch_cli.proofs.RouteLemmas.{lines_count}
 use Rattle.stitch_cli.proofs.SewnDesigns.{runs_are_plain}
@@ -83,12 +83,12 @@ pub double_makes : (order : RouteOrder) (d : DrawingValue) (pieces : List Piece)
     → SewsIn order.format d (walks_of routed.cert.pieces) design → cert ≡ certificate_text routed.cert.pieces
     → report ≡ double_report (reports_from 1 pieces routed.cert.pieces)
     → product ≡ two_outputs (record { name = order.cert; content = cert }) (record { name = order.out; content = design }) report
-    → DoubleMakes order d product
+    → SewnMakes IsDoubleRun order d product
 double_makes order d pieces routed design cert report product cut over sewn certified reported made = record {
   design = design;
   cert = cert;
   report = report;
-  run = record {
+  sewn = record {
     pieces = lines_of_pieces pieces;
     certs = routed.cert.pieces;
     pieces_are = over.pieces_are;

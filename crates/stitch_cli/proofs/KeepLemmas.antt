@@ -8,6 +8,7 @@ use Rattle.drawing_text.specs.declared.draw_fault.DrawFault.{DrawFault}
 use Rattle.drawing_text.specs.DrawingText.{drawing_as2, drawing_of}
 use Rattle.format_traits.specs.declared.fault.ReadFault.{ReadFault}
 use Rattle.format_traits.specs.declared.loaded.Loaded.{Loaded}
+use Rattle.format_traits.specs.Meanings.{Meaning}
 use Rattle.hoop_check.specs.declared.fitting.Fit.{Fit}
 use Rattle.hoop_check.specs.declared.fitting.Fit.TheVariants as fit
 use Rattle.hoop_check.specs.Fits.{fit_of}
@@ -18,7 +19,7 @@ use Rattle.stitch_cli.specs.declared.halt.Halt.TheVariants as halt
 use Rattle.program_texts.specs.declared.status.Status.{Status}
 use Rattle.stitch_cli.specs.Checks.{check_cert, check_design, check_drawing}
 use Rattle.stitch_cli.specs.Commands.{plan_of}
-use Rattle.stitch_cli.specs.DoubleRuns.{double_above, double_read}
+use Rattle.stitch_cli.specs.DoubleRuns.{IsDoubleRun}
 use Rattle.stitch_cli.specs.Endings.{Delivers, Ends, Halts, all, but_report, halted, made, up_to}
 use Rattle.stitch_cli.specs.Hoops.{hoop_fitted, hoop_read}
 use Rattle.stitch_cli.specs.Migrations.{migrate_read}
@@ -30,21 +31,23 @@ use Rattle.stitch_trace.specs.Traces.{traced}
 use Rattle.stitch_cli.specs.Plans.{Makes, Plan}
 use Rattle.stitch_cli.specs.Products.{ChangesAmong, IsNoneOf, ProductValue, names_of}
 use Rattle.stitch_cli.specs.Rewrites.{rewrite_read}
-use Rattle.stitch_cli.specs.Routes.{route_above, route_read}
+use Rattle.stitch_cli.specs.Routes.{IsRouted}
+use Rattle.stitch_cli.specs.Sewings.{sewing_above, sewing_read}
 use Rattle.stitch_cli.specs.RunSights.{Sights}
 use Rattle.stitch_cli.specs.Runs.{KeepsOthers}
 use Rattle.stitch_cli.specs.Shows.{show_read}
 use Rattle.stitch_cli.proofs.DeliveryLemmas.{none_before}
 
 -- what an order makes stands in the files that it writes
-route_outputs : (order : RouteOrder) (files : Option Files) (product : ProductValue) (read : Result DrawingValue DrawFault)
-    → Makes (route_read order read) files product → names_of product.outputs ≡ order.cert ∷ order.out ∷ []
-route_outputs order files product (Ok d) makes = above (nat_lt order.format.limit d.step) makes
+sewing_outputs : (Sewn : Meaning → DrawingValue → (bytes cert report : List ℕ) → Type 0) (order : RouteOrder) (files : Option Files) (product : ProductValue)
+    (read : Result DrawingValue DrawFault) → Makes (sewing_read Sewn order read) files product
+    → names_of product.outputs ≡ order.cert ∷ order.out ∷ []
+sewing_outputs Sewn order files product (Ok d) makes = above (nat_lt order.format.limit d.step) makes
   where
-    above : (b : Bool) → Makes (route_above order d b) files product → names_of product.outputs ≡ order.cert ∷ order.out ∷ []
+    above : (b : Bool) → Makes (sewing_above Sewn order d b) files product → names_of product.outputs ≡ order.cert ∷ order.out ∷ []
     above true never = absurd never
     above false makes = ap (λ (p : ProductValue). names_of p.outputs) makes.made
-route_outputs order files product (Err fault) never = absurd never
+sewing_outputs Sewn order files product (Err fault) never = absurd never
 
 check_outputs : (order : CheckOrder) (files : Option Files) (product : ProductValue) (read : Result DrawingValue DrawFault)
     → Makes (check_drawing order read) files product → names_of product.outputs ≡ []
@@ -64,15 +67,6 @@ rewrite_outputs : (order : RewriteOrder) (files : Option Files) (product : Produ
     → Makes (rewrite_read order read) files product → names_of product.outputs ≡ order.output ∷ []
 rewrite_outputs order files product (Ok loaded) makes = ap (λ (p : ProductValue). names_of p.outputs) makes.made
 rewrite_outputs order files product (Err fault) never = absurd never
-
-double_outputs : (order : RouteOrder) (files : Option Files) (product : ProductValue) (read : Result DrawingValue DrawFault)
-    → Makes (double_read order read) files product → names_of product.outputs ≡ order.cert ∷ order.out ∷ []
-double_outputs order files product (Ok d) makes = above (nat_lt order.format.limit d.step) makes
-  where
-    above : (b : Bool) → Makes (double_above order d b) files product → names_of product.outputs ≡ order.cert ∷ order.out ∷ []
-    above true never = absurd never
-    above false makes = ap (λ (p : ProductValue). names_of p.outputs) makes.made
-double_outputs order files product (Err fault) never = absurd never
 
 migrate_outputs : (order : MigrateOrder) (files : Option Files) (product : ProductValue) (read : Result DrawingValue DrawFault)
     → Makes (migrate_read order read) files product → names_of product.outputs ≡ order.output ∷ []
@@ -106,12 +100,12 @@ hoop_outputs order files product (Err fault) never = absurd never
 
 makes_outputs : (order : Order) (files : Option Files) (product : ProductValue) → Makes (plan_of order) files product
     → names_of product.outputs ≡ outputs_of order
-makes_outputs (routing order) files product (bytes, input, makes) = route_outputs order files product (drawing_of bytes) makes
+makes_outputs (routing order) files product (bytes, input, makes) = sewing_outputs IsRouted order files product (drawing_of bytes) makes
 makes_outputs (checking order) files product (bytes, input, makes) = check_outputs order files product (drawing_of bytes) makes
 makes_outputs (sampling order) files product is = ap (λ (p : ProductValue). names_of p.outputs) is.made
 makes_outputs (migrating order) files product (bytes, input, makes) = migrate_outputs order files product (drawing_as2 bytes) makes
 makes_outputs (tracing order) files product (bytes, input, makes) = trace_outputs order files product (order.format.reads bytes) makes
-makes_outputs (doubling order) files product (bytes, input, makes) = double_outputs order files product (drawing_of bytes) makes
+makes_outputs (doubling order) files product (bytes, input, makes) = sewing_outputs IsDoubleRun order files product (drawing_of bytes) makes
 makes_outputs (rewriting order) files product (bytes, input, makes) =
     rewrite_outputs order files product (order.source.reads bytes) makes
 makes_outputs (showing order) files product (bytes, input, makes) = show_outputs order files product (order.format.reads bytes) makes

@@ -1,6 +1,5 @@
 mod DeliveryLemmas
 mod PlanLemmas
-mod EditLemmas
 mod ChangeLemmas
 mod KeepLemmas
 mod DecisionLemmas
@@ -17,6 +16,4 @@ mod RouteFacts
 mod TextFacts
 mod ReasonFacts
 mod SampleFacts
-mod TraceLemmas
-mod TraceFacts
 mod FormatLemmas

@@ -1,13 +1,8 @@
--- Worked values of complete requests, and of what changes of a design that can be refused come to.
-use Rattle.std.proofs.Common.{◌≡◌, ℕ, ℤ, pos, List, [], ◌∷◌, Some, None, Ok, Err, refl}
+-- Worked values of complete requests.
+use Rattle.std.proofs.Common.{◌≡◌, ℕ, List, [], ◌∷◌, Some, None, refl}
 use Rattle.std.specs.Prelude.{codes}
 use Rattle.command_words.specs.Changes.{cut, split, turn}
-use Rattle.design_model.specs.declared.command.Command.TheVariants.{Stitch, Stop}
-use Rattle.design_model.specs.declared.point.Point.{Point}
-use Rattle.design_model.specs.Designs.{DesignValue, empty_design}
 use Rattle.format_traits.specs.Meanings.{Meaning}
-use Rattle.stitch_cli.specs.declared.changing.ChangeFault.TheVariants as reason
-use Rattle.stitch_cli.specs.ChangedDesigns.{shifted_unless, threaded}
 use Rattle.stitch_cli.specs.Orders.{checking, doubling, hooping, migrating, order_of, outputs_of, rewriting, routing, sampling, showing, tracing}
 
 -- a format with another ending
@@ -102,6 +97,10 @@ pub known_convert_onto_itself : (m : Meaning)
     → order_of (dst_and_exp m) (codes "convert" ∷ codes "a.dst" ∷ codes "a.dst" ∷ []) ≡ None
 known_convert_onto_itself m = refl
 
+pub known_convert_from_none : (m : Meaning)
+    → order_of (dst_and_exp m) (codes "convert" ∷ codes "a.jef" ∷ codes "b.dst" ∷ []) ≡ None
+known_convert_from_none m = refl
+
 pub known_convert_to_none : (m : Meaning)
     → order_of (dst_and_exp m) (codes "convert" ∷ codes "a.dst" ∷ codes "b.jef" ∷ []) ≡ None
 known_convert_to_none m = refl
@@ -136,6 +135,15 @@ pub known_check : (m : Meaning) → order_of (dst_and_exp m) (codes "check" ∷ 
     }))
 known_check m = refl
 
+pub known_check_of_one_file : (m : Meaning) → order_of (dst_and_exp m) (codes "check" ∷ codes "b.exp" ∷ codes "b.exp" ∷ codes "b.exp" ∷ [])
+    ≡ Some (checking (record {
+      drawing = codes "b.exp";
+      file = codes "b.exp";
+      cert = codes "b.exp";
+      format = ending_as m (codes "exp");
+    }))
+known_check_of_one_file m = refl
+
 pub known_check_of_no_format : (m : Meaning)
     → order_of (dst_and_exp m) (codes "check" ∷ codes "a" ∷ codes "b.jef" ∷ codes "c.dst" ∷ []) ≡ None
 known_check_of_no_format m = refl
@@ -161,21 +169,3 @@ known_sample_outputs = refl
 pub known_check_outputs : (m : Meaning)
     → outputs_of (checking (record { drawing = codes "a"; file = codes "b"; cert = codes "c"; format = m })) ≡ []
 known_check_outputs m = refl
-
-abbrev place : ℤ → ℤ → Point
-place x y = record { x = x; y = y }
-
--- two blocks, of which none keeps a thread
-abbrev two_blocks : DesignValue
-two_blocks = record empty_design { commands = Stitch (place (pos 0) (pos 0)) ∷ Stop ∷ Stitch (place (pos 5) (pos 0)) ∷ [] }
-
--- places count from 1, and the blocks before keep the threads that they had
-pub known_second_thread : threaded 2 9 two_blocks ≡ Ok (record two_blocks { threads = 1 ∷ 9 ∷ [] })
-known_second_thread = refl
-
-pub known_no_third_place : threaded 3 9 two_blocks ≡ Err (reason.NoPlace 3 2)
-known_no_third_place = refl
-
--- a shift that leads a command out of range names it
-pub known_moved_out : shifted_unless (Some 4) two_blocks ≡ Err (reason.MovedOut 4)
-known_moved_out = refl

@@ -2,18 +2,16 @@
 use Rattle.std.proofs.Common.{◌≡◌, ℕ, List, Option, Some, Result, Ok, Err, inl, inr, sym, subst}
 use Rattle.outside_io.specs.Blames.{read_of}
 use Rattle.outside_io.specs.Causes.{Faults}
-use Rattle.format_traits.specs.declared.fault.ReadFault.{ReadFault}
-use Rattle.format_traits.specs.declared.loaded.Loaded.{Loaded}
 use Rattle.outside_io.specs.Files.{Files, Lacks}
 use Rattle.outside_io.specs.Sights.{StoreSight}
 use Rattle.stitch_cli.specs.declared.halt.Halt.{Halt}
 use Rattle.stitch_cli.specs.declared.halt.Halt.TheVariants as halt
 use Rattle.stitch_cli.specs.declared.product.Product.{Product}
 use Rattle.stitch_cli.specs.Commands.{plan_of}
-use Rattle.stitch_cli.specs.Endings.{Answers, Halts, IsPrepared, LoadsInput, Prepares, ReadsInput, Settles}
+use Rattle.stitch_cli.specs.Endings.{Answers, Halts, IsInputAs, IsPrepared, Prepares, ReadsInput, Settles, TakesInput}
 use Rattle.stitch_cli.specs.Orders.{Order}
 use Rattle.stitch_cli.specs.Plans.{IsInput, Plan, Refuses, reads}
-use Rattle.stitch_cli.specs.Refusals.{RefusalValue, refusal_of, unread}
+use Rattle.stitch_cli.specs.Refusals.{RefusalValue, refusal_of}
 
 -- what the rest of a plan halts for, the plan does
 halts_next : (name bytes : List ℕ) (next : List ℕ → Plan) (store store' : StoreSight) (why : Halt)
@@ -66,55 +64,55 @@ pub settled_answers : (asked : Option Order) (order : Order) (store : StoreSight
 settled_answers asked order store result is settles =
     subst (λ (o : Option Order). Answers o store store result) (sym is) (record { is = settles.at store })
 
--- a file that is not read is not loaded
-pub unread_loads : (reads_as : List ℕ → Result Loaded ReadFault) (name : List ℕ) (store store' : StoreSight) (why : Halt)
-    → ReadsInput name store store' (Err why) → LoadsInput reads_as name store store' (Err why)
-unread_loads reads_as name store store' halt.Unasked read = read
-unread_loads reads_as name store store' (halt.Missing missing) read = read
-unread_loads reads_as name store store' (halt.NotRead lost) read = read
-unread_loads reads_as name store store' (halt.Refused why) read = inl read
-unread_loads reads_as name store store' halt.Memory read = read
+-- a file that is not read is not taken
+pub unread_takes : {V F : Type 0} (says : List ℕ → Result V F) (reason : F → RefusalValue) (name : List ℕ) (store store' : StoreSight)
+    (why : Halt) → ReadsInput name store store' (Err why) → TakesInput says reason name store store' (Err why)
+unread_takes says reason name store store' halt.Unasked read = read
+unread_takes says reason name store store' (halt.Missing missing) read = read
+unread_takes says reason name store store' (halt.NotRead lost) read = read
+unread_takes says reason name store store' (halt.Refused why) read = inl read
+unread_takes says reason name store store' halt.Memory read = read
 
--- a file is loaded, and the rest of the plan is prepared from there
-pub loads_next : (name : List ℕ) (reads_as : List ℕ → Result Loaded ReadFault) (next : Result Loaded ReadFault → Plan)
-    (store mid store' : StoreSight) (loaded : Loaded) (result : Result Product Halt) → LoadsInput reads_as name store mid (Ok loaded)
-    → Prepares (next (Ok loaded)) mid store' result → Prepares (reads name (λ bytes. next (reads_as bytes))) store store' result
-loads_next name reads_as next store mid store' loaded result input prepares =
-    prepares_next name input.bytes (λ bytes. next (reads_as bytes)) store mid store' result input.read
-    (record { is = subst (λ (r : Result Loaded ReadFault). IsPrepared (next r) mid store' result) (sym input.is) prepares.is })
+-- a file is taken, and the rest of the plan is prepared from there
+pub takes_next : {V F : Type 0} (name : List ℕ) (says : List ℕ → Result V F) (next : Result V F → Plan)
+    (store mid store' : StoreSight) (value : V) (result : Result Product Halt) → IsInputAs says name store mid (Ok value)
+    → Prepares (next (Ok value)) mid store' result → Prepares (reads name (λ bytes. next (says bytes))) store store' result
+takes_next {V} {F} name says next store mid store' value result input prepares =
+    prepares_next name input.bytes (λ bytes. next (says bytes)) store mid store' result input.read
+    (record { is = subst (λ (r : Result V F). IsPrepared (next r) mid store' result) (sym input.is) prepares.is })
 
-pub settles_loaded : (name : List ℕ) (reads_as : List ℕ → Result Loaded ReadFault) (next : Result Loaded ReadFault → Plan)
-    (store store' : StoreSight) (loaded : Loaded) (result : Result Product Halt) → LoadsInput reads_as name store store' (Ok loaded)
-    → Settles (next (Ok loaded)) result → Prepares (reads name (λ bytes. next (reads_as bytes))) store store' result
-settles_loaded name reads_as next store store' loaded result input settles =
-    loads_next name reads_as next store store' store' loaded result input (record { is = settles.at store' })
+pub settles_taken : {V F : Type 0} (name : List ℕ) (says : List ℕ → Result V F) (next : Result V F → Plan)
+    (store store' : StoreSight) (value : V) (result : Result Product Halt) → IsInputAs says name store store' (Ok value)
+    → Settles (next (Ok value)) result → Prepares (reads name (λ bytes. next (says bytes))) store store' result
+settles_taken name says next store store' value result input settles =
+    takes_next name says next store store' store' value result input (record { is = settles.at store' })
 
--- a file that is not loaded halts the plan
-unloaded_halts : (name : List ℕ) (reads_as : List ℕ → Result Loaded ReadFault) (next : Result Loaded ReadFault → Plan)
-    (store store' : StoreSight) (why : Halt) → ((files : Option Files) (f : ReadFault) → Refuses (next (Err f)) files (unread name f))
-    → LoadsInput reads_as name store store' (Err why) → Halts (reads name (λ bytes. next (reads_as bytes))) store store' why
-unloaded_halts name reads_as next store store' halt.Unasked refuses never = never
-unloaded_halts name reads_as next store store' (halt.Missing missing) refuses read =
-    halts_at name (λ bytes. next (reads_as bytes)) store store' (halt.Missing missing) read
-unloaded_halts name reads_as next store store' (halt.NotRead lost) refuses read =
-    halts_at name (λ bytes. next (reads_as bytes)) store store' (halt.NotRead lost) read
-unloaded_halts name reads_as next store store' (halt.Refused why) refuses (inl read) =
-    halts_at name (λ bytes. next (reads_as bytes)) store store' (halt.Refused why) read
-unloaded_halts name reads_as next store store' (halt.Refused why) refuses (inr unread_input) =
-    let input = unread_input.input in (
+-- a file that is not taken halts the plan
+untaken_halts : {V F : Type 0} (name : List ℕ) (says : List ℕ → Result V F) (reason : F → RefusalValue) (next : Result V F → Plan)
+    (store store' : StoreSight) (why : Halt) → ((files : Option Files) (f : F) → Refuses (next (Err f)) files (reason f))
+    → TakesInput says reason name store store' (Err why) → Halts (reads name (λ bytes. next (says bytes))) store store' why
+untaken_halts name says reason next store store' halt.Unasked refuses never = never
+untaken_halts name says reason next store store' (halt.Missing missing) refuses read =
+    halts_at name (λ bytes. next (says bytes)) store store' (halt.Missing missing) read
+untaken_halts name says reason next store store' (halt.NotRead lost) refuses read =
+    halts_at name (λ bytes. next (says bytes)) store store' (halt.NotRead lost) read
+untaken_halts name says reason next store store' (halt.Refused why) refuses (inl read) =
+    halts_at name (λ bytes. next (says bytes)) store store' (halt.Refused why) read
+untaken_halts {V} {F} name says reason next store store' (halt.Refused why) refuses (inr refused) =
+    let input = refused.input in (
       inr (
         input.bytes,
         input.read.0,
-        subst (λ (r : Result Loaded ReadFault). Refuses (next r) store.files (refusal_of why)) (sym input.is)
-            (subst (λ (v : RefusalValue). Refuses (next (Err unread_input.fault)) store.files v) (sym unread_input.told)
-            (refuses store.files unread_input.fault)),
+        subst (λ (r : Result V F). Refuses (next r) store.files (refusal_of why)) (sym input.is)
+            (subst (λ (v : RefusalValue). Refuses (next (Err refused.fault)) store.files v) (sym refused.told)
+            (refuses store.files refused.fault)),
       ),
       input.read.1,
     )
-unloaded_halts name reads_as next store store' halt.Memory refuses same = same
+untaken_halts name says reason next store store' halt.Memory refuses same = same
 
-pub unloaded_here : (name : List ℕ) (reads_as : List ℕ → Result Loaded ReadFault) (next : Result Loaded ReadFault → Plan)
-    (store store' : StoreSight) (why : Halt) → ((files : Option Files) (f : ReadFault) → Refuses (next (Err f)) files (unread name f))
-    → LoadsInput reads_as name store store' (Err why) → Prepares (reads name (λ bytes. next (reads_as bytes))) store store' (Err why)
-unloaded_here name reads_as next store store' why refuses input =
-    record { is = unloaded_halts name reads_as next store store' why refuses input }
+pub untaken_here : {V F : Type 0} (name : List ℕ) (says : List ℕ → Result V F) (reason : F → RefusalValue) (next : Result V F → Plan)
+    (store store' : StoreSight) (why : Halt) → ((files : Option Files) (f : F) → Refuses (next (Err f)) files (reason f))
+    → TakesInput says reason name store store' (Err why) → Prepares (reads name (λ bytes. next (says bytes))) store store' (Err why)
+untaken_here name says reason next store store' why refuses input =
+    record { is = untaken_halts name says reason next store store' why refuses input }

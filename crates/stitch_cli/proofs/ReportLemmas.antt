@@ -16,7 +16,7 @@ use Rattle.line_graph.specs.Walks.{needles_of_walk}
 use Rattle.route_core.specs.Routes.{IsBest, walks_of}
 use Rattle.program_texts.specs.declared.reports.PieceReport.{PieceReport}
 use Rattle.program_texts.specs.PieceReports.{reports_from, piece_report}
-use Rattle.stitch_cli.specs.Routes.{piece_reports}
+use Rattle.stitch_cli.specs.Sewings.{piece_reports}
 use Rattle.program_texts.specs.Reports.{penetrations_of}
 
 -- the reports of pieces are those of their lines

@@ -3,15 +3,16 @@ use Rattle.std.proofs.Common.{◌≡◌, ℕ, Result, Ok, Err, refl, subst, sym}
 use Rattle.design_model.specs.Designs.{DesignValue}
 use Rattle.format_traits.specs.declared.loaded.Loaded.{Loaded}
 use Rattle.outside_io.specs.Sights.{StoreSight}
-use Rattle.stitch_cli.specs.declared.changing.Unchanged.{Unchanged}
-use Rattle.stitch_cli.specs.declared.changing.Unchanged.TheVariants as unchanged
+use Rattle.design_changes.specs.declared.change_faults.Unchanged.{Unchanged}
+use Rattle.design_changes.specs.declared.change_faults.Unchanged.TheVariants as unchanged
 use Rattle.stitch_cli.specs.declared.halt.Halt.{Halt}
 use Rattle.stitch_cli.specs.declared.halt.Halt.TheVariants as halt
 use Rattle.stitch_cli.specs.declared.product.Product.{Product}
 use Rattle.stitch_cli.specs.Endings.{IsPrepared, Settles}
 use Rattle.stitch_cli.specs.OrderNames.{RewriteOrder}
 use Rattle.stitch_cli.specs.Plans.{decides}
-use Rattle.stitch_cli.specs.RewriteSteps.{ChangesTo, IsUnchangedFor, WriteOf}
+use Rattle.design_changes.specs.Changings.{ChangesTo}
+use Rattle.stitch_cli.specs.RewriteSteps.{IsUnchangedFor, WriteOf}
 use Rattle.stitch_cli.specs.Rewrites.{RewriteOf, not_changed, not_written}
 
 -- a changed design is written, or can't be

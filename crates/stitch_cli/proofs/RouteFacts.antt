@@ -6,7 +6,7 @@ use Rattle.cut_certificate.specs.declared.certificate.PieceCert.{PieceCert}
 use Rattle.program_texts.specs.TextLines.{line_end}
 use Rattle.design_model.specs.declared.point.Point.{Point}
 use Rattle.line_graph.specs.Drawings.{DrawingValue}
-use Rattle.stitch_cli.specs.Routes.{piece_reports}
+use Rattle.stitch_cli.specs.Sewings.{piece_reports}
 use Rattle.program_texts.specs.Reports.{route_report}
 
 abbrev at : ℕ → ℕ → Point

@@ -14,7 +14,8 @@ use Rattle.route_core.specs.Routes.{IsBest, IsRouteOver, walks_of}
 use Rattle.stitch_cli.specs.OrderNames.{RouteOrder}
 use Rattle.stitch_cli.specs.Products.{ProductValue, two_outputs}
 use Rattle.program_texts.specs.PieceReports.{reports_from}
-use Rattle.stitch_cli.specs.Routes.{RouteMakes, SewsIn, piece_reports}
+use Rattle.stitch_cli.specs.Routes.{IsRouted}
+use Rattle.stitch_cli.specs.Sewings.{SewnMakes, SewsIn, piece_reports}
 use Rattle.program_texts.specs.Reports.{penetrations_of, route_report}
 use Rattle.stitch_cli.proofs.ReportLemmas.{penetrations_are, reports_are}
 use Rattle.stitch_cli.proofs.SewnDesigns.{runs_are_plain}
@@ -65,12 +66,12 @@ pub route_makes : (order : RouteOrder) (d : DrawingValue) (pieces : List Piece) 
     → SewsIn order.format d (walks_of routed.cert.pieces) design → cert ≡ certificate_text routed.cert.pieces
     → report ≡ route_report (reports_from 1 pieces routed.cert.pieces)
     → product ≡ two_outputs (record { name = order.cert; content = cert }) (record { name = order.out; content = design }) report
-    → RouteMakes order d product
+    → SewnMakes IsRouted order d product
 route_makes order d pieces routed design cert report product cut route sewn certified reported made = record {
   design = design;
   cert = cert;
   report = report;
-  routed = record {
+  sewn = record {
     pieces = lines_of_pieces pieces;
     certs = routed.cert.pieces;
     pieces_are = route.pieces_are;

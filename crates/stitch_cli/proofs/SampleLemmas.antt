@@ -19,9 +19,9 @@ use Rattle.program_texts.specs.declared.summary.Summary.{Summary}
 use Rattle.stitch_cli.specs.OrderNames.{SampleOrder}
 use Rattle.stitch_cli.specs.Products.{ProductValue, one_output}
 use Rattle.program_texts.specs.PieceReports.{reports_from, piece_report}
-use Rattle.stitch_cli.specs.Routes.{piece_reports}
-use Rattle.stitch_cli.specs.SampleSteps.{summed}
-use Rattle.stitch_cli.specs.Samples.{TellsOf, cut_sum, junction_count, odd_count, over_pieces, retraced_sum, summary_of}
+use Rattle.stitch_cli.specs.Sewings.{piece_reports}
+use Rattle.program_texts.specs.PieceSums.{junction_count, odd_count, summed}
+use Rattle.stitch_cli.specs.Samples.{TellsOf, cut_sum, over_pieces, retraced_sum, summary_of}
 use Rattle.program_texts.specs.Reports.{penetrations_of, summary_text}
 use Rattle.stitch_cli.proofs.ReportLemmas.{reports_are}
 

@@ -6,7 +6,7 @@ use Rattle.program_texts.specs.TextLines.{line_end}
 use Rattle.format_traits.specs.declared.fault.ReadFault.TheVariants as read
 use Rattle.format_traits.specs.declared.fault.WriteFault.TheVariants as write
 use Rattle.line_graph.specs.declared.draw_kind.DrawKind.TheVariants as kind
-use Rattle.stitch_cli.specs.declared.changing.ChangeFault.TheVariants as reason
+use Rattle.design_changes.specs.declared.change_faults.ChangeFault.TheVariants as reason
 use Rattle.stitch_trace.specs.declared.trace_fault.TraceFault.TheVariants as trace
 use Rattle.stitch_cli.specs.Refusals.{step_too_long, too_large, too_long, unchanged, undrawn, unread, untraced, unwritten}
 use Rattle.stitch_cli.specs.Texts.{refusal_line}

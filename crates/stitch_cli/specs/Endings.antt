@@ -4,8 +4,6 @@ use Rattle.outside_io.specs.Blames.{read_of}
 use Rattle.outside_io.specs.Causes.{Faults}
 use Rattle.outside_io.specs.Files.{Lacks}
 use Rattle.outside_io.specs.Sights.{SinkSight, StoreSight}
-use Rattle.format_traits.specs.declared.fault.ReadFault.{ReadFault}
-use Rattle.format_traits.specs.declared.loaded.Loaded.{Loaded}
 use Rattle.stitch_cli.specs.declared.halt.Refusal.{Refusal}
 use Rattle.stitch_cli.specs.declared.halt.Halt.{Halt}
 use Rattle.stitch_cli.specs.declared.halt.Halt.TheVariants as halt
@@ -17,7 +15,7 @@ use Rattle.stitch_cli.specs.Orders.{Order}
 use Rattle.stitch_cli.specs.Plans.{ComesTo, IsInput, IsTooLong, Makes, Misses, Plan, Refuses}
 use Rattle.stitch_cli.specs.Products.{AreApart, AreNamed, ProductValue, Wrote, WroteUpTo, product_of}
 use Rattle.program_texts.specs.Puts.{Broke, fed, Tells}
-use Rattle.stitch_cli.specs.Refusals.{refusal_of, too_long, unread}
+use Rattle.stitch_cli.specs.Refusals.{RefusalValue, refusal_of, too_long}
 use Rattle.stitch_cli.specs.RunSights.{Sights}
 use Rattle.stitch_cli.specs.Texts.{halt_text}
 use Rattle.program_texts.specs.Messages.{unprinted_line, unwritten_line}
@@ -78,33 +76,33 @@ ReadsInput name store store' (Err (halt.Refused why)) =
     (refusal_of why ≡ too_long name) × IsTooLong store.files name × (store' ≡ store)
 ReadsInput name store store' (Err halt.Memory) = store' ≡ store
 
--- an input's file was read, and its bytes read as that
-pub record IsInputAs (reads : List ℕ → Result Loaded ReadFault) (name : List ℕ)
-    (store store' : StoreSight) (answer : Result Loaded ReadFault) : Type 0 where
+-- an input's file was read, and its bytes say that
+pub record IsInputAs {V F : Type 0} (says : List ℕ → Result V F) (name : List ℕ)
+    (store store' : StoreSight) (answer : Result V F) : Type 0 where
   pub bytes : List ℕ
   pub read : ReadsInput name store store' (Ok bytes)
-  pub is : reads bytes ≡ answer
+  pub is : says bytes ≡ answer
 
--- an input's file was read, and is none of its format
-pub record IsUnreadInput (reads : List ℕ → Result Loaded ReadFault) (name : List ℕ)
-    (store store' : StoreSight) (why : Refusal) : Type 0 where
-  pub fault : ReadFault
-  pub input : IsInputAs reads name store store' (Err fault)
-  pub told : refusal_of why ≡ unread name fault
+-- an input's file was read, and is refused for what its bytes say
+pub record IsRefusedInput {V F : Type 0} (says : List ℕ → Result V F) (reason : F → RefusalValue)
+    (name : List ℕ) (store store' : StoreSight) (why : Refusal) : Type 0 where
+  pub fault : F
+  pub input : IsInputAs says name store store' (Err fault)
+  pub told : refusal_of why ≡ reason fault
 
--- the loading of an input's file: what it reads as, or why there is nothing
-abbrev pub LoadsInput : (List ℕ → Result Loaded ReadFault) → List ℕ → StoreSight → StoreSight
-    → Result Loaded Halt → Type 0
-LoadsInput reads name store store' (Ok loaded) = IsInputAs reads name store store' (Ok loaded)
-LoadsInput reads name store store' (Err halt.Unasked) = ⊥
-LoadsInput reads name store store' (Err (halt.Missing missing)) =
+-- the taking of an input: what its file says, or why there is nothing; a fault is a reason to refuse
+abbrev pub TakesInput : {V F : Type 0} → (List ℕ → Result V F) → (F → RefusalValue) → List ℕ
+    → StoreSight → StoreSight → Result V Halt → Type 0
+TakesInput says reason name store store' (Ok value) = IsInputAs says name store store' (Ok value)
+TakesInput says reason name store store' (Err halt.Unasked) = ⊥
+TakesInput says reason name store store' (Err (halt.Missing missing)) =
     ReadsInput name store store' (Err (halt.Missing missing))
-LoadsInput reads name store store' (Err (halt.NotRead lost)) =
+TakesInput says reason name store store' (Err (halt.NotRead lost)) =
     ReadsInput name store store' (Err (halt.NotRead lost))
-LoadsInput reads name store store' (Err (halt.Refused why)) =
+TakesInput says reason name store store' (Err (halt.Refused why)) =
     ReadsInput name store store' (Err (halt.Refused why))
-    ⊎ IsUnreadInput reads name store store' why
-LoadsInput reads name store store' (Err halt.Memory) = store' ≡ store
+    ⊎ IsRefusedInput says reason name store store' why
+TakesInput says reason name store store' (Err halt.Memory) = store' ≡ store
 
 -- the report is printed; or it could not be, and its line is told
 abbrev pub Prints : List ℕ → SinkSight → SinkSight → SinkSight → SinkSight → Status → Type 0

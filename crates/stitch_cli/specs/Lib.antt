@@ -1,6 +1,7 @@
 -- words of the crates below that public clauses cite
 pub use Rattle.command_words.specs.Changes
 pub use Rattle.command_words.specs.Requests
+pub use Rattle.design_changes.specs.ChangedDesigns
 pub use Rattle.certificate_text.specs.CertificateTexts
 pub use Rattle.program_texts.specs.DesignFaults
 pub use Rattle.program_texts.specs.DesignReports
@@ -11,18 +12,19 @@ pub use Rattle.program_texts.specs.Puts
 pub use Rattle.program_texts.specs.Reasons
 pub use Rattle.program_texts.specs.Reports
 pub use Rattle.program_texts.specs.PieceReports
+pub use Rattle.program_texts.specs.PieceSums
 pub use Rattle.program_texts.specs.TextFaults
 pub use Rattle.program_texts.specs.TextLines
+pub use Rattle.program_texts.specs.TracingReports
 pub use Rattle.program_texts.specs.UsageText
 pub mod Refusals
 pub mod Products
 pub mod Plans
-pub mod ChangedDesigns
 pub mod OrderNames
 pub mod Orders
-pub mod TraceTexts
 pub mod Texts
 -- read these first: what each command does, and what each status of the program means
+pub mod Sewings
 pub mod Routes
 pub mod Checks
 pub mod Samples
@@ -38,4 +40,4 @@ pub mod RunFailures
 pub mod Runs
 pub mod Endings
 pub mod RewriteSteps
-pub mod SampleSteps
+pub mod SewingSteps

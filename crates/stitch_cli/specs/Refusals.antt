@@ -6,7 +6,7 @@ use Rattle.format_traits.specs.declared.fault.ReadFault.{ReadFault}
 use Rattle.format_traits.specs.declared.fault.WriteFault.{WriteFault}
 use Rattle.route_core.specs.declared.verdict.Reason.{Reason}
 use Rattle.stitch_trace.specs.declared.trace_fault.TraceFault.{TraceFault}
-use Rattle.stitch_cli.specs.declared.changing.ChangeFault.{ChangeFault}
+use Rattle.design_changes.specs.declared.change_faults.ChangeFault.{ChangeFault}
 use Rattle.stitch_cli.specs.declared.halt.Refusal.{Refusal}
 use Rattle.stitch_cli.specs.declared.halt.Refusal.TheVariants as refusal
 

@@ -7,8 +7,8 @@ use Rattle.format_traits.specs.declared.fault.WriteFault.{WriteFault}
 use Rattle.format_traits.specs.declared.loaded.Loaded.{Loaded}
 use Rattle.format_traits.specs.Laws.{MovesWithin, ReadsAgain}
 use Rattle.program_texts.specs.DesignReports.{written_report}
-use Rattle.stitch_cli.specs.declared.changing.ChangeFault.{ChangeFault}
-use Rattle.stitch_cli.specs.ChangedDesigns.{BecomesAll}
+use Rattle.design_changes.specs.declared.change_faults.ChangeFault.{ChangeFault}
+use Rattle.design_changes.specs.ChangedDesigns.{BecomesAll}
 use Rattle.stitch_cli.specs.OrderNames.{RewriteOrder}
 use Rattle.stitch_cli.specs.Plans.{Plan, decides, reads, refuses}
 use Rattle.stitch_cli.specs.Products.{ProductValue, one_output}

@@ -5,7 +5,7 @@ use Rattle.cut_certificate.specs.declared.certificate.PieceCert.{PieceCert}
 use Rattle.cut_certificate.specs.Cuts.{total_of}
 use Rattle.drawing_text.specs.Spelling.{plain_spelling}
 use Rattle.line_graph.specs.Drawings.{DrawingValue}
-use Rattle.line_graph.specs.PieceGraphs.{PieceValue, odd_junctions, piece_of}
+use Rattle.line_graph.specs.PieceGraphs.{PieceValue, piece_of}
 use Rattle.line_graph.specs.Pieces.{ArePieces}
 use Rattle.line_graph.specs.PieceWalks.{piece_cost}
 use Rattle.route_core.specs.Routes.{IsBest}
@@ -14,18 +14,12 @@ use Rattle.program_texts.specs.declared.summary.Summary.{Summary}
 use Rattle.stitch_cli.specs.OrderNames.{SampleOrder}
 use Rattle.stitch_cli.specs.Plans.{Plan, accepts}
 use Rattle.stitch_cli.specs.Products.{ProductValue, one_output}
+use Rattle.program_texts.specs.PieceSums.{junction_count, odd_count}
 use Rattle.program_texts.specs.Reports.{summary_text}
 
 -- the sum of a number over pieces of a drawing
 abbrev pub over_pieces : (PieceValue → ℕ) → DrawingValue → List (List ℕ) → ℕ
 over_pieces count d pieces = sum_by (λ lines. count (piece_of d lines)) pieces
-
--- how many junctions a piece has, and how many of them are odd
-abbrev pub junction_count : PieceValue → ℕ
-junction_count p = length p.junctions
-
-abbrev pub odd_count : PieceValue → ℕ
-odd_count p = length (odd_junctions p)
 
 -- what walks retrace in all
 abbrev pub retraced_sum : List PieceCert → ℕ

@@ -1,7 +1,7 @@
 -- Why an order came to no product, as the program tells it.
 use Rattle.std.specs.Prelude.{ℕ, List, codes, decimal}
-use Rattle.stitch_cli.specs.declared.changing.ChangeFault.{ChangeFault}
-use Rattle.stitch_cli.specs.declared.changing.ChangeFault.TheVariants as change
+use Rattle.design_changes.specs.declared.change_faults.ChangeFault.{ChangeFault}
+use Rattle.design_changes.specs.declared.change_faults.ChangeFault.TheVariants as change
 use Rattle.stitch_cli.specs.declared.halt.Halt.{Halt}
 use Rattle.stitch_cli.specs.declared.halt.Halt.TheVariants as halt
 use Rattle.stitch_cli.specs.Refusals.{RefusalValue, disproved, refusal_of, step_too_long, too_large, too_long, uncertified, unchanged, undrawn, unread, untraced, unwritten}

@@ -1,27 +1,21 @@
 -- What the command `trace` comes to.
-use Rattle.std.specs.Prelude.{◌≡◌, ℕ, List, length, sum_by, Result, Ok, Err}
-use Rattle.line_sections.specs.Sections.{segments_of}
+use Rattle.std.specs.Prelude.{◌≡◌, ℕ, List, Result, Ok, Err}
 use Rattle.drawing_text.specs.Spelling.{plain_spelling2}
 use Rattle.format_traits.specs.declared.fault.ReadFault.{ReadFault}
 use Rattle.format_traits.specs.declared.loaded.Loaded.{Loaded}
 use Rattle.line_graph.specs.Drawings.{DrawingValue}
+use Rattle.program_texts.specs.TracingReports.{tracing_report}
 use Rattle.stitch_trace.specs.declared.trace_fault.TraceFault.{TraceFault}
 use Rattle.stitch_trace.specs.Traces.{traced}
 use Rattle.stitch_cli.specs.OrderNames.{TraceOrder}
 use Rattle.stitch_cli.specs.Plans.{Plan, accepts, reads, refuses}
 use Rattle.stitch_cli.specs.Products.{ProductValue, one_output}
 use Rattle.stitch_cli.specs.Refusals.{unread, untraced}
-use Rattle.stitch_cli.specs.TraceTexts.{trace_report}
-
--- how many segments the lines of a drawing have
-abbrev pub segment_count : DrawingValue → ℕ
-segment_count d = sum_by (λ line. length (segments_of line.points)) d.lines
 
 -- a drawing is written in its plain spelling of version 2, and the report counts its blocks, its
 -- lines and its segments
 abbrev pub IsTraced : List ℕ → DrawingValue → ProductValue → Type 0
-IsTraced drawing d product = product ≡ one_output drawing (plain_spelling2 d)
-    (trace_report (length d.threads) (length d.lines) (segment_count d))
+IsTraced drawing d product = product ≡ one_output drawing (plain_spelling2 d) (tracing_report d)
 
 -- the traced drawing of a design is written, and a design that has none is refused
 abbrev pub trace_made : TraceOrder → Result DrawingValue TraceFault → Plan

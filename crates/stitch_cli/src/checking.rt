@@ -2,7 +2,6 @@ ghost use Rattle.std.specs.Prelude.{◌≡◌, ◌<◌, ◌-◌, ◌≤◌, ◌^
 ghost use Rattle.command_words.specs.SoundRequests.{AreCheckNames};
 ghost use Rattle.certificate_text.specs.ReadCertificates.{cert_of};
 ghost use Rattle.format_traits.specs.Meanings.{Meaning};
-ghost use Rattle.drawing_text.specs.DrawingText.{drawing_of};
 ghost use Rattle.outside_io.specs.declared.limits.TheConstants.{MAX_FILE};
 ghost use Rattle.route_core.specs.Verdicts.{IsShort};
 ghost use Rattle.stitch_cli.specs.Checks.{CheckOf, check_cert, check_design, check_drawing, check_plan};
@@ -10,6 +9,7 @@ ghost use Rattle.stitch_cli.specs.Endings.{Prepares, Settles};
 ghost use Rattle.stitch_cli.specs.OrderNames.{check_order};
 ghost use Rattle.stitch_cli.specs.Plans.{decides};
 
+use crate::drawing_inputs::drawing_in;
 use crate::format_places::load_at;
 use crate::halt::{Halt, Refusal};
 use crate::product::{Product, only_report};
@@ -18,9 +18,8 @@ use certificate_text::{CertFault, read_cert};
 use command_words::CheckNames;
 use cut_certificate::Cert;
 use design_model::Design;
-use drawing_text::{DrawFault, read_drawing};
 use format_traits::{Format, Loaded};
-use line_graph::{DrawKind, Drawing};
+use line_graph::Drawing;
 use outside_io::Store;
 use program_texts::bytes_of;
 use route_core::{Verdict, judge};
@@ -42,39 +41,8 @@ pub(crate) fn check<'a, S: Store>(
         → Prepares (check_plan (check_order names.entry m)) (S.sight store.old) (S.sight store.new) result }
     ensures same { map (λ f. meaning f) formats.new ≡ map (λ f. meaning f) formats.old }
 {
-    let bytes = read_input(alloc, store, names.drawing)?;
-    check_text(alloc, names, formats, place, bytes.as_slice(), store)
-}
-
-fn check_text<'a, S: Store>(
-    alloc: Global,
-    names: CheckNames<'a>,
-    formats: &mut [Box<dyn Format>],
-    place: usize,
-    bytes: &[u8],
-    store: &mut S,
-) -> Result<Product<'a>, Halt<'a>>
-    requires names { AreCheckNames names }
-    requires place { place < length formats.old }
-    requires short { length bytes.now ≤ MAX_FILE }
-    ensures prepares { (m : Meaning) → slice_get (map (λ f. meaning f) formats.old) place ≡ Some m
-        → Prepares (check_drawing (check_order names.entry m) (drawing_of bytes.now))
-        (S.sight store.old) (S.sight store.new) result }
-    ensures same { map (λ f. meaning f) formats.new ≡ map (λ f. meaning f) formats.old }
-{
-    match read_drawing(alloc, bytes) {
-        Ok(drawing) => check_file(alloc, names, formats, place, &drawing, store),
-        Err(
-            DrawFault {
-                kind: DrawKind::Memory,
-                number: _,
-            },
-        ) => Err(Halt::Memory),
-        Err(fault) => Err(Halt::Refused(Refusal::Undrawn {
-            name: names.drawing,
-            fault,
-        })),
-    }
+    let drawing = drawing_in(alloc, store, names.drawing)?;
+    check_file(alloc, names, formats, place, &drawing, store)
 }
 
 fn check_file<'a, S: Store>(

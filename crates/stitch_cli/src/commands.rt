@@ -4,22 +4,21 @@ ghost use Rattle.command_words.specs.SoundRequests.{AreCheckNames, AreNames, Bot
 ghost use Rattle.outside_io.specs.Files.{IsName};
 ghost use Rattle.stitch_cli.specs.Endings.{Answers};
 ghost use Rattle.stitch_cli.specs.Orders.{are_apart as names_are_apart, checking_by, doubling_to, format_of, hooping_by, migrating_to, order_of, rewriting_by, routing_to, showing_by, tracing_to};
-ghost use Rattle.stitch_cli.specs.RewriteSteps.{AreSound, changes_by};
+ghost use Rattle.design_changes.specs.Changings.{AreSound, changes_by};
 
-use crate::changing::Changes;
 use crate::checking::check;
-use crate::doubling::double;
 use crate::format_places::format_at;
 use crate::halt::Halt;
 use crate::hooping::hoop;
 use crate::migrating::migrate;
 use crate::product::Product;
 use crate::rewriting::{Places, rewrite};
-use crate::routing::route;
 use crate::sampling::sample;
+use crate::sewing::{Way, sew};
 use crate::showing::show;
 use crate::tracing::trace_file;
 use command_words::{CheckNames, Names, Request, RouteNames, request};
+use design_changes::Changes;
 use format_traits::{Format, find};
 use outside_io::Store;
 use std::alloc::Global;
@@ -83,7 +82,7 @@ fn make_route<'a, S: Store>(
         return Err(Halt::Unasked);
     }
     match find(formats, names.out) {
-        Some(place) => route(alloc, names, format_at(formats, place), store),
+        Some(place) => sew(alloc, Way::Least, names, format_at(formats, place), store),
         None => Err(Halt::Unasked),
     }
 }
@@ -228,7 +227,7 @@ fn make_double<'a, S: Store>(
         return Err(Halt::Unasked);
     }
     match find(formats, names.out) {
-        Some(place) => double(alloc, names, format_at(formats, place), store),
+        Some(place) => sew(alloc, Way::Double, names, format_at(formats, place), store),
         None => Err(Halt::Unasked),
     }
 }

@@ -1,7 +1,8 @@
 ghost use Rattle.std.specs.Prelude.{◌≡◌, ◌<◌, Some, length, map, slice_get};
 ghost use Rattle.format_traits.specs.Meanings.{Meaning};
 ghost use Rattle.outside_io.specs.Files.{IsName};
-ghost use Rattle.stitch_cli.specs.Endings.{LoadsInput};
+ghost use Rattle.stitch_cli.specs.Refusals.{unread as unread_input};
+ghost use Rattle.stitch_cli.specs.Endings.{TakesInput};
 
 use crate::halt::{Halt, Refusal};
 use crate::reading::unread;
@@ -27,7 +28,7 @@ pub(crate) fn load_at<'a, S: Store>(
     requires place { place < length formats.old }
     requires name { IsName name.now }
     ensures loads { (m : Meaning) → slice_get (map (λ f. meaning f) formats.old) place ≡ Some m
-        → LoadsInput m.reads name.now (S.sight store.old) (S.sight store.new) result }
+        → TakesInput m.reads (unread_input name.now) name.now (S.sight store.old) (S.sight store.new) result }
     ensures same { map (λ f. meaning f) formats.new ≡ map (λ f. meaning f) formats.old }
 {
     load_input(&mut formats[place], store, name)
@@ -39,7 +40,7 @@ fn load_input<'a, S: Store>(
     name: &'a str,
 ) -> Result<Loaded, Halt<'a>>
     requires { IsName name.now }
-    ensures loads { LoadsInput (meaning format.old).reads name.now (S.sight store.old)
+    ensures loads { TakesInput (meaning format.old).reads (unread_input name.now) name.now (S.sight store.old)
         (S.sight store.new) result }
     ensures same { meaning format.new ≡ meaning format.old }
 {

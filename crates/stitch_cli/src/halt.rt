@@ -1,7 +1,7 @@
 ghost use Rattle.std.specs.Prelude.{◌≡◌};
 
-use crate::changing::ChangeFault;
 use command_words::Names;
+use design_changes::ChangeFault;
 use design_model::{Bytes, Memory};
 use drawing_text::DrawFault;
 use format_traits::{ReadFault, WriteFault};

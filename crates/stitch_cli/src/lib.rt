@@ -1,11 +1,10 @@
 //! The program's commands: the steps of each over a store and two sinks.
 #![tactic(auto)]
 
-mod changing;
 mod checking;
 mod commands;
 mod delivery;
-mod doubling;
+mod drawing_inputs;
 mod format_places;
 mod halt;
 mod hooping;
@@ -14,13 +13,12 @@ mod migrating;
 mod product;
 mod reading;
 mod rewriting;
-mod routing;
 mod running;
 mod sampling;
+mod sewing;
 mod showing;
 mod tracing;
 
-pub use changing::ChangeFault;
 pub use halt::{Halt, Refusal};
 pub use product::{Output, Product};
 pub use program_texts::{PieceReport, Status, Summary, USAGE, out_of_memory};

@@ -4,9 +4,9 @@ ghost use Rattle.stitch_cli.specs.Endings.{status_of};
 ghost use Rattle.stitch_cli.specs.Refusals.{refusal_of};
 ghost use Rattle.stitch_cli.specs.Texts.{change_line, halt_text, refusal_line, reason_line};
 
-use crate::changing::ChangeFault;
 use crate::halt::{Halt, Refusal};
 use command_words::Names;
+use design_changes::ChangeFault;
 use outside_io::Sink;
 use program_texts::{
     Status, out_of_memory, tell_about, tell_act, tell_command, tell_counts, tell_cuts,

@@ -4,15 +4,16 @@ ghost use Rattle.format_traits.specs.Meanings.{Meaning};
 ghost use Rattle.outside_io.specs.Files.{IsName};
 ghost use Rattle.stitch_cli.specs.Endings.{Prepares, Settles};
 ghost use Rattle.stitch_cli.specs.OrderNames.{rewrite_order};
-ghost use Rattle.stitch_cli.specs.RewriteSteps.{AreSound, IsUnchangedFor, WriteOf, changes_by};
+ghost use Rattle.design_changes.specs.Changings.{AreSound, changes_by};
+ghost use Rattle.stitch_cli.specs.RewriteSteps.{IsUnchangedFor, WriteOf};
 ghost use Rattle.stitch_cli.specs.Rewrites.{RewriteOf, rewrite_plan};
 ghost use Rattle.stitch_cli.specs.Plans.{decides};
 
-use crate::changing::{Changes, Unchanged, changed};
 use crate::format_places::{format_at, load_at};
 use crate::halt::{Halt, Refusal};
 use crate::product::{Output, Product, one_output};
 use command_words::Names;
+use design_changes::{Changes, Unchanged, changed};
 use design_model::{Design, counts};
 use format_traits::{Format, Loaded, WriteFault, encode_by, limit_of};
 use outside_io::Store;

@@ -1,23 +1,22 @@
-ghost use Rattle.std.specs.Prelude.{◌≡◌, ◌<◌, ◌≤◌, IfOk, Some, length, map, slice_get, string_bytes};
+ghost use Rattle.std.specs.Prelude.{◌≡◌, ◌<◌, IfOk, Some, length, map, slice_get};
 ghost use Rattle.format_traits.specs.Meanings.{Meaning};
-ghost use Rattle.line_sections.specs.Sections.{segments_of};
 ghost use Rattle.drawing_text.specs.DrawingText.{IsWhole};
 ghost use Rattle.outside_io.specs.Files.{IsName};
 ghost use Rattle.stitch_trace.specs.Traces.{traced};
 ghost use Rattle.stitch_cli.specs.Endings.{Prepares, Settles};
 ghost use Rattle.stitch_cli.specs.OrderNames.{trace_order};
 ghost use Rattle.stitch_cli.specs.Products.{product_of};
-ghost use Rattle.stitch_cli.specs.TraceTexts.{trace_report};
-ghost use Rattle.stitch_cli.specs.Tracings.{IsTraced, segment_count, trace_made, trace_plan};
+ghost use Rattle.stitch_cli.specs.Tracings.{IsTraced, trace_made, trace_plan};
 
 use crate::format_places::load_at;
 use crate::halt::{Halt, Refusal};
 use crate::product::{Output, Product, one_output};
-use design_model::{Bytes, Design, Memory, Point};
+use design_model::{Design, Memory};
 use drawing_text::print_drawing2;
 use format_traits::Format;
 use line_graph::Drawing;
 use outside_io::Store;
+use program_texts::print_tracing;
 use std::alloc::Global;
 use stitch_trace::{TraceFault, trace};
 
@@ -71,51 +70,8 @@ fn traced_product<'a>(
     requires { IsWhole drawing.now }
     ensures { IfOk result (λ product. IsTraced name.now drawing.now (product_of product)) }
 {
-    let report = report_of(alloc, drawing)?;
+    let report = print_tracing(alloc, drawing)?;
     let content = print_drawing2(alloc, drawing)?;
     let product = one_output(alloc, Output { name, content }, report)?;
     Ok(product)
-}
-
-fn report_of(alloc: Global, drawing: &Drawing) -> Result<Bytes, Memory>
-    ensures { IfOk result (λ text. text
-        ≡ trace_report (length drawing.now.threads) (length drawing.now.lines)
-        (segment_count drawing.now)) }
-{
-    let line = report_line(
-        alloc,
-        drawing.block_count(),
-        drawing.line_count(),
-        segments(drawing),
-    )?;
-    let mut text = Bytes::new(alloc);
-    text.append(line.as_bytes())?;
-    Ok(text)
-}
-
-fn report_line(alloc: Global, blocks: u32, lines: u32, links: usize) -> Result<String, Memory>
-    ensures { IfOk result (λ text. string_bytes text ≡ trace_report blocks lines links) }
-{
-    let text = format!(in alloc; "blocks {blocks} lines {lines} links {links}\n")?;
-    Ok(text)
-}
-
-/// How many segments the lines of a drawing have.
-fn segments(drawing: &Drawing) -> usize
-    ensures { result ≡ segment_count drawing.now }
-{
-    // The clauses of `step` bring the drawing's limits.
-    let _step = drawing.step();
-    let mut count = 0;
-    for line in drawing.lines() {
-        count += segments_in(line.points());
-    }
-    count
-}
-
-fn segments_in(points: &[Point]) -> usize
-    ensures value { result ≡ length (segments_of points.now) }
-    ensures fewer { result ≤ length points.now }
-{
-    points.len().saturating_sub(1)
 }

@@ -1,5 +1,5 @@
 use Rattle.std.proofs.Common.{◌≡◌, false, bytes_eq, sym, rules}
-use Rattle.stitch_cli.specs.RewriteSteps.{changes_by}
+use Rattle.design_changes.specs.Changings.{changes_by}
 use Rattle.stitch_cli.proofs.FormatLemmas.{rewriting_found}
 use Rattle.stitch_cli.proofs.commands.make_rewrite.Goals as goal
 

@@ -3,15 +3,15 @@ use Rattle.stitch_cli.proofs.RouteLemmas.{penetrations_few, pieces_few}
 use Rattle.stitch_cli.proofs.SampleLemmas.{sample_makes}
 use Rattle.stitch_cli.proofs.sampling.told.Goals as goal
 
-pub summary-requires-clause-blocks : goal.summary-requires-clause-blocks
-summary-requires-clause-blocks c = rw c.as_slice-2.ensures
+pub summary_of-requires-clause-blocks : goal.summary_of-requires-clause-blocks
+summary_of-requires-clause-blocks c = rw c.as_slice-2.ensures
     (blocks_few _ _ c.step-step.ensures.limits c.in_ok-pieces.ensures.each)
 
-pub summary-requires-clause-most : goal.summary-requires-clause-most
-summary-requires-clause-most c = rw c.as_slice-2.ensures (pieces_few _ _ _ _ c.as_slice.ensures c.in_ok-routed.ensures)
+pub summary_of-requires-clause-most : goal.summary_of-requires-clause-most
+summary_of-requires-clause-most c = rw c.as_slice-2.ensures (pieces_few _ _ _ _ c.as_slice.ensures c.in_ok-routed.ensures)
 
-pub summary-requires-clause-few : goal.summary-requires-clause-few
-summary-requires-clause-few c = rw (c.as_slice-2.ensures, c.as_slice-3.ensures)
+pub summary_of-requires-clause-few : goal.summary_of-requires-clause-few
+summary_of-requires-clause-few c = rw (c.as_slice-2.ensures, c.as_slice-3.ensures)
     (penetrations_few _ _ _ c.in_ok-pieces.ensures (rw c.as_slice.ensures at c.in_ok-routed.ensures))
 
 pub returns : goal.returns

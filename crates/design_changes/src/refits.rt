@@ -1,0 +1,50 @@
+ghost use Rattle.std.specs.Prelude.{◌∷◌, ◌≤◌, [], if◌then◌else◌};
+ghost use Rattle.command_words.specs.Words.{refits};
+ghost use Rattle.design_changes.specs.Changings.{ChangesTo};
+ghost use Rattle.design_changes.specs.ChangeSteps.{refit_change};
+ghost use Rattle.step_splitter.specs.declared.segment.TheConstants.{MAX_STEP};
+
+use crate::change_faults::{ChangeFault, Unchanged};
+use design_model::Design;
+use std::alloc::Global;
+use step_splitter::{MAX_STEP, RefitFault, RefitMode, refit};
+
+/// The design with its long stitches split, where that is asked for, and then with its floats cut,
+/// where that is.
+pub(crate) fn refitted(
+    alloc: Global,
+    design: Design,
+    limit: u32,
+    splits: bool,
+    cuts: bool,
+) -> Result<Design, Unchanged>
+    requires low { 1 ≤ limit }
+    requires high { limit ≤ MAX_STEP }
+    ensures { ChangesTo limit (refits splits cuts) design result }
+{
+    let split = refitted_where(splits, alloc, design, limit, RefitMode::Split)?;
+    refitted_where(cuts, alloc, split, limit, RefitMode::Cut)
+}
+
+fn refitted_where(
+    asked: bool,
+    alloc: Global,
+    design: Design,
+    limit: u32,
+    mode: RefitMode,
+) -> Result<Design, Unchanged>
+    requires low { 1 ≤ limit }
+    requires high { limit ≤ MAX_STEP }
+    ensures { ChangesTo limit (if asked then refit_change mode ∷ [] else []) design result }
+{
+    if !asked {
+        return Ok(design);
+    }
+    match refit(alloc, &design, limit, mode) {
+        Ok(refitted) => Ok(refitted),
+        Err(RefitFault::TooMany { number }) => {
+            Err(Unchanged::For(ChangeFault::RefitTooMany { number }))
+        }
+        Err(RefitFault::Memory) => Err(Unchanged::Memory),
+    }
+}

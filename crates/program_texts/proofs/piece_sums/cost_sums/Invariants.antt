@@ -1,0 +1,11 @@
+use Rattle.std.proofs.Common.{◌≡◌, ◌+◌, ◌<◌, ◌^◌, drop, sum_by}
+use Rattle.program_texts.specs.Reports.{penetrations_of}
+use Rattle.program_texts.proofs.piece_sums.cost_sums.Given as goal
+
+-- the sums so far and those of the reports that are left are the whole, and no more than the needle goes down
+abbrev pub invariant-loop-report : goal.invariant-loop-report
+invariant-loop-report l = record {
+  cost : l.cost + sum_by (λ r. r.cost) (drop l.report-index l.reports) ≡ sum_by (λ r. r.cost) l.reports;
+  retraced : l.retraced + sum_by (λ r. r.retraced) (drop l.report-index l.reports) ≡ sum_by (λ r. r.retraced) l.reports;
+  few : (l.cost + l.retraced) + sum_by penetrations_of (drop l.report-index l.reports) < 2 ^ 32;
+}

@@ -1,0 +1,38 @@
+-- What is told of the pieces of a sample drawing, summed. Costs count steps, weights of cuts halves of a
+-- step.
+use Rattle.std.specs.Prelude.{ℕ, ◌*◌, List, length, sum_by}
+use Rattle.line_graph.specs.declared.piece.Piece.{Piece}
+use Rattle.line_graph.specs.CutPieces.{graph_of}
+use Rattle.line_graph.specs.PieceGraphs.{PieceValue, odd_junctions}
+use Rattle.program_texts.specs.declared.reports.PieceReport.{PieceReport}
+use Rattle.program_texts.specs.declared.summary.Summary.{Summary}
+use Rattle.program_texts.specs.Reports.{penetrations_of}
+
+-- how many junctions a piece has, and how many of them are odd
+abbrev pub junction_count : PieceValue → ℕ
+junction_count p = length p.junctions
+
+abbrev pub odd_count : PieceValue → ℕ
+odd_count p = length (odd_junctions p)
+
+-- the junctions of pieces
+abbrev pub junction_sum : List Piece → ℕ
+junction_sum pieces = sum_by (λ p. junction_count (graph_of p)) pieces
+
+-- their odd junctions
+abbrev pub odd_sum : List Piece → ℕ
+odd_sum pieces = sum_by (λ p. odd_count (graph_of p)) pieces
+
+-- what is told of so many lines in pieces, by what a report says of them
+abbrev pub summed : (number lines : ℕ) → List Piece → List PieceReport → Summary
+summed number lines pieces reports = record {
+  number = number;
+  lines = lines;
+  junctions = junction_sum pieces;
+  odd = odd_sum pieces;
+  pieces = length pieces;
+  cost = sum_by (λ r. r.cost) reports;
+  retraced = sum_by (λ r. r.retraced) reports;
+  penetrations = sum_by penetrations_of reports;
+  cuts = 2 * sum_by (λ r. r.retraced) reports;
+}

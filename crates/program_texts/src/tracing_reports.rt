@@ -1,0 +1,50 @@
+ghost use Rattle.std.specs.Prelude.{◌≡◌, ◌≤◌, IfOk, length, string_bytes};
+ghost use Rattle.line_sections.specs.Sections.{segments_of};
+ghost use Rattle.program_texts.specs.TracingReports.{segment_count, traced_line, tracing_report};
+
+use design_model::{Bytes, Memory, Point};
+use line_graph::Drawing;
+use std::alloc::Global;
+
+/// The report of a tracing: how many blocks and lines its drawing has, and how many links, each a segment
+/// of a line.
+pub fn print_tracing(alloc: Global, drawing: &Drawing) -> Result<Bytes, Memory>
+    ensures { IfOk result (λ text. text ≡ tracing_report drawing.now) }
+{
+    let line = tracing_line(
+        alloc,
+        drawing.block_count(),
+        drawing.line_count(),
+        segments(drawing),
+    )?;
+    let mut text = Bytes::new(alloc);
+    text.append(line.as_bytes())?;
+    Ok(text)
+}
+
+fn tracing_line(alloc: Global, blocks: u32, lines: u32, links: usize) -> Result<String, Memory>
+    ensures { IfOk result (λ text. string_bytes text ≡ traced_line blocks lines links) }
+{
+    let text = format!(in alloc; "blocks {blocks} lines {lines} links {links}\n")?;
+    Ok(text)
+}
+
+/// How many segments the lines of a drawing have.
+fn segments(drawing: &Drawing) -> usize
+    ensures { result ≡ segment_count drawing.now }
+{
+    // The clauses of `step` bring the drawing's limits.
+    let _step = drawing.step();
+    let mut count = 0;
+    for line in drawing.lines() {
+        count += segments_in(line.points());
+    }
+    count
+}
+
+fn segments_in(points: &[Point]) -> usize
+    ensures value { result ≡ length (segments_of points.now) }
+    ensures fewer { result ≤ length points.now }
+{
+    points.len().saturating_sub(1)
+}

@@ -1,0 +1,196 @@
+ghost use Rattle.std.specs.Prelude.{◌≡◌, ◌≢◌, ◌≤◌, IfOk};
+ghost use Rattle.command_words.specs.SoundRequests.{AreNames};
+ghost use Rattle.format_traits.specs.PlainDesigns.{IsPlain};
+ghost use Rattle.line_graph.specs.Runs.{AreWritable, runs_of, sewn_design};
+ghost use Rattle.route_core.specs.Routes.{walks_of};
+ghost use Rattle.stitch_cli.specs.DoubleRuns.{IsDoubleRun};
+ghost use Rattle.stitch_cli.specs.Endings.{Prepares, Settles};
+ghost use Rattle.stitch_cli.specs.OrderNames.{route_order};
+ghost use Rattle.stitch_cli.specs.Products.{product_of, two_outputs as sewn_outputs};
+ghost use Rattle.stitch_cli.specs.Routes.{IsRouted};
+ghost use Rattle.stitch_cli.specs.SewingSteps.{IsSewnBy};
+ghost use Rattle.stitch_cli.specs.Sewings.{SewnMakes, SewsIn, sewing_drawing, sewing_plan};
+
+use crate::drawing_inputs::drawing_in;
+use crate::halt::{Halt, Refusal};
+use crate::product::{Output, Product, two_outputs};
+use certificate_text::print_cert;
+use command_words::RouteNames;
+use design_model::{Bytes, Memory};
+use format_traits::{Format, WriteFault, encode_by, ext_of, limit_of};
+use line_graph::{Drawing, pieces, runs_are_sewn};
+use outside_io::Store;
+use program_texts::{bytes_of, print_double, print_route};
+use route_core::{Routed, double_pieces, route_pieces};
+use std::alloc::Global;
+
+/// By what walks the pieces of a drawing are sewn.
+#[derive(Clone, Copy, Debug, PartialEq, Eq)]
+pub(crate) enum Way {
+    /// By walks that none undercuts.
+    Least,
+    /// By double walks, whose certificate has no cuts.
+    Double,
+}
+
+/// The sewing of a drawing: its certificate, the design that sews it, and the report.
+pub(crate) fn sew<'a, S: Store>(
+    alloc: Global,
+    way: Way,
+    names: RouteNames<'a>,
+    format: &Box<dyn Format>,
+    store: &mut S,
+) -> Result<Product<'a>, Halt<'a>>
+    requires names { AreNames names }
+    requires apart { names.cert.now ≢ names.out.now }
+    ensures { Prepares (sewing_plan (IsSewnBy way) (route_order names.entry (meaning format.now)))
+        (S.sight store.old) (S.sight store.new) result }
+{
+    let drawing = drawing_in(alloc, store, names.drawing)?;
+    sew_drawn(alloc, way, names, format, &drawing)
+}
+
+fn sew_drawn<'a>(
+    alloc: Global,
+    way: Way,
+    names: RouteNames<'a>,
+    format: &Box<dyn Format>,
+    drawing: &Drawing,
+) -> Result<Product<'a>, Halt<'a>>
+    requires names { AreNames names }
+    requires apart { names.cert.now ≢ names.out.now }
+    ensures { Settles (sewing_drawing (IsSewnBy way) (route_order names.entry (meaning format.now))
+        drawing.now) result }
+{
+    let step = drawing.step();
+    let limit = limit_of(format);
+    if limit < step {
+        let ending = bytes_of(alloc, ext_of(format).as_bytes())?;
+        return Err(Halt::Refused(Refusal::StepTooLong {
+            name: names.drawing,
+            step,
+            limit,
+            ending,
+        }));
+    }
+    let product = sewn(alloc, way, names, format, drawing)?;
+    Ok(product)
+}
+
+/// What is made for a drawing whose step is within the limit of the format.
+fn sewn<'a>(
+    alloc: Global,
+    way: Way,
+    names: RouteNames<'a>,
+    format: &Box<dyn Format>,
+    drawing: &Drawing,
+) -> Result<Product<'a>, Memory>
+    requires { drawing.now.step ≤ (meaning format.now).limit }
+    ensures { IfOk result (λ product. SewnMakes (IsSewnBy way)
+        (route_order names.entry (meaning format.now)) drawing.now
+        (product_of product)) }
+{
+    match way {
+        Way::Least => routed(alloc, names, format, drawing),
+        Way::Double => doubled(alloc, names, format, drawing),
+    }
+}
+
+/// What is made for a drawing by walks that none undercuts.
+fn routed<'a>(
+    alloc: Global,
+    names: RouteNames<'a>,
+    format: &Box<dyn Format>,
+    drawing: &Drawing,
+) -> Result<Product<'a>, Memory>
+    requires { drawing.now.step ≤ (meaning format.now).limit }
+    ensures { IfOk result (λ product. SewnMakes IsRouted
+        (route_order names.entry (meaning format.now)) drawing.now
+        (product_of product)) }
+{
+    // The clauses of these calls bring the limits of the drawing and of the format.
+    let _step = drawing.step();
+    let _limit = limit_of(format);
+    let pieces = pieces(alloc, drawing)?;
+    let routed = route_pieces(alloc, drawing, pieces.as_slice())?;
+    let design = encoded(alloc, format, drawing, &routed)?;
+    let cert = print_cert(alloc, &routed.cert)?;
+    let report = print_route(alloc, pieces.as_slice(), routed.cert.pieces.as_slice())?;
+    let product = sewn_product(alloc, names, cert, design, report)?;
+    Ok(product)
+}
+
+/// What is made for a drawing by double walks.
+fn doubled<'a>(
+    alloc: Global,
+    names: RouteNames<'a>,
+    format: &Box<dyn Format>,
+    drawing: &Drawing,
+) -> Result<Product<'a>, Memory>
+    requires { drawing.now.step ≤ (meaning format.now).limit }
+    ensures { IfOk result (λ product. SewnMakes IsDoubleRun
+        (route_order names.entry (meaning format.now)) drawing.now
+        (product_of product)) }
+{
+    // The clauses of these calls bring the limits of the drawing and of the format.
+    let _step = drawing.step();
+    let _limit = limit_of(format);
+    let pieces = pieces(alloc, drawing)?;
+    let routed = double_pieces(alloc, drawing, pieces.as_slice())?;
+    let design = encoded(alloc, format, drawing, &routed)?;
+    let cert = print_cert(alloc, &routed.cert)?;
+    let report = print_double(alloc, pieces.as_slice(), routed.cert.pieces.as_slice())?;
+    let product = sewn_product(alloc, names, cert, design, report)?;
+    Ok(product)
+}
+
+/// The certificate, which is written first, the file of the design, and the report.
+fn sewn_product<'a>(
+    alloc: Global,
+    names: RouteNames<'a>,
+    cert: Bytes,
+    design: Bytes,
+    report: Bytes,
+) -> Result<Product<'a>, Memory>
+    ensures { IfOk result (λ product. product_of product ≡ sewn_outputs (record {
+      name = names.entry.cert.now;
+      content = cert;
+    })
+        (record { name = names.entry.out.now; content = design }) report) }
+{
+    let first = Output {
+        name: names.cert,
+        content: cert,
+    };
+    let second = Output {
+        name: names.out,
+        content: design,
+    };
+    let product = two_outputs(alloc, first, second, report)?;
+    Ok(product)
+}
+
+/// The file of a design that sews the walks of a certificate.
+fn encoded(
+    alloc: Global,
+    format: &Box<dyn Format>,
+    drawing: &Drawing,
+    routed: &Routed,
+) -> Result<Bytes, Memory>
+    requires plain { IsPlain (meaning format.now).limit routed.now.design }
+    requires sewn { routed.now.design ≡ sewn_design drawing.now (walks_of routed.now.cert.pieces) }
+    requires writable { AreWritable drawing.now.step
+        (runs_of drawing.now (walks_of routed.now.cert.pieces)) }
+    ensures { IfOk result (SewsIn (meaning format.now) drawing.now
+        (walks_of routed.now.cert.pieces)) }
+{
+    runs_are_sewn();
+    match encode_by(alloc, format, &routed.design) {
+        Ok(bytes) => Ok(bytes),
+        Err(WriteFault::Memory) => Err(Memory),
+        Err(WriteFault::StitchTooLong { number: _ }) => unreachable!(),
+        Err(WriteFault::FloatTooLong { number: _ }) => unreachable!(),
+        Err(WriteFault::TooManyStops { number: _ }) => unreachable!(),
+        Err(WriteFault::TooLong { number: _ }) => unreachable!(),
+    }
+}
