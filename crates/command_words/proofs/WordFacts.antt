@@ -1,9 +1,9 @@
 -- Worked values of what words spell and ask for.
-use Rattle.std.proofs.Common.{◌≡◌, pos, negsuc, true, false, [], ◌∷◌, Some, None, replicate, refl}
+use Rattle.std.proofs.Common.{◌≡◌, pos, negsuc, true, false, [], ◌∷◌, Some, None, map, replicate, refl}
 use Rattle.std.specs.Prelude.{codes}
 use Rattle.design_edits.specs.declared.axis.Axis.TheVariants.{X, Y}
 use Rattle.command_words.specs.Changes.{cut, mirror, shift, split, thread, turn}
-use Rattle.command_words.specs.Requests.{asked_of, check, convert, edit, hoop, route, sample, show}
+use Rattle.command_words.specs.Requests.{asked_of, check, convert, double, edit, hoop, migrate, route, sample, show, trace}
 use Rattle.command_words.specs.Words.{edit_spelled, edits_spelled, is_name, refits, refits_spelled, sample_of, side_of}
 
 -- a name has from 1 to 4,096 bytes
@@ -140,6 +140,12 @@ known_other_refit = refl
 pub known_refits : refits true true ≡ split ∷ cut ∷ []
 known_refits = refl
 
+pub known_splitting : refits true false ≡ split ∷ []
+known_splitting = refl
+
+pub known_cutting : refits false true ≡ cut ∷ []
+known_cutting = refl
+
 -- a side from 1 to 60,000, without a sign
 pub known_least_side : side_of (codes "1") ≡ Some 1
 known_least_side = refl
@@ -167,9 +173,6 @@ known_route_few = refl
 pub known_route_many : asked_of (codes "route" ∷ codes "a.rw" ∷ codes "b.dst" ∷ codes "c" ∷ codes "d" ∷ []) ≡ None
 known_route_many = refl
 
-pub known_route_unnamed : asked_of (codes "route" ∷ codes "a.rw" ∷ [] ∷ codes "c" ∷ []) ≡ None
-known_route_unnamed = refl
-
 -- `convert` has two names and refits
 pub known_convert : asked_of (codes "convert" ∷ codes "a.dst" ∷ codes "b.exp" ∷ [])
     ≡ Some (convert (codes "a.dst") (codes "b.exp") false false)
@@ -185,9 +188,6 @@ known_convert_few = refl
 pub known_convert_many : asked_of (codes "convert" ∷ codes "a.dst" ∷ codes "b.exp" ∷ codes "c.pes" ∷ []) ≡ None
 known_convert_many = refl
 
-pub known_convert_unnamed : asked_of (codes "convert" ∷ codes "a.dst" ∷ [] ∷ codes "--cut" ∷ []) ≡ None
-known_convert_unnamed = refl
-
 -- `show` has one name
 pub known_show : asked_of (codes "show" ∷ codes "a.dst" ∷ []) ≡ Some (show (codes "a.dst"))
 known_show = refl
@@ -197,9 +197,6 @@ known_show_few = refl
 
 pub known_show_many : asked_of (codes "show" ∷ codes "a.dst" ∷ codes "b.dst" ∷ []) ≡ None
 known_show_many = refl
-
-pub known_show_unnamed : asked_of (codes "show" ∷ [] ∷ []) ≡ None
-known_show_unnamed = refl
 
 -- `edit` has two names and one edit or more
 pub known_edit : asked_of (codes "edit" ∷ codes "a.dst" ∷ codes "b.exp" ∷ codes "turn=1" ∷ codes "thread=1,20" ∷ [])
@@ -212,9 +209,6 @@ known_edit_few = refl
 pub known_edit_many : asked_of (codes "edit" ∷ codes "a.dst" ∷ codes "b.exp" ∷ codes "turn=1" ∷ codes "c.pes" ∷ []) ≡ None
 known_edit_many = refl
 
-pub known_edit_unnamed : asked_of (codes "edit" ∷ [] ∷ codes "b.exp" ∷ codes "turn=1" ∷ []) ≡ None
-known_edit_unnamed = refl
-
 -- `hoop` has a name, a width and a height
 pub known_hoop : asked_of (codes "hoop" ∷ codes "a.dst" ∷ codes "1000" ∷ codes "900" ∷ [])
     ≡ Some (hoop (codes "a.dst") 1000 900)
@@ -225,9 +219,6 @@ known_hoop_few = refl
 
 pub known_hoop_many : asked_of (codes "hoop" ∷ codes "a.dst" ∷ codes "1000" ∷ codes "900" ∷ codes "800" ∷ []) ≡ None
 known_hoop_many = refl
-
-pub known_hoop_unnamed : asked_of (codes "hoop" ∷ [] ∷ codes "1000" ∷ codes "900" ∷ []) ≡ None
-known_hoop_unnamed = refl
 
 -- no word, and words that no command has
 pub known_no_word : asked_of [] ≡ None
@@ -268,3 +259,49 @@ known_sample_turned = refl
 
 pub known_short_sample : asked_of (codes "sample" ∷ codes "75" ∷ []) ≡ None
 known_short_sample = refl
+
+-- a migration and a tracing have two names, a double run has the three of a route
+pub known_migrate : asked_of (codes "migrate" ∷ codes "a" ∷ codes "b" ∷ []) ≡ Some (migrate (codes "a") (codes "b"))
+known_migrate = refl
+
+pub known_trace : asked_of (codes "trace" ∷ codes "a" ∷ codes "b" ∷ []) ≡ Some (trace (codes "a") (codes "b"))
+known_trace = refl
+
+pub known_double : asked_of (codes "double" ∷ codes "a" ∷ codes "b" ∷ codes "c" ∷ [])
+    ≡ Some (double (codes "a") (codes "b") (codes "c"))
+known_double = refl
+
+-- and no more and no fewer words
+pub known_other_counts : map asked_of (
+    (codes "migrate" ∷ codes "a" ∷ [])
+    ∷ (codes "migrate" ∷ codes "a" ∷ codes "b" ∷ codes "c" ∷ [])
+    ∷ (codes "trace" ∷ codes "a" ∷ [])
+    ∷ (codes "trace" ∷ codes "a" ∷ codes "b" ∷ codes "c" ∷ [])
+    ∷ (codes "double" ∷ codes "a" ∷ codes "b" ∷ [])
+    ∷ (codes "double" ∷ codes "a" ∷ codes "b" ∷ codes "c" ∷ codes "d" ∷ [])
+    ∷ (codes "sample" ∷ codes "7" ∷ codes "a" ∷ codes "b" ∷ []) ∷ []) ≡ replicate 7 None
+known_other_counts = refl
+
+-- a word without a byte names no file, wherever it stands
+pub known_unnamed : map asked_of (
+    (codes "route" ∷ [] ∷ codes "b" ∷ codes "c" ∷ [])
+    ∷ (codes "route" ∷ codes "a" ∷ [] ∷ codes "c" ∷ [])
+    ∷ (codes "route" ∷ codes "a" ∷ codes "b" ∷ [] ∷ [])
+    ∷ (codes "check" ∷ [] ∷ codes "b" ∷ codes "c" ∷ [])
+    ∷ (codes "check" ∷ codes "a" ∷ [] ∷ codes "c" ∷ [])
+    ∷ (codes "check" ∷ codes "a" ∷ codes "b" ∷ [] ∷ [])
+    ∷ (codes "double" ∷ [] ∷ codes "b" ∷ codes "c" ∷ [])
+    ∷ (codes "double" ∷ codes "a" ∷ [] ∷ codes "c" ∷ [])
+    ∷ (codes "double" ∷ codes "a" ∷ codes "b" ∷ [] ∷ [])
+    ∷ (codes "convert" ∷ [] ∷ codes "b" ∷ [])
+    ∷ (codes "convert" ∷ codes "a" ∷ [] ∷ [])
+    ∷ (codes "edit" ∷ [] ∷ codes "b" ∷ codes "turn=1" ∷ [])
+    ∷ (codes "edit" ∷ codes "a" ∷ [] ∷ codes "turn=1" ∷ [])
+    ∷ (codes "migrate" ∷ [] ∷ codes "b" ∷ [])
+    ∷ (codes "migrate" ∷ codes "a" ∷ [] ∷ [])
+    ∷ (codes "trace" ∷ [] ∷ codes "b" ∷ [])
+    ∷ (codes "trace" ∷ codes "a" ∷ [] ∷ [])
+    ∷ (codes "show" ∷ [] ∷ [])
+    ∷ (codes "hoop" ∷ [] ∷ codes "10" ∷ codes "9" ∷ [])
+    ∷ (codes "sample" ∷ codes "7" ∷ [] ∷ []) ∷ []) ≡ replicate 20 None
+known_unnamed = refl
