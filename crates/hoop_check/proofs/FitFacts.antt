@@ -31,6 +31,10 @@ known_turned = refl
 pub known_too_wide : fit_of_size 30 20 25 25 ≡ fit.No 5 0
 known_too_wide = refl
 
+-- turned, 30 by 20 is too wide for 10 by 40
+pub known_too_wide_turned : fit_of_size 30 20 10 40 ≡ fit.No 20 0
+known_too_wide_turned = refl
+
 -- without a needle it fits into nothing
 pub known_nothing : fit_of empty_design 0 0 ≡ fit.Upright
 known_nothing = refl
