@@ -5,10 +5,10 @@ use Rattle.design_model.specs.declared.command.Command.{Command}
 use Rattle.design_model.specs.declared.command.Command.TheVariants.{Stitch, Jump, Trim, Stop}
 use Rattle.design_model.specs.declared.point.Point.{Point}
 use Rattle.design_model.specs.Acts.{acts_along}
-use Rattle.design_picture.specs.Captions.{mm_text}
+use Rattle.design_picture.specs.Captions.{caption, mm_text}
 use Rattle.design_picture.specs.Colours.{colour_of}
 use Rattle.design_picture.specs.Pictures.{lines, unbegun}
-use Rattle.design_picture.specs.Sheets.{across, down, picture_of}
+use Rattle.design_picture.specs.Sheets.{across, down, frame_text, picture_of}
 
 abbrev pub point : ℤ → ℤ → Point
 point x y = record { x = x; y = y }
@@ -61,9 +61,32 @@ known_first_stop = refl
 pub known_nothing : lines unbegun (acts_along (Stop ∷ Trim ∷ [])) ≡ ended (codes "</g>" ∷ codes "</svg>" ∷ [])
 known_nothing = refl
 
--- the eighth block has the last colour, and the ninth the first one again
-pub known_colours : map colour_of (1 ∷ 7 ∷ 8 ∷ []) ≡ codes "#0057b7" ∷ codes "#6b4423" ∷ codes "#c8102e" ∷ []
+-- red, blue, green, orange, purple, teal, pink and brown, and red again for the ninth block
+pub known_colours : map colour_of (0 ∷ 1 ∷ 2 ∷ 3 ∷ 4 ∷ 5 ∷ 6 ∷ 7 ∷ 8 ∷ []) ≡ codes "#c8102e" ∷ codes "#0057b7"
+    ∷ codes "#00843d" ∷ codes "#e87722" ∷ codes "#7b2d8b" ∷ codes "#00a3ad" ∷ codes "#d6409f" ∷ codes "#6b4423" ∷ codes "#c8102e" ∷ []
 known_colours = refl
+
+-- a trim and a stop one after the other have a mark each, and the way to the next needle begins where they stand
+pub known_two_marks : lines unbegun (acts_along (Stitch (point (pos 3) (pos 4)) ∷ Trim ∷ Stop ∷ Stitch (point (pos 8) (pos 9)) ∷ []))
+    ≡ ended (codes "<polyline stroke='#c8102e' points='3,4'/>"
+    ∷ codes "<path class='trim' d='M3,4m-6,0a6,6,0,1,0,12,0a6,6,0,1,0,-12,0'/>"
+    ∷ codes "<path class='stop' d='M3,4m-9,-9h18v18h-18z'/>"
+    ∷ codes "<path class='travel' d='M3,4L8,9'/>"
+    ∷ codes "<polyline stroke='#0057b7' points='8,9'/>" ∷ codes "</g>" ∷ codes "</svg>" ∷ [])
+unfolding digits
+known_two_marks = refl
+
+-- the corners and counts differ, so that none stands for another
+pub known_caption : caption (record { commands = 9; needles = 4; trims = 2; stops = 3 })
+    (Some (record { min = point (negsuc 4) (pos 7); max = point (pos 25) (pos 48) }))
+    ≡ ended (codes "<text x='-5' y='48' dy='80'>needles 4</text>" ∷ codes "<text x='-5' y='48' dy='105'>trims 2</text>"
+    ∷ codes "<text x='-5' y='48' dy='130'>stops 3</text>" ∷ codes "<text x='-5' y='48' dy='155'>3.0 x 4.1 mm</text>" ∷ [])
+unfolding digits
+known_caption = refl
+
+pub known_frame : frame_text (point (negsuc 4) (pos 7)) 300 261 ≡ codes " viewBox='-5 7 300 261'>" ++ 10 ∷ []
+unfolding digits
+known_frame = refl
 
 -- a tenth of a millimetre, and a metre
 pub known_lengths : map mm_text (1 ∷ 10000 ∷ []) ≡ codes "0.1" ∷ codes "1000.0" ∷ []
