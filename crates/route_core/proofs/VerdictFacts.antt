@@ -1,5 +1,5 @@
 -- Worked values of verdicts.
-use Rattle.std.proofs.Common.{◌≡◌, ℕ, pos, true, false, List, [], ◌∷◌, ◌++◌, Some, None, map, refl}
+use Rattle.std.proofs.Common.{◌≡◌, ℕ, pos, true, false, List, [], ◌∷◌, ◌++◌, Option, Some, None, map, replicate, refl}
 use Rattle.cut_certificate.specs.declared.certificate.PieceCert.{PieceCert}
 use Rattle.cut_certificate.specs.declared.cut.Cut.{Cut}
 use Rattle.cut_certificate.specs.declared.faults.CutFault.TheVariants as cut_fault
@@ -34,8 +34,19 @@ known_point = refl
 pub known_float : first_difference 1 (act.Needle (at 3) true ∷ []) (needle 3 ∷ []) ≡ Some 1
 known_float = refl
 
-pub known_kind : first_difference 1 (needle 3 ∷ act.Stop ∷ []) (needle 3 ∷ act.Trim ∷ []) ≡ Some 2
-known_kind = refl
+pub known_sewn : first_difference 1 (needle 3 ∷ []) (act.Needle (at 3) true ∷ []) ≡ Some 1
+known_sewn = refl
+
+pub known_floats : first_difference 1 (act.Needle (at 3) true ∷ []) (act.Needle (at 3) true ∷ []) ≡ None
+known_floats = refl
+
+-- no two of the three kinds are the same
+abbrev alone : Act → Act → Option ℕ
+alone a b = first_difference 1 (a ∷ []) (b ∷ [])
+
+pub known_kinds : alone (needle 3) act.Trim ∷ alone (needle 3) act.Stop ∷ alone act.Trim (needle 3) ∷ alone act.Trim act.Stop
+    ∷ alone act.Stop (needle 3) ∷ alone act.Stop act.Trim ∷ [] ≡ replicate 6 (Some 1)
+known_kinds = refl
 
 -- the act behind the beginning of the longer list
 pub known_short : first_difference 1 (needle 3 ∷ []) (needle 3 ∷ act.Trim ∷ []) ≡ Some 2
