@@ -1,5 +1,5 @@
 -- Each line on the standard error, to the letter.
-use Rattle.std.proofs.Common.{◌≡◌, ◌++◌, refl}
+use Rattle.std.proofs.Common.{◌≡◌, [], ◌∷◌, ◌++◌, replicate, refl}
 use Rattle.std.specs.Fmt.{digits}
 use Rattle.std.specs.Prelude.{codes}
 use Rattle.program_texts.specs.TextLines.{line_end}
@@ -37,6 +37,14 @@ known_long_link = refl
 pub known_many_chains : trace_line (codes "a") (trace.Limit kind.TooManyLines)
     ≡ codes "stitch: a: more than 1024 lines" ++ line_end
 known_many_chains = refl
+
+-- want of memory is no refusal, and has its own line wherever it is told
+pub known_wants : read_line (codes "a") read.Memory ∷ write_line (codes "a") 121 write.Memory ∷ trace_line (codes "a") trace.Memory ∷ []
+    ≡ replicate 3 (codes "stitch: out of memory" ++ line_end)
+known_wants = refl
+
+pub known_want : draw_text kind.Memory ≡ codes "out of memory"
+known_want = refl
 
 -- each fault of a drawing
 pub known_bad_header : draw_text kind.BadHeader ≡ codes "not a redwork drawing"
