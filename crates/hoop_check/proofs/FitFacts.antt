@@ -31,6 +31,9 @@ known_turned = refl
 pub known_too_wide : fit_of_size 30 20 25 25 ≡ fit.No 5 0
 known_too_wide = refl
 
+pub known_too_high : fit_of_size 30 20 40 10 ≡ fit.No 0 10
+known_too_high = refl
+
 -- turned, 30 by 20 is too wide for 10 by 40
 pub known_too_wide_turned : fit_of_size 30 20 10 40 ≡ fit.No 20 0
 known_too_wide_turned = refl
