@@ -95,7 +95,8 @@ IsExact (refuses why) = Unit {0}
 IsExact (accepts Is) = Unit {0}
 IsExact (decides Is) = (product : ProductValue) (why : RefusalValue) → Is (Ok product) → Is (Err why) → ⊥
 
-sewing_exact : (Sewn : Meaning → DrawingValue → (bytes cert report : List ℕ) → Type 0) (order : RouteOrder) (read : Result DrawingValue DrawFault)
+sewing_exact : (Sewn : Meaning → DrawingValue → (bytes cert report : List ℕ) → Type 0)
+    (order : RouteOrder) (read : Result DrawingValue DrawFault)
     → IsExact (sewing_read Sewn order read)
 sewing_exact Sewn order (Ok d) = above (nat_lt order.format.limit d.step)
   where

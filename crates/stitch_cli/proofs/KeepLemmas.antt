@@ -39,7 +39,8 @@ use Rattle.stitch_cli.specs.Shows.{show_read}
 use Rattle.stitch_cli.proofs.DeliveryLemmas.{none_before}
 
 -- what an order makes stands in the files that it writes
-sewing_outputs : (Sewn : Meaning → DrawingValue → (bytes cert report : List ℕ) → Type 0) (order : RouteOrder) (files : Option Files) (product : ProductValue)
+sewing_outputs : (Sewn : Meaning → DrawingValue → (bytes cert report : List ℕ) → Type 0)
+    (order : RouteOrder) (files : Option Files) (product : ProductValue)
     (read : Result DrawingValue DrawFault) → Makes (sewing_read Sewn order read) files product
     → names_of product.outputs ≡ order.cert ∷ order.out ∷ []
 sewing_outputs Sewn order files product (Ok d) makes = above (nat_lt order.format.limit d.step) makes

@@ -11,6 +11,7 @@ mod RouteLemmas
 mod DoubleLemmas
 mod SampleLemmas
 mod OrderFacts
+mod PlanFacts
 mod HoopFacts
 mod RouteFacts
 mod TextFacts

@@ -90,7 +90,7 @@ pub record IsRefusedInput {V F : Type 0} (says : List ℕ → Result V F) (reaso
   pub input : IsInputAs says name store store' (Err fault)
   pub told : refusal_of why ≡ reason fault
 
--- the taking of an input: what its file says, or why there is nothing; a fault is a reason to refuse
+-- the taking of an input: what its file says, or why there is nothing; a fault is refused
 abbrev pub TakesInput : {V F : Type 0} → (List ℕ → Result V F) → (F → RefusalValue) → List ℕ
     → StoreSight → StoreSight → Result V Halt → Type 0
 TakesInput says reason name store store' (Ok value) = IsInputAs says name store store' (Ok value)

@@ -1,4 +1,4 @@
--- What the commands that sew a drawing come to, `route` and `double`, whatever walks they sew it by.
+-- What the commands that sew a drawing, `route` and `double`, come to, by whatever walks.
 -- Costs count steps.
 use Rattle.std.specs.Prelude.{◌≡◌, ℕ, ◌+◌, nat_lt, Bool, true, false, List, [], ◌∷◌, Result, Ok, Err, IsOkAnd}
 use Rattle.cut_certificate.specs.declared.certificate.PieceCert.{PieceCert}

@@ -1,0 +1,46 @@
+-- Worked values of plans: the file that each step comes to, and a step of a drawing at the limit and above it.
+use Rattle.std.proofs.Common.{◌≡◌, ℕ, inl, List, [], ◌∷◌, None, Ok, codes, refl}
+use Rattle.format_traits.specs.declared.loaded.Loaded.{Loaded}
+use Rattle.format_traits.specs.Meanings.{Meaning}
+use Rattle.line_graph.specs.Drawings.{DrawingValue}
+use Rattle.stitch_cli.specs.Checks.{check_design, check_drawing, check_plan}
+use Rattle.stitch_cli.specs.OrderNames.{CheckOrder, RouteOrder}
+use Rattle.stitch_cli.specs.Plans.{ComesTo, IsAccepted, Refuses}
+use Rattle.stitch_cli.specs.Refusals.{step_too_long}
+use Rattle.stitch_cli.specs.Routes.{IsRouted}
+use Rattle.stitch_cli.specs.Sewings.{sewing_drawing}
+
+-- a check of three files
+abbrev checked : Meaning → CheckOrder
+checked format = record { drawing = codes "a"; file = codes "b"; cert = codes "c"; format = format }
+
+-- the drawing is read first, then the design, then the certificate
+pub known_drawing_first : (m : Meaning) → ComesTo (check_plan (checked m)) None (codes "a")
+known_drawing_first m = inl refl
+
+pub known_design_next : (m : Meaning) (d : DrawingValue) → ComesTo (check_drawing (checked m) (Ok d)) None (codes "b")
+known_design_next m d = inl refl
+
+pub known_certificate_last : (m : Meaning) (d : DrawingValue) (loaded : Loaded)
+    → ComesTo (check_design (checked m) d (Ok loaded)) None (codes "c")
+known_certificate_last m d loaded = inl refl
+
+-- a route to a format whose limit is 121
+abbrev routed : Meaning → RouteOrder
+routed format = record {
+  drawing = codes "a";
+  out = codes "b";
+  cert = codes "c";
+  format = record format { ending = codes "dst"; limit = 121 };
+}
+
+-- a drawing without lines, of that longest stitch
+abbrev stepping : ℕ → DrawingValue
+stepping step = record { label = []; step = step; threads = []; lines = []; starts = []; ends = [] }
+
+pub known_at_limit : (m : Meaning) → IsAccepted (sewing_drawing IsRouted (routed m) (stepping 121)) None
+known_at_limit m = tt
+
+pub known_above_limit : (m : Meaning)
+    → Refuses (sewing_drawing IsRouted (routed m) (stepping 122)) None (step_too_long (codes "a") 122 121 (codes "dst"))
+known_above_limit m = refl
