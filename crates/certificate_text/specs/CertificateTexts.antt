@@ -1,15 +1,12 @@
 -- The certificate of a route: for each piece its retraced cost, its walk and its cuts. Own
 -- text: every line ends with the byte 10, words are separated by one space, and numbers are
 -- decimal without leading zeros.
-use Rattle.std.specs.Prelude.{ℕ, ◌+◌, List, [], ◌∷◌, ◌++◌, codes, decimal, if◌then◌else◌}
+use Rattle.std.specs.Prelude.{ℕ, ◌+◌, List, ◌++◌, codes, decimal, if◌then◌else◌}
 use Rattle.std.specs.List.{flat_map}
 use Rattle.cut_certificate.specs.declared.certificate.PieceCert.{PieceCert}
 use Rattle.cut_certificate.specs.declared.cut.Cut.{Cut}
+use Rattle.cut_certificate.specs.TextLines.{line_end}
 use Rattle.line_graph.specs.declared.pass.Pass.{Pass}
-
--- the end of a line of text
-abbrev pub line_end : List ℕ
-line_end = 10 ∷ []
 
 -- a pass: its line by number from 1, with a minus where it goes backwards
 abbrev pub pass_text : Pass → List ℕ

@@ -30,4 +30,5 @@ pub use fault_laws::{cut_faults_are_exact, walk_faults_are_exact};
 pub use faults::{CutFault, WalkFault};
 pub use laws::{packings_bound_walks, packings_keep_their_total, packings_prove_least};
 pub use lifting::lift;
+pub use slices::first_lent;
 pub use walk_check::check_walk;

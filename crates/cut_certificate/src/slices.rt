@@ -1,7 +1,7 @@
 ghost use Rattle.std.specs.Prelude.{◌≡◌, ◌∷◌, IfNone, IfSome, []};
 
 /// The first item of a slice, and those behind it.
-pub(crate) fn first_lent<T>(items: &[T]) -> Option<(&T, &[T])>
+pub fn first_lent<T>(items: &[T]) -> Option<(&T, &[T])>
     ensures some { IfSome result (λ r. items.now ≡ r.0.now ∷ r.1.now) }
     ensures none { IfNone result (items.now ≡ []) }
 {

@@ -1,5 +1,5 @@
--- What is told of the pieces of a sample drawing, summed. Costs count steps, weights of cuts halves of a
--- step.
+-- What is told of the pieces of a sample drawing, summed. Costs count steps, weights of cuts
+-- halves of a step.
 use Rattle.std.specs.Prelude.{ℕ, ◌*◌, List, length, sum_by}
 use Rattle.line_graph.specs.declared.piece.Piece.{Piece}
 use Rattle.line_graph.specs.CutPieces.{graph_of}

@@ -1,10 +1,10 @@
-ghost use Rattle.std.specs.Prelude.{◌≡◌, ◌<◌, ◌≤◌, ◌+◌, ◌∷◌, ◌^◌, [], All, IfNone, IfOk, IfSome, length, string_bytes, sum_by};
+ghost use Rattle.std.specs.Prelude.{◌≡◌, ◌<◌, ◌≤◌, ◌^◌, All, IfOk, length, string_bytes, sum_by};
 ghost use Rattle.line_graph.specs.declared.limits.TheConstants.{MAX_BLOCKS, MAX_LINES};
 ghost use Rattle.line_graph.specs.CutPieces.{graph_of};
 ghost use Rattle.program_texts.specs.PieceReports.{reports_from, piece_report};
 ghost use Rattle.program_texts.specs.Reports.{cost_text, penetrations_of, piece_place as piece_place_text, migrate_report, route_report, totals_line as totals_text};
 
-use cut_certificate::PieceCert;
+use cut_certificate::{PieceCert, first_lent};
 use design_model::{Bytes, Items, Memory};
 use line_graph::Piece;
 use std::alloc::Global;
@@ -55,17 +55,6 @@ pub(crate) fn reports_of(
         left = after;
     }
     Ok(reports)
-}
-
-/// The first item of a slice, and those behind it.
-fn first_lent<T>(items: &[T]) -> Option<(&T, &[T])>
-    ensures some { IfSome result (λ r. items.now ≡ r.0.now ∷ r.1.now) }
-    ensures none { IfNone result (items.now ≡ []) }
-{
-    match items {
-        [first, after @ ..] => Some((first, after)),
-        [] => None,
-    }
 }
 
 /// What the report says of a piece with that number.

@@ -9,9 +9,9 @@ ghost use Rattle.route_core.specs.Routes.{walks_of};
 ghost use Rattle.route_core.specs.SewingSteps.{AllDrawn};
 
 use crate::sewing::block_of_walk;
-use crate::slices::{first_lent, first_of};
+use crate::slices::first_of;
 use crate::walk_needles::walk_needles;
-use cut_certificate::PieceCert;
+use cut_certificate::{PieceCert, first_lent};
 use design_model::{Act, Memory, NumberedAct, Point};
 use line_graph::Drawing;
 use std::alloc::Global;

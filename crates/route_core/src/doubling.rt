@@ -4,8 +4,7 @@ ghost use Rattle.route_core.specs.Doubles.{AreDoubled, IsDoubleOver, RunsDouble}
 
 use crate::routed::Routed;
 use crate::sewing::sew;
-use crate::slices::first_lent;
-use cut_certificate::{Cert, Cuts, PieceCert, PieceCerts};
+use cut_certificate::{Cert, Cuts, PieceCert, PieceCerts, first_lent};
 use design_model::Memory;
 use double_run::double;
 use line_graph::{Drawing, Piece, fitting_walks_are_sewable, pieces_keep_limits};

@@ -4,9 +4,8 @@ ghost use Rattle.line_graph.specs.PieceWalks.{piece_cost};
 ghost use Rattle.route_core.specs.Verdicts.{IsShort, count_reason, piece_reason, pieces_reason};
 ghost use Rattle.line_graph.specs.declared.limits.TheConstants.{MAX_COST, MAX_LINES};
 
-use crate::slices::first_lent;
 use crate::verdict::Reason;
-use cut_certificate::{PieceCert, check_cuts, check_walk};
+use cut_certificate::{PieceCert, check_cuts, check_walk, first_lent};
 use line_graph::Piece;
 
 /// Another number of pieces than is drawn.

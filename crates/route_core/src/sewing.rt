@@ -9,9 +9,9 @@ ghost use Rattle.route_core.specs.Routes.{walks_of};
 ghost use Rattle.route_core.specs.SewingSteps.{AllDrawn, AreDrawn, run_commands, with_commands};
 ghost use Rattle.line_graph.specs.Chains.{IsNeedlePoint};
 
-use crate::slices::{first_lent, first_of};
+use crate::slices::first_of;
 use crate::walk_needles::walk_needles;
-use cut_certificate::{Cert, PieceCert};
+use cut_certificate::{Cert, PieceCert, first_lent};
 use design_model::{Command, Design, Memory, ModelFault, Point};
 use line_graph::{Drawing, Pass, needles_lead_along};
 use std::alloc::Global;

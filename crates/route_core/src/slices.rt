@@ -10,14 +10,3 @@ pub(crate) fn first_of<T: Copy>(items: &[T]) -> Option<(T, &[T])>
         [] => None,
     }
 }
-
-/// The same, where the item is lent.
-pub(crate) fn first_lent<T>(items: &[T]) -> Option<(&T, &[T])>
-    ensures some { IfSome result (λ r. items.now ≡ r.0.now ∷ r.1.now) }
-    ensures none { IfNone result (items.now ≡ []) }
-{
-    match items {
-        [first, after @ ..] => Some((first, after)),
-        [] => None,
-    }
-}

@@ -1,0 +1,6 @@
+-- Lines of text, of certificates and of what is told of them.
+use Rattle.std.specs.Prelude.{ℕ, List, [], ◌∷◌}
+
+-- the end of a line
+abbrev pub line_end : List ℕ
+line_end = 10 ∷ []
