@@ -38,7 +38,7 @@ load_case (suc n) a b s kept e apart = load_along a b s kept (omega (arith, e, a
 load_either : (a b : ℕ) (s : NestValue) → Kept s → both a b s ≡ 0 → load a b (bands s) ≡ height a (bands s) + height b (bands s)
 load_either a b s kept apart = load_case (count a s.members) a b s kept refl apart
 
-load_branches : (d : ℕ → ℕ → ℕ) (h : ℕ → ℕ) (a b : ℕ) (tree : List Branch) → Each (IsFirm d h) tree → count a (inner_members tree) ≡ 0
+load_branches : (d : TableValue) (h : ℕ → ℕ) (a b : ℕ) (tree : List Branch) → Each (IsFirm d h) tree → count a (inner_members tree) ≡ 0
     → around a b tree ≡ 0 →
     load a b (branch_bands tree) ≡ height a (branch_bands tree) + height b (branch_bands tree)
 load_branches d h a b [] f none apart = refl
@@ -57,7 +57,7 @@ load_branches d h a b (c ∷ cs) f none apart =
       height-append b (bands c.outer) (branch_bands cs),
     )
 
-load_couples : (d : ℕ → ℕ → ℕ) (h : ℕ → ℕ) (a b : ℕ) (cs : List Couple) → Each (IsFirmCouple d h) cs → count a (couple_members cs) ≡ 0 →
+load_couples : (d : TableValue) (h : ℕ → ℕ) (a b : ℕ) (cs : List Couple) → Each (IsFirmCouple d h) cs → count a (couple_members cs) ≡ 0 →
     load a b (couple_bands cs) ≡ height a (couple_bands cs) + height b (couple_bands cs)
 load_couples d h a b [] f none = refl
 load_couples d h a b (c ∷ cs) f none =
@@ -84,8 +84,8 @@ loads_apart t h s a b i ha apart =
     omega (
       arith,
       load_either a b s.root i.root.kept (omega (arith, apart)),
-      load_branches (entry t) h a b s.tree.items i.tree (omega (arith, i.places a, one, ha)) (omega (arith, apart)),
-      load_couples (entry t) h a b s.rest.items i.rest (omega (arith, i.places a, one, ha)),
+      load_branches t h a b s.tree.items i.tree (omega (arith, i.places a, one, ha)) (omega (arith, apart)),
+      load_couples t h a b s.rest.items i.rest (omega (arith, i.places a, one, ha)),
     )
 
 -- a place that is not free
@@ -151,8 +151,8 @@ free_limit zero t h s x is i e none =
       arith,
       i.tall x none,
       low x s.root i.root.kept (omega (arith, base_in x s.root.members s.tree.items, e)),
-      low_branches (entry t) h x s.root.members s.tree.items i.tree (omega (arith, e)) (omega (arith, e)),
-      low_couples (entry t) h x s.rest.items i.rest (omega (arith, e)),
+      low_branches t h x s.root.members s.tree.items i.tree (omega (arith, e)) (omega (arith, e)),
+      low_couples t h x s.rest.items i.rest (omega (arith, e)),
     )
 free_limit (suc m) t h s x is i e some =
     let r = some_member s.root.members (omega (arith, i.root.kept.odd)) in
@@ -266,7 +266,7 @@ due_case kind.Shrink t h s hs reach from to by i at here apart exact there is = 
     exact,
     is,
     outer_room t h s from to i here there apart,
-    two_even (entry t) h s.root s.tree.items i.grown i.root i.tree from to (omega (arith, here)) (omega (arith, there)),
+    two_even t h s.root s.tree.items i.grown i.root i.tree from to (omega (arith, here)) (omega (arith, there)),
   ),
 )
 

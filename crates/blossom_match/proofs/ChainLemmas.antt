@@ -1,6 +1,7 @@
 -- The chain of the sets between the two ends of a link.
 use Rattle.std.proofs.Common.{◌≡◌, ℕ, ◌+◌, ◌≤◌, ◌⊎◌, inl, inr, List, [], ◌∷◌, ◌++◌, length, reverse, arith, refl, sym, ap, subst, ◌∙◌, length-append}
 use Rattle.std.proofs.lemmas.List.{reverse-append}
+use Rattle.blossom_match.specs.TableValue.{TableValue}
 use Rattle.blossom_match.specs.Lists.{Each}
 use Rattle.blossom_match.specs.Bands.{Adds, Band, NestValue, Kept, bands, count}
 use Rattle.blossom_match.specs.Rings.{back_of, members_in, bands_in}
@@ -51,7 +52,7 @@ pub around_push : (a b : ℕ) (bs : List Branch) (c : Branch) → around a b (bs
 around_push a b [] c = omega arith
 around_push a b (k ∷ bs) c = omega (arith, around_push a b bs c)
 
-pub tight_back : (d : ℕ → ℕ → ℕ) (h : ℕ → ℕ) (l : Link) → IsSymmetric d → IsTight d h l → IsTight d h (back_of l)
+pub tight_back : (d : TableValue) (h : ℕ → ℕ) (l : Link) → IsSymmetric d → IsTight d h l → IsTight d h (back_of l)
 tight_back d h l sy t = omega (arith, sy l.from l.to, t)
 
 -- the chain with an inner and an outer set before it

@@ -1,5 +1,6 @@
 -- Chains that close into rings, and the sets that they make.
 use Rattle.std.proofs.Common.{◌≡◌, ℕ, ◌+◌, ◌%◌, ◌≤◌, zero, suc, List, [], ◌∷◌, ◌++◌, arith, refl, sym, subst}
+use Rattle.blossom_match.specs.TableValue.{TableValue}
 use Rattle.blossom_match.specs.Lists.{Each}
 use Rattle.blossom_match.specs.Bands.{bands, count, height, IsPaid}
 use Rattle.blossom_match.specs.Rings.{members_in, bands_in, tolls_in, Linked, ring_tolls, tolls_along, IsLinkedRing, IsRing, AllKept, nest_of}
@@ -39,23 +40,23 @@ abbrev pub AllLocal : (ℕ → ℕ) → List Part → Type 0
 AllLocal h ps = Each (IsLocal h) ps
 
 -- the links of a chain, but for the last part's
-abbrev pub ChainTight : (ℕ → ℕ → ℕ) → (ℕ → ℕ) → Part → List Part → Type 0
+abbrev pub ChainTight : TableValue → (ℕ → ℕ) → Part → List Part → Type 0
 ChainTight d h p [] = Unit {0}
 ChainTight d h p (q ∷ qs) = IsTight d h p.next × ChainTight d h q qs
 
-pub tight_is_paid : (d : ℕ → ℕ → ℕ) (h : ℕ → ℕ) (p : Part) (qs : List Part) → Linked p qs → IsLocal h p → AllLocal h qs
+pub tight_is_paid : (d : TableValue) (h : ℕ → ℕ) (p : Part) (qs : List Part) → Linked p qs → IsLocal h p → AllLocal h qs
     → ChainTight d h p qs → IsPaid d (tolls_along p qs)
 tight_is_paid d h p [] l a b t = tt
 tight_is_paid d h p (q ∷ qs) l a b t =
     (omega (arith, t.0, a p.next.from (omega (arith, l.0.0)), b.0 p.next.to (omega (arith, l.0.1))), tight_is_paid d h q qs l.1 b.0 b.1 t.1)
 
-pub paid_is_tight : (d : ℕ → ℕ → ℕ) (h : ℕ → ℕ) (p : Part) (qs : List Part) → Linked p qs → IsLocal h p → AllLocal h qs
+pub paid_is_tight : (d : TableValue) (h : ℕ → ℕ) (p : Part) (qs : List Part) → Linked p qs → IsLocal h p → AllLocal h qs
     → IsPaid d (tolls_along p qs) → ChainTight d h p qs
 paid_is_tight d h p [] l a b t = tt
 paid_is_tight d h p (q ∷ qs) l a b t =
     (omega (arith, t.0, a p.next.from (omega (arith, l.0.0)), b.0 p.next.to (omega (arith, l.0.1))), paid_is_tight d h q qs l.1 b.0 b.1 t.1)
 
-chain_on : (d : ℕ → ℕ → ℕ) (h : ℕ → ℕ) (p top : Part) (qs : List Part) → Each (λ (k : Part). IsTight d h k.next) (p ∷ qs)
+chain_on : (d : TableValue) (h : ℕ → ℕ) (p top : Part) (qs : List Part) → Each (λ (k : Part). IsTight d h k.next) (p ∷ qs)
     → ChainTight d h p (qs ++ top ∷ [])
 chain_on d h p top [] t = (t.0, tt)
 chain_on d h p top (q ∷ qs) t = (t.0, chain_on d h q top qs t.1)
@@ -65,16 +66,16 @@ AllLocal_on h [] p a b = (b, tt)
 AllLocal_on h (q ∷ qs) p a b = (a.0, AllLocal_on h qs p a.1 b)
 
 -- the tolls of a new ring are paid where all its links are tight
-pub ring_is_paid : (d : ℕ → ℕ → ℕ) (h : ℕ → ℕ) (p : Part) (ps : List Part) → IsLinkedRing (p ∷ ps) → AllLocal h (p ∷ ps)
+pub ring_is_paid : (d : TableValue) (h : ℕ → ℕ) (p : Part) (ps : List Part) → IsLinkedRing (p ∷ ps) → AllLocal h (p ∷ ps)
     → Each (λ (k : Part). IsTight d h k.next) (p ∷ ps) → IsPaid d (ring_tolls (p ∷ ps))
 ring_is_paid d h p ps l a t = tight_is_paid d h p (ps ++ p ∷ []) l a.0 (AllLocal_on h ps p a.1 a.0) (chain_on d h p p ps t)
 
-paid_inside : (d : ℕ → ℕ → ℕ) (h : ℕ → ℕ) (ps : List Part) → Each (IsFirmPart d h) ps → IsPaid d (tolls_in ps)
+paid_inside : (d : TableValue) (h : ℕ → ℕ) (ps : List Part) → Each (IsFirmPart d h) ps → IsPaid d (tolls_in ps)
 paid_inside d h [] f = tt
 paid_inside d h (p ∷ ps) f = IsPaid-append d p.nest.tolls (tolls_in ps) f.0.nest.paid (paid_inside d h ps f.1)
 
 -- a member of the first part is in no other; a member of another is not in it
-local_case : (n : ℕ) (d : ℕ → ℕ → ℕ) (h : ℕ → ℕ) (x : ℕ) (p : Part) (ps : List Part) → count x p.nest.members ≡ n → AllKept (p ∷ ps)
+local_case : (n : ℕ) (d : TableValue) (h : ℕ → ℕ) (x : ℕ) (p : Part) (ps : List Part) → count x p.nest.members ≡ n → AllKept (p ∷ ps)
     → IsSound d h p.nest →
     count x (members_in (p ∷ ps)) ≤ 1 → (count x p.nest.members ≡ 0 → height x (bands_in ps) ≡ h x) → height x (bands_in (p ∷ ps)) ≡ h x
 local_case zero d h x p ps e kept s once rest =
@@ -84,7 +85,7 @@ local_case (suc n) d h x p ps e kept s once rest =
     omega (arith, height-append x (bands p.nest) (bands_in ps), s.local x (omega (arith, e)), none)
 
 -- a member of one of the parts has the height there that it has over all sets
-local_in : (d : ℕ → ℕ → ℕ) (h : ℕ → ℕ) (x : ℕ) (ps : List Part) → AllKept ps → Each (IsFirmPart d h) ps → count x (members_in ps) ≤ 1
+local_in : (d : TableValue) (h : ℕ → ℕ) (x : ℕ) (ps : List Part) → AllKept ps → Each (IsFirmPart d h) ps → count x (members_in ps) ≤ 1
     → 1 ≤ count x (members_in ps) → height x (bands_in ps) ≡ h x
 local_in d h x [] kept f once some = absurd (omega arith)
 local_in d h x (p ∷ ps) kept f once some =
@@ -93,7 +94,7 @@ local_in d h x (p ∷ ps) kept f once some =
     (λ none. local_in d h x ps kept.1 f.1 (omega (arith, c)) (omega (arith, c, none)))
 
 -- the set that a ring of firm parts makes is sound
-pub ring_sound : (d : ℕ → ℕ → ℕ) (h : ℕ → ℕ) (p : Part) (ps : List Part) → IsRing (p ∷ ps) → ((x : ℕ) → count x (members_in (p ∷ ps)) ≤ 1)
+pub ring_sound : (d : TableValue) (h : ℕ → ℕ) (p : Part) (ps : List Part) → IsRing (p ∷ ps) → ((x : ℕ) → count x (members_in (p ∷ ps)) ≤ 1)
     → Each (IsFirmPart d h) (p ∷ ps) →
     ((x y : ℕ) → 1 ≤ count x (members_in (p ∷ ps)) → 1 ≤ count y (members_in (p ∷ ps)) → (h x + h y) % 2 ≡ 0)
     → IsSound d h (nest_of (members_in (p ∷ ps)) 0 (p ∷ ps))
@@ -116,7 +117,7 @@ even_case zero k m o one two some = two (omega arith)
 even_case (suc n) k m o one two some = one (omega arith)
 
 -- all members of the tree's sets have heights that are even or odd as that of r is
-pub tree_even : (d : ℕ → ℕ → ℕ) (h : ℕ → ℕ) (r : ℕ) (base : List ℕ) (tree : List Branch) → IsGrown base tree → Each (IsFirm d h) tree →
+pub tree_even : (d : TableValue) (h : ℕ → ℕ) (r : ℕ) (base : List ℕ) (tree : List Branch) → IsGrown base tree → Each (IsFirm d h) tree →
     ((x : ℕ) → 1 ≤ count x base → (h r + h x) % 2 ≡ 0) → (x : ℕ) → 1 ≤ count x (outer_members base tree) + count x (inner_members tree)
     → (h r + h x) % 2 ≡ 0
 tree_even d h r base [] g f even x some = even x (omega (arith, some))

@@ -99,7 +99,7 @@ goes t s wide c (Done r) m can bounds w l =
     )
 
 -- each couple's links are paid
-settled : (d : ℕ → ℕ → ℕ) (h : ℕ → ℕ) (cs : List Couple) → Each IsJoined cs → Each (IsFirmCouple d h) cs → Each (IsSettled d) cs
+settled : (d : TableValue) (h : ℕ → ℕ) (cs : List Couple) → Each IsJoined cs → Each (IsFirmCouple d h) cs → Each (IsSettled d) cs
 settled d h [] j f = tt
 settled d h (c ∷ cs) j f = (
   record {
@@ -176,7 +176,7 @@ matched t cs pairs moats s k =
           (λ x some. place_in t x (omega (arith, places x, some))) lie.each;
       laminar = pairs_all AreLaminar moats lie.apart;
       loads = λ a b la lb. omega (arith, k.loads a b, load_case (eqb a b) t (λ x. get_or s.heights x 0) cs a b refl st la lb);
-      paid = omega (arith, k.widths, k.paid t (settled (entry t) (λ x. get_or s.heights x 0) cs st.joined st.firm));
+      paid = omega (arith, k.widths, k.paid t (settled t (λ x. get_or s.heights x 0) cs st.joined st.firm));
     }
 
 pub once_each : (t : TableValue) (cs : List Couple) → IsMatched t cs → (x : ℕ) → count x (couple_members cs) ≤ 1

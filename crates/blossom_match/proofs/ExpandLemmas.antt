@@ -1,6 +1,7 @@
 -- An inner set that comes apart, between the branches before and after it.
 use Rattle.std.proofs.Common.{◌≡◌, ℕ, ◌+◌, ◌%◌, ◌≤◌, ◌<◌, suc, zero, List, [], ◌∷◌, ◌++◌, length, take, drop, arith, refl, sym, ap, subst, ◌∙◌, append_assoc, length-append}
 use Rattle.std.proofs.lemmas.List.{length-take, take-append-drop}
+use Rattle.blossom_match.specs.TableValue.{TableValue}
 use Rattle.blossom_match.specs.Lists.{Each}
 use Rattle.blossom_match.specs.Bands.{Adds, Band, NestValue, bands, count, height, IsPaid}
 use Rattle.blossom_match.specs.Rings.{members_in, bands_in, tolls_in, nest_of, ring_tolls, AllKept, FirstHolds, IsRing}
@@ -41,12 +42,12 @@ AllLocal_on : (h : ℕ → ℕ) (qs : List Part) (p : Part) → AllLocal h qs �
 AllLocal_on h [] p a b = (b, tt)
 AllLocal_on h (q ∷ qs) p a b = (a.0, AllLocal_on h qs p a.1 b)
 
-links_tight : (d : ℕ → ℕ → ℕ) (h : ℕ → ℕ) (p e : Part) (qs : List Part) → ChainTight d h p (qs ++ e ∷ [])
+links_tight : (d : TableValue) (h : ℕ → ℕ) (p e : Part) (qs : List Part) → ChainTight d h p (qs ++ e ∷ [])
     → Each (λ (k : Part). IsTight d h k.next) (p ∷ qs)
 links_tight d h p e [] t = (t.0, tt)
 links_tight d h p e (q ∷ qs) t = (t.0, links_tight d h q e qs t.1)
 
-firm_each : (d : ℕ → ℕ → ℕ) (h : ℕ → ℕ) (ps : List Part) → AllKept ps → AllLocal h ps → Each (λ (k : Part). IsTight d h k.next) ps
+firm_each : (d : TableValue) (h : ℕ → ℕ) (ps : List Part) → AllKept ps → AllLocal h ps → Each (λ (k : Part). IsTight d h k.next) ps
     → IsPaid d (tolls_in ps) →
     ((x y : ℕ) → 1 ≤ count x (members_in ps) → 1 ≤ count y (members_in ps) → (h x + h y) % 2 ≡ 0) → Each (IsFirmPart d h) ps
 firm_each d h [] kept at t paid even = tt
@@ -66,7 +67,7 @@ firm_each d h (p ∷ ps) kept at t paid even =
     )
 
 -- the parts of a sound ring without a width are firm
-parts_firm : (d : ℕ → ℕ → ℕ) (h : ℕ → ℕ) (ps : List Part) → IsRing ps → ((x : ℕ) → count x (members_in ps) ≤ 1)
+parts_firm : (d : TableValue) (h : ℕ → ℕ) (ps : List Part) → IsRing ps → ((x : ℕ) → count x (members_in ps) ≤ 1)
     → IsSound d h (nest_of (members_in ps) 0 ps) → Each (IsFirmPart d h) ps
 parts_firm d h [] ring once s = tt
 parts_firm d h (p ∷ ps) ring once s =

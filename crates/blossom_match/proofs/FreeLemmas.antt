@@ -35,7 +35,7 @@ load_of-comm s a b = omega (
       (couple_bands s.rest.items),
 )
 
-none_branches : (d : ℕ → ℕ → ℕ) (h : ℕ → ℕ) (x : ℕ) (base : List ℕ) (tree : List Branch) → Each (IsFirm d h) tree
+none_branches : (d : TableValue) (h : ℕ → ℕ) (x : ℕ) (base : List ℕ) (tree : List Branch) → Each (IsFirm d h) tree
     → count x (outer_members base tree) ≡ 0 → count x (inner_members tree) ≡ 0 → NoneHold x (branch_bands tree)
 none_branches d h x base [] f none empty = tt
 none_branches d h x base (b ∷ bs) f none empty =
@@ -45,7 +45,7 @@ none_branches d h x base (b ∷ bs) f none empty =
     (NoneHold-append x (bands b.outer) (branch_bands bs) (none_hold x b.outer f.0.outer.kept (omega (arith, o, none)))
     (none_branches d h x base bs f.1 (omega (arith, o, none)) (omega (arith, i, empty))))
 
-none_couples : (d : ℕ → ℕ → ℕ) (h : ℕ → ℕ) (x : ℕ) (cs : List Couple) → Each (IsFirmCouple d h) cs → count x (couple_members cs) ≡ 0
+none_couples : (d : TableValue) (h : ℕ → ℕ) (x : ℕ) (cs : List Couple) → Each (IsFirmCouple d h) cs → count x (couple_members cs) ≡ 0
     → NoneHold x (couple_bands cs)
 none_couples d h x [] f none = tt
 none_couples d h x (c ∷ cs) f none =
@@ -63,9 +63,9 @@ load_free t h s x f i hf =
     omega (
       arith,
       load_alone x f (bands s.root) (none_hold f s.root i.root.kept (omega (arith, base_in f s.root.members s.tree.items, o))),
-      load_alone x f (branch_bands s.tree.items) (none_branches (entry t) h f s.root.members s.tree.items i.tree o
+      load_alone x f (branch_bands s.tree.items) (none_branches t h f s.root.members s.tree.items i.tree o
           (omega (arith, i.places f, one, hf))),
-      load_alone x f (couple_bands s.rest.items) (none_couples (entry t) h f s.rest.items i.rest (omega (arith, i.places f, one, hf))),
+      load_alone x f (couple_bands s.rest.items) (none_couples t h f s.rest.items i.rest (omega (arith, i.places f, one, hf))),
     )
 
 -- a free place is in no set
@@ -75,9 +75,9 @@ low_free t h s x i some =
     omega (
       arith,
       low x s.root i.root.kept (omega (arith, i.places x, one, base_in x s.root.members s.tree.items, some)),
-      low_branches (entry t) h x s.root.members s.tree.items i.tree (omega (arith, i.places x, one, some))
+      low_branches t h x s.root.members s.tree.items i.tree (omega (arith, i.places x, one, some))
           (omega (arith, i.places x, one, some)),
-      low_couples (entry t) h x s.rest.items i.rest (omega (arith, i.places x, one, some)),
+      low_couples t h x s.rest.items i.rest (omega (arith, i.places x, one, some)),
     )
 
 under_case : (n : ℕ) (t : TableValue) (h : ℕ → ℕ) (s : Search) (x : ℕ) → IsSearch t h s → count x s.free.items ≡ n → height_of s x ≤ h x
@@ -89,7 +89,7 @@ pub under : (t : TableValue) (h : ℕ → ℕ) (s : Search) (x : ℕ) → IsSear
 under t h s x i = under_case (count x s.free.items) t h s x i refl
 
 -- one place with its height is a sound set
-pub single_sound : (d : ℕ → ℕ → ℕ) (h : ℕ → ℕ) (x : ℕ) → IsSound d h (single_of x (h x))
+pub single_sound : (d : TableValue) (h : ℕ → ℕ) (x : ℕ) → IsSound d h (single_of x (h x))
 single_sound d h x =
     let at = λ (y : ℕ) (here : 1 ≤ hit y x + 0). hit_is y x (omega (arith, here)) in
     record {
@@ -150,7 +150,7 @@ met_standing t h link s r m aug e counts i here tight =
       room = λ a g la hg ne. i.room a g la (omega (arith, hg, counts g)) ne;
       places = λ x. omega (arith, i.places x, aug.places x, ap (λ (v : NestValue). count x v.members) e, counts x);
       joined = aug.joined i.joined;
-      firm = aug.firm (entry t) h tight i.root (subst (λ (v : NestValue). IsSound (entry t) h v) (sym e) (single_sound (entry t) h f))
+      firm = aug.firm t h tight i.root (subst (λ (v : NestValue). IsSound t h v) (sym e) (single_sound t h f))
           i.tree i.rest;
       loads = λ a b la lb ne. omega (
         arith,
@@ -179,7 +179,7 @@ met link s r m aug e counts fewer same = record {
 
 low_standing : (t : TableValue) (h : ℕ → ℕ) (cs : List Couple) (free : List ℕ) (x : ℕ) → IsStanding t h cs free → 1 ≤ count x free
     → height x (couple_bands cs) ≡ 0
-low_standing t h cs free x i some = low_couples (entry t) h x cs i.firm (omega (arith, i.places x, is_one t x, some))
+low_standing t h cs free x i some = low_couples t h x cs i.firm (omega (arith, i.places x, is_one t x, some))
 
 lower_case : (n : ℕ) (t : TableValue) (h : ℕ → ℕ) (cs : List Couple) (free : List ℕ) (x : ℕ) → IsStanding t h cs free → count x free ≡ n
     → height x (couple_bands cs) ≤ h x
@@ -191,7 +191,7 @@ standing_room : (t : TableValue) (h : ℕ → ℕ) (cs : List Couple) (free : Li
 standing_room t h cs free x f i lx hf ne =
     omega (
       arith,
-      load_alone x f (couple_bands cs) (none_couples (entry t) h f cs i.firm (omega (arith, i.places f, is_one t f, hf))),
+      load_alone x f (couple_bands cs) (none_couples t h f cs i.firm (omega (arith, i.places f, is_one t f, hf))),
       lower_case (count x free) t h cs free x i refl,
       i.room x f lx hf ne,
     )
@@ -226,8 +226,8 @@ begun t h place s i e f =
       );
       grown = subst (λ (bs : List Branch). IsGrown s.root.members bs) (sym f) tt;
       joined = i.joined;
-      root = subst (λ (v : NestValue). IsSound (entry t) h v) (sym e) (single_sound (entry t) h place);
-      tree = subst (λ (bs : List Branch). Each (IsFirm (entry t) h) bs) (sym f) tt;
+      root = subst (λ (v : NestValue). IsSound t h v) (sym e) (single_sound t h place);
+      tree = subst (λ (bs : List Branch). Each (IsFirm t h) bs) (sym f) tt;
       rest = i.firm;
       loads = λ a b la lb ne. omega (
         arith,

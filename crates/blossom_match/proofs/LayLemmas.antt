@@ -1,5 +1,6 @@
 -- Laying a way of parts, two at a time.
 use Rattle.std.proofs.Common.{◌≡◌, ℕ, ◌%◌, ◌≤◌, inl, inr, List, [], ◌∷◌, ◌++◌, length, arith, sym, ap, subst, ◌∙◌}
+use Rattle.blossom_match.specs.TableValue.{TableValue}
 use Rattle.blossom_match.specs.Lists.{Each}
 use Rattle.blossom_match.specs.Bands.{Band, NestValue, bands, count}
 use Rattle.blossom_match.specs.Rings.{members_in, bands_in, Linked}
@@ -128,7 +129,7 @@ coupled_joined p (q ∷ r ∷ ps) even l =
     let less : length ps % 2 ≡ 0 = omega arith in
     (record { from = l.1.0.0; to = l.1.0.1 }, coupled_joined r ps less l.1.1)
 
-coupled_firm : (d : ℕ → ℕ → ℕ) (h : ℕ → ℕ) (ps : List Part) → Each (IsFirmPart d h) ps → Each (IsFirmCouple d h) (couples_along ps)
+coupled_firm : (d : TableValue) (h : ℕ → ℕ) (ps : List Part) → Each (IsFirmPart d h) ps → Each (IsFirmCouple d h) (couples_along ps)
 coupled_firm d h [] t = tt
 coupled_firm d h (q ∷ []) t = tt
 coupled_firm d h (q ∷ r ∷ ps) t = (record { link = t.0.next; first = t.0.nest; second = t.1.0.nest }, coupled_firm d h ps t.1.1)

@@ -1,6 +1,7 @@
 -- Rings told the other way round, and the parity of their parts.
 use Rattle.std.proofs.Common.{◌≡◌, ℕ, ◌+◌, ◌%◌, ◌≤◌, ◌<◌, inl, inr, List, [], ◌∷◌, ◌++◌, length, take, drop, arith, refl, sym, ap, subst, ◌∙◌, append_assoc, length-append}
 use Rattle.std.proofs.lemmas.List.{length-take, take-append-drop}
+use Rattle.blossom_match.specs.TableValue.{TableValue}
 use Rattle.blossom_match.specs.Lists.{Each}
 use Rattle.blossom_match.specs.Bands.{Adds, Band, NestValue, bands, count}
 use Rattle.blossom_match.specs.Rings.{back_of, members_in, bands_in, AllKept, FirstHolds, HoldsAt, IsLinkedRing, IsRing, IsTurned, Linked}
@@ -54,14 +55,14 @@ told_kept : (l : Link) (ps told : List Part) → AllKept ps → AllKept told →
 told_kept l [] told a b = b
 told_kept l (p ∷ ps) told a b = told_kept p.next ps (part_of p (back_of l) ∷ told) a.1 (a.0, b)
 
-told_firm : (d : ℕ → ℕ → ℕ) (h : ℕ → ℕ) → IsSymmetric d → (l : Link) (ps told : List Part) → IsTight d h l → Each (IsFirmPart d h) ps
+told_firm : (d : TableValue) (h : ℕ → ℕ) → IsSymmetric d → (l : Link) (ps told : List Part) → IsTight d h l → Each (IsFirmPart d h) ps
     → Each (IsFirmPart d h) told →
     Each (IsFirmPart d h) (told_back l ps told)
 told_firm d h sy l [] told t a b = b
 told_firm d h sy l (p ∷ ps) told t a b =
     told_firm d h sy p.next ps (part_of p (back_of l) ∷ told) a.0.next a.1 (record { next = tight_back d h l sy t; nest = a.0.nest }, b)
 
-last_firm : (d : ℕ → ℕ → ℕ) (h : ℕ → ℕ) (p : Part) (ps : List Part) → Each (IsFirmPart d h) (p ∷ ps) → IsTight d h (last_link p.next ps)
+last_firm : (d : TableValue) (h : ℕ → ℕ) (p : Part) (ps : List Part) → Each (IsFirmPart d h) (p ∷ ps) → IsTight d h (last_link p.next ps)
 last_firm d h p [] a = a.0.next
 last_firm d h p (q ∷ qs) a = last_firm d h q qs a.1
 
@@ -135,7 +136,7 @@ mirror_sum F add (p ∷ ps) = omega (
   adds_none F add,
 )
 
-mirror_firm : (d : ℕ → ℕ → ℕ) (h : ℕ → ℕ) → IsSymmetric d → (ps : List Part) → Each (IsFirmPart d h) ps
+mirror_firm : (d : TableValue) (h : ℕ → ℕ) → IsSymmetric d → (ps : List Part) → Each (IsFirmPart d h) ps
     → Each (IsFirmPart d h) (mirror_of ps)
 mirror_firm d h sy [] f = tt
 mirror_firm d h sy (p ∷ ps) f = (

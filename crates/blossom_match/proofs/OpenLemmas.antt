@@ -2,6 +2,7 @@
 use Rattle.std.proofs.Common.{◌≡◌, ℕ, ◌+◌, ◌%◌, ◌≤◌, ◌<◌, zero, suc, List, [], ◌∷◌, ◌++◌, length, take, drop, arith, refl, sym, ap, subst, ◌∙◌, Some, None, length-append, eqb, cond, Bool, true, false}
 use Rattle.std.proofs.lemmas.Bool.{eqb-true}
 use Rattle.std.proofs.lemmas.List.{take-append-drop}
+use Rattle.blossom_match.specs.TableValue.{TableValue}
 use Rattle.blossom_match.specs.Lists.{Each}
 use Rattle.blossom_match.specs.Bands.{Adds, Band, NestValue, bands, count, height, hit, IsPaid, Kept}
 use Rattle.blossom_match.specs.Rings.{members_in, bands_in, tolls_in, tolls_along, Linked, ring_tolls, IsLinkedRing, AllKept, IsRing, IsTurned, FirstHolds, IsMade, nest_of}
@@ -57,19 +58,19 @@ members_coupled x (p ∷ q ∷ ps) even =
       count-append x q.nest.members (couple_members (couples_along ps)),
     )
 
-tolls_paid-drop : (d : ℕ → ℕ → ℕ) (i : ℕ) (ps : List Part) → IsPaid d (tolls_in ps) → IsPaid d (tolls_in (drop i ps))
+tolls_paid-drop : (d : TableValue) (i : ℕ) (ps : List Part) → IsPaid d (tolls_in ps) → IsPaid d (tolls_in (drop i ps))
 tolls_paid-drop d zero ps a = a
 tolls_paid-drop d (suc i) [] a = a
 tolls_paid-drop d (suc i) (p ∷ ps) a = tolls_paid-drop d i ps (IsPaid-right d p.nest.tolls (tolls_in ps) a)
 
-tolls_paid-take : (d : ℕ → ℕ → ℕ) (i : ℕ) (ps : List Part) → IsPaid d (tolls_in ps) → IsPaid d (tolls_in (take i ps))
+tolls_paid-take : (d : TableValue) (i : ℕ) (ps : List Part) → IsPaid d (tolls_in ps) → IsPaid d (tolls_in (take i ps))
 tolls_paid-take d zero ps a = tt
 tolls_paid-take d (suc i) [] a = a
 tolls_paid-take d (suc i) (p ∷ ps) a =
     IsPaid-append d p.nest.tolls (tolls_in (take i ps)) (IsPaid-left d p.nest.tolls (tolls_in ps) a)
     (tolls_paid-take d i ps (IsPaid-right d p.nest.tolls (tolls_in ps) a))
 
-tolls_paid-append : (d : ℕ → ℕ → ℕ) (ps qs : List Part) → IsPaid d (tolls_in ps) → IsPaid d (tolls_in qs) → IsPaid d (tolls_in (ps ++ qs))
+tolls_paid-append : (d : TableValue) (ps qs : List Part) → IsPaid d (tolls_in ps) → IsPaid d (tolls_in qs) → IsPaid d (tolls_in (ps ++ qs))
 tolls_paid-append d [] qs a b = b
 tolls_paid-append d (p ∷ ps) qs a b =
     IsPaid-append d p.nest.tolls (tolls_in (ps ++ qs)) (IsPaid-left d p.nest.tolls (tolls_in ps) a)
@@ -82,7 +83,7 @@ joined_along p e (q ∷ r ∷ ps) even l =
     let less : length ps % 2 ≡ 0 = omega arith in
     (record { from = l.1.0.0; to = l.1.0.1 }, joined_along r e ps less l.1.1)
 
-paid_along : (d : ℕ → ℕ → ℕ) (p e : Part) (ps : List Part) → length ps % 2 ≡ 0 → IsPaid d (tolls_along p (ps ++ e ∷ []))
+paid_along : (d : TableValue) (p e : Part) (ps : List Part) → length ps % 2 ≡ 0 → IsPaid d (tolls_along p (ps ++ e ∷ []))
     → IsPaid d (tolls_in ps) →
     Each (IsSettled d) (couples_along ps)
 paid_along d p e [] even l all = tt
@@ -158,7 +159,7 @@ places_turned x old p ps i e even =
       members_coupled x ps even,
     )
 
-paid_turned_all : (d : ℕ → ℕ → ℕ) (old : List Part) (p : Part) (ps : List Part) (i : ℕ) → p ∷ ps ≡ drop i old ++ take i old →
+paid_turned_all : (d : TableValue) (old : List Part) (p : Part) (ps : List Part) (i : ℕ) → p ∷ ps ≡ drop i old ++ take i old →
     length ps % 2 ≡ 0 → IsPaid d (ring_tolls old ++ tolls_in old) → IsPaid d p.nest.tolls × Each (IsSettled d) (couples_along ps)
 paid_turned_all d old p ps i e even all =
     let around : IsPaid d (ring_tolls (take i old ++ drop i old)) =

@@ -103,7 +103,7 @@ risen t couples free heights new place price st here room e size =
             (place_in t f (omega (arith, hf, i.places f))) ne room (i.room a f la hf ne));
         places = i.places;
         joined = i.joined;
-        firm = couples_same (entry t) h (λ (x : ℕ). get_or new x 0) couples i.joined i.firm
+        firm = couples_same t h (λ (x : ℕ). get_or new x 0) couples i.joined i.firm
             (λ x some. kept x (omega (arith, i.places x, is_one t x, some)));
         loads = i.loads;
       };

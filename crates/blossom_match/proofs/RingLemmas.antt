@@ -1,6 +1,7 @@
 -- Rings told from another part.
 use Rattle.std.proofs.Common.{◌≡◌, ℕ, ◌+◌, ◌≤◌, ◌<◌, ◌%◌, suc, List, [], ◌∷◌, ◌++◌, length, take, drop, get_or, drop-cons, add-one, arith, refl, sym, ap, subst, ◌∙◌, append_assoc, length-append}
 use Rattle.std.proofs.lemmas.List.{append-nil, take-append-drop}
+use Rattle.blossom_match.specs.TableValue.{TableValue}
 use Rattle.blossom_match.specs.Bands.{NoneHold, Kept, bands, count, IsPaid, TollIsPaid}
 use Rattle.blossom_match.specs.Rings.{members_in, bands_in, toll_of, tolls_along, Joins, Linked, ring_tolls, IsLinkedRing, AllKept, IsMade, IsNest, nest_of, nest_value}
 use Rattle.blossom_match.specs.declared.nest.Part.{Part}
@@ -12,7 +13,7 @@ Linked_on : (p a b : Part) (qs : List Part) → Linked p (qs ++ a ∷ []) → Jo
 Linked_on p a b [] l j = (l.0, (j, tt))
 Linked_on p a b (q ∷ qs) l j = (l.0, Linked_on q a b qs l.1 j)
 
-paid_on : (d : ℕ → ℕ → ℕ) (p a b : Part) (qs : List Part) →
+paid_on : (d : TableValue) (p a b : Part) (qs : List Part) →
     IsPaid d (tolls_along p (qs ++ a ∷ [])) → TollIsPaid d (toll_of a b) → IsPaid d (tolls_along p ((qs ++ a ∷ []) ++ b ∷ []))
 paid_on d p a b [] l j = (l.0, (j, tt))
 paid_on d p a b (q ∷ qs) l j = (l.0, paid_on d q a b qs l.1 j)
@@ -21,7 +22,7 @@ ring_by_one : (p : Part) (ps : List Part) → IsLinkedRing (p ∷ ps) → IsLink
 ring_by_one p [] l = l
 ring_by_one p (q ∷ qs) l = Linked_on q p q qs l.1 l.0
 
-paid_by_one : (d : ℕ → ℕ → ℕ) (p : Part) (ps : List Part) → IsPaid d (ring_tolls (p ∷ ps)) → IsPaid d (ring_tolls (ps ++ p ∷ []))
+paid_by_one : (d : TableValue) (p : Part) (ps : List Part) → IsPaid d (ring_tolls (p ∷ ps)) → IsPaid d (ring_tolls (ps ++ p ∷ []))
 paid_by_one d p [] l = l
 paid_by_one d p (q ∷ qs) l = paid_on d q p q qs l.1 l.0
 
@@ -35,7 +36,7 @@ ring_turned (x ∷ xs) ys l =
     subst IsLinkedRing (shifted xs ys x)
     (ring_turned xs (ys ++ x ∷ []) (subst IsLinkedRing (append_assoc xs ys (x ∷ [])) (ring_by_one x (xs ++ ys) l)))
 
-pub paid_turned : (d : ℕ → ℕ → ℕ) (xs ys : List Part) → IsPaid d (ring_tolls (xs ++ ys)) → IsPaid d (ring_tolls (ys ++ xs))
+pub paid_turned : (d : TableValue) (xs ys : List Part) → IsPaid d (ring_tolls (xs ++ ys)) → IsPaid d (ring_tolls (ys ++ xs))
 paid_turned d [] ys l = subst (λ (zs : List Part). IsPaid d (ring_tolls zs)) (sym (append-nil ys)) l
 paid_turned d (x ∷ xs) ys l =
     subst (λ (zs : List Part). IsPaid d (ring_tolls zs)) (shifted xs ys x)

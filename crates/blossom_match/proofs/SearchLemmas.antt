@@ -31,7 +31,7 @@ pub shrunk : (link : Link) (s r : Search) → Shrinks link s.root r.root s.tree.
     → r.free.items ≡ s.free.items → r.heights.items ≡ s.heights.items → Advances s (Shrink link) r
 shrunk link s r sh e f g = record {
   search = λ t h i ready.
-      let firm = sh.firm (entry t) h (entry-comm t) ready.3 i.root i.tree in
+      let firm = sh.firm t h (entry-comm t) ready.3 i.root i.tree in
       record {
         tall = λ x none. omega (
           arith,
@@ -53,7 +53,7 @@ shrunk link s r sh e f g = record {
         joined = subst (λ (cs : List Couple). Each IsJoined cs) (sym e) i.joined;
         root = firm.0;
         tree = firm.1;
-        rest = subst (λ (cs : List Couple). Each (IsFirmCouple (entry t) h) cs) (sym e) i.rest;
+        rest = subst (λ (cs : List Couple). Each (IsFirmCouple t h) cs) (sym e) i.rest;
         loads = λ a b la lb ne. omega (
           arith,
           i.loads a b la lb ne,
@@ -71,7 +71,7 @@ pub came_apart : (at : ℕ) (s r : Search) → Expands s.root s.tree.items r.tre
     → r.free.items ≡ s.free.items → r.heights.items ≡ s.heights.items → Advances s (Expand at) r
 came_apart at s r ex e f g = record {
   search = λ t h i ready.
-      let firm = ex.firm (entry t) h (entry-comm t) i.tree i.rest in
+      let firm = ex.firm t h (entry-comm t) i.tree i.rest in
       record {
         tall = λ x none. omega (
           arith,
@@ -91,7 +91,7 @@ came_apart at s r ex e f g = record {
         );
         grown = subst (λ (v : NestValue). IsGrown v.members r.tree.items) (sym e) ex.grown;
         joined = ex.joined i.joined;
-        root = subst (λ (v : NestValue). IsSound (entry t) h v) (sym e) i.root;
+        root = subst (λ (v : NestValue). IsSound t h v) (sym e) i.root;
         tree = firm.0;
         rest = firm.1;
         loads = λ a b la lb ne. omega (
@@ -115,7 +115,7 @@ record IsHung (up : Link) (c : Couple) (b : Branch) : Type 0 where
   up_to : count up.to b.inner.members ≡ 1
   pair_from : count b.pair.from b.inner.members ≡ 1
   pair_to : count b.pair.to b.outer.members ≡ 1
-  firm : (d : ℕ → ℕ → ℕ) (h : ℕ → ℕ) → IsSymmetric d → IsTight d h up → IsFirmCouple d h c → IsFirm d h b
+  firm : (d : TableValue) (h : ℕ → ℕ) → IsSymmetric d → IsTight d h up → IsFirmCouple d h c → IsFirm d h b
 
 hung_case : (b : Bool) (up : Link) (c : Couple) → ltb 0 (count up.to c.first.members) ≡ b
     → count up.to c.first.members + count up.to c.second.members ≡ 1 → IsJoined c
@@ -225,8 +225,8 @@ hung link s r c out g e f same =
     record {
       search = λ t h i ready.
           let joined = without IsJoined out.before out.after c (subst (λ (cs : List Couple). Each IsJoined cs) out.was i.joined) in
-          let firm = without (IsFirmCouple (entry t) h) out.before out.after c
-          (subst (λ (cs : List Couple). Each (IsFirmCouple (entry t) h) cs) out.was i.rest) in
+          let firm = without (IsFirmCouple t h) out.before out.after c
+          (subst (λ (cs : List Couple). Each (IsFirmCouple t h) cs) out.was i.rest) in
           let k = hung_is link c (omega (arith, out.here, held link.to, i.places link.to, is_one t link.to)) joined.0 in
           record {
             tall = λ x none. omega (
@@ -246,10 +246,10 @@ hung link s r c out g e f same =
                 (grown_push s.root.members s.tree.items b i.grown (subst (λ (l : Link). 1 ≤ count l.from (outers s)) (sym k.same) ready.0)
                 (subst (λ (l : Link). count l.to b.inner.members ≡ 1) (sym k.same) k.up_to) k.pair_from k.pair_to));
             joined = subst (λ (cs : List Couple). Each IsJoined cs) (sym out.now) joined.1;
-            root = subst (λ (v : NestValue). IsSound (entry t) h v) (sym e) i.root;
-            tree = subst (λ (ks : List Branch). Each (IsFirm (entry t) h) ks) (sym g)
-                (each-push (IsFirm (entry t) h) s.tree.items b i.tree (k.firm (entry t) h (entry-comm t) ready.2 firm.0));
-            rest = subst (λ (cs : List Couple). Each (IsFirmCouple (entry t) h) cs) (sym out.now) firm.1;
+            root = subst (λ (v : NestValue). IsSound t h v) (sym e) i.root;
+            tree = subst (λ (ks : List Branch). Each (IsFirm t h) ks) (sym g)
+                (each-push (IsFirm t h) s.tree.items b i.tree (k.firm t h (entry-comm t) ready.2 firm.0));
+            rest = subst (λ (cs : List Couple). Each (IsFirmCouple t h) cs) (sym out.now) firm.1;
             loads = λ x y lx ly ne. omega (
               arith,
               i.loads x y lx ly ne,
@@ -273,7 +273,7 @@ hung link s r c out g e f same =
     }
 
 -- a place in no set has height 0
-pub low_branches : (d : ℕ → ℕ → ℕ) (h : ℕ → ℕ) (x : ℕ) (base : List ℕ) (tree : List Branch) → Each (IsFirm d h) tree
+pub low_branches : (d : TableValue) (h : ℕ → ℕ) (x : ℕ) (base : List ℕ) (tree : List Branch) → Each (IsFirm d h) tree
     → count x (outer_members base tree) ≡ 0 → count x (inner_members tree) ≡ 0 →
     height x (branch_bands tree) ≡ 0
 low_branches d h x base [] f none empty = refl
@@ -289,7 +289,7 @@ low_branches d h x base (b ∷ bs) f none empty =
       height-append x (bands b.outer) (branch_bands bs),
     )
 
-pub low_couples : (d : ℕ → ℕ → ℕ) (h : ℕ → ℕ) (x : ℕ) (cs : List Couple) → Each (IsFirmCouple d h) cs → count x (couple_members cs) ≡ 0
+pub low_couples : (d : TableValue) (h : ℕ → ℕ) (x : ℕ) (cs : List Couple) → Each (IsFirmCouple d h) cs → count x (couple_members cs) ≡ 0
     → height x (couple_bands cs) ≡ 0
 low_couples d h x [] f none = refl
 low_couples d h x (c ∷ cs) f none =

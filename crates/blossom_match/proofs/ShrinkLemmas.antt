@@ -1,6 +1,7 @@
 -- The ring that the loop closes.
 use Rattle.std.proofs.Common.{◌≡◌, ℕ, ◌+◌, ◌%◌, ◌≤◌, List, [], ◌∷◌, ◌++◌, length, reverse, arith, refl, sym, ap, subst, ◌∙◌}
 use Rattle.std.proofs.lemmas.List.{append-nil}
+use Rattle.blossom_match.specs.TableValue.{TableValue}
 use Rattle.blossom_match.specs.Lists.{Each}
 use Rattle.blossom_match.specs.Bands.{Adds, Band, NestValue, Kept, bands, count}
 use Rattle.blossom_match.specs.Rings.{members_in, bands_in, IsRing}
@@ -83,7 +84,7 @@ ring_sums F add top way chain ring e =
     )
 
 -- the heights of two places in the tree are both even or both odd
-pub two_even : (d : ℕ → ℕ → ℕ) (h : ℕ → ℕ) (root : NestValue) (tree : List Branch) → IsGrown root.members tree → IsSound d h root
+pub two_even : (d : TableValue) (h : ℕ → ℕ) (root : NestValue) (tree : List Branch) → IsGrown root.members tree → IsSound d h root
     → Each (IsFirm d h) tree → (x y : ℕ) →
     1 ≤ count x (outer_members root.members tree) + count x (inner_members tree)
     → 1 ≤ count y (outer_members root.members tree) + count y (inner_members tree) → (h x + h y) % 2 ≡ 0

@@ -1,6 +1,7 @@
 -- Counts, heights and loads of joined lists.
 use Rattle.std.proofs.Common.{◌≡◌, ℕ, ◌+◌, ◌-◌, ◌*◌, ◌≤◌, List, [], ◌∷◌, ◌++◌, arith, refl, cond, eqb, length, length-append, Bool, true, false, ap}
 use Rattle.std.proofs.lemmas.Bool.{eqb-true, eq-eqb}
+use Rattle.blossom_match.specs.TableValue.{TableValue}
 use Rattle.blossom_match.specs.Bands.{Band, NestValue, Adds, Toll, apart, bands, count, height, hit, load, total, NoneHold, Kept, IsPaid}
 
 pub count-append : (x : ℕ) (xs ys : List ℕ) → count x (xs ++ ys) ≡ count x xs + count x ys
@@ -68,15 +69,15 @@ load_across a b s kept none = omega (arith, load_other a b (bands s) (none_hold 
 pub load_along : (a b : ℕ) (s : NestValue) → Kept s → count b s.members ≡ 0 → load a b (bands s) ≡ height a (bands s) + height b (bands s)
 load_along a b s kept none = omega (arith, load_alone a b (bands s) (none_hold b s kept none), low b s kept none)
 
-pub IsPaid-append : (d : ℕ → ℕ → ℕ) (xs ys : List Toll) → IsPaid d xs → IsPaid d ys → IsPaid d (xs ++ ys)
+pub IsPaid-append : (d : TableValue) (xs ys : List Toll) → IsPaid d xs → IsPaid d ys → IsPaid d (xs ++ ys)
 IsPaid-append d [] ys p q = q
 IsPaid-append d (t ∷ xs) ys p q = (p.0, IsPaid-append d xs ys p.1 q)
 
-pub IsPaid-left : (d : ℕ → ℕ → ℕ) (xs ys : List Toll) → IsPaid d (xs ++ ys) → IsPaid d xs
+pub IsPaid-left : (d : TableValue) (xs ys : List Toll) → IsPaid d (xs ++ ys) → IsPaid d xs
 IsPaid-left d [] ys p = tt
 IsPaid-left d (t ∷ xs) ys p = (p.0, IsPaid-left d xs ys p.1)
 
-pub IsPaid-right : (d : ℕ → ℕ → ℕ) (xs ys : List Toll) → IsPaid d (xs ++ ys) → IsPaid d ys
+pub IsPaid-right : (d : TableValue) (xs ys : List Toll) → IsPaid d (xs ++ ys) → IsPaid d ys
 IsPaid-right d [] ys p = p
 IsPaid-right d (t ∷ xs) ys p = IsPaid-right d xs ys p.1
 

@@ -169,7 +169,7 @@ takes_place left w s ms cs old new was a now once o own t =
         hit_same left,
         once left,
         t.paid tab
-            (o.paid (entry tab) paid).1,
+            (o.paid tab paid).1,
         whole s.width (count left s.members) (omega (arith, o.places left, hit_same left, once left)),
       );
       places = λ x. omega (arith, o.places x, t.places x);
@@ -199,7 +199,7 @@ takes_ring left w s p ms cs old mid new was a b now once o own first t =
     let sum = o.sums total total-append in
     let other = o.holds.1 in
     record {
-      paid = λ tab paid. let q = o.paid (entry tab) paid in omega (
+      paid = λ tab paid. let q = o.paid tab paid in omega (
         arith,
         sum,
         o.tall,

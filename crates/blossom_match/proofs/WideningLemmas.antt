@@ -39,7 +39,7 @@ none_below : (v : ℕ) (bs : List Band) → length bs ≡ 0 → height v bs ≡ 
 none_below v [] e = refl
 none_below v (b ∷ bs) e = absurd (omega arith)
 
-narrow_case : (n : ℕ) (t : TableValue) (h : ℕ → ℕ) (by : ℕ) (b : Branch) → length b.inner.below ≡ n → RingIsWide by b → IsFirm (entry t) h b
+narrow_case : (n : ℕ) (t : TableValue) (h : ℕ → ℕ) (by : ℕ) (b : Branch) → length b.inner.below ≡ n → RingIsWide by b → IsFirm t h b
     → count b.up.to b.inner.members ≡ 1 → count b.pair.from b.inner.members ≡ 1 →
     entry t b.up.from b.pair.to ≤ entry t b.up.from b.up.to + entry t b.up.to b.pair.to
     → h b.up.from + h b.pair.to + 2 * by ≤ 2 * entry t b.up.from b.pair.to → by ≤ b.inner.width
@@ -60,7 +60,7 @@ can_change t h s c is tri i b some =
     let f = some_member s.free.items some in
     each_split (CanChange c.by) s.tree.items s.tree.items [] refl (λ bs k after e.
     let grown = grown-right s.root.members bs (k ∷ after) (subst (λ (ks : List Branch). IsGrown s.root.members ks) e i.grown) in
-    let firm = (each-right (IsFirm (entry t) h) bs (k ∷ after) (subst (λ (ks : List Branch). Each (IsFirm (entry t) h) ks) e i.tree)).0 in
+    let firm = (each-right (IsFirm t h) bs (k ∷ after) (subst (λ (ks : List Branch). Each (IsFirm t h) ks) e i.tree)).0 in
     let ring = (each-right (RingIsWide c.by) bs (k ∷ after) (subst (λ (ks : List Branch). Each (RingIsWide c.by) ks) e b.rings)).0 in
     let at = λ (x : ℕ). ap (λ (ks : List Branch). count x (outer_members s.root.members ks)) e
     ∙ outer-append x s.root.members bs (k ∷ after) in
@@ -75,7 +75,7 @@ can_change t h s c is tri i b some =
     (arith, i.places x, is_one t x, ap (λ (ks : List Branch). count x (outer_members s.root.members ks)) e)) grown.0
     (omega (arith, grown.3))) in
     record {
-      room = set_limit (entry t) h k.outer c.by firm.outer (λ x. omega (arith, i.places x, is_one t x, at x, on x))
+      room = set_limit t h k.outer c.by firm.outer (λ x. omega (arith, i.places x, is_one t x, at x, on x))
           (λ x here. outer_limit t h s c x f.0 is i b f.1 (omega (arith, at x, on x, here)));
       wide = narrow_case (length k.inner.below) t h c.by k refl ring firm grown.1 grown.2
           (tri k.up.from k.up.to (place_in t k.up.from (omega (arith, i.places k.up.from, from)))
@@ -127,7 +127,7 @@ can_widen s c w =
     let i = w.can.search in
     let f = some_member s.free.items w.can.some in
     let wide = can_change w.t (height_at s) s c w.metric.table w.metric.triangles i w.bounds w.can.some in (
-      set_limit (entry w.t) (height_at s) s.root c.by i.root (λ x. omega
+      set_limit w.t (height_at s) s.root c.by i.root (λ x. omega
           (arith, i.places x, is_one w.t x, base_in x s.root.members s.tree.items))
           (λ x here. outer_limit w.t (height_at s) s c x f.0 w.metric.table i w.bounds f.1
           (omega (arith, base_in x s.root.members s.tree.items, here))),
@@ -231,7 +231,7 @@ loads_stay t h s r c i bd ch can a b la lb ne =
     ))
 
 -- a tight link after the change
-tight_after : (d : ℕ → ℕ → ℕ) (k : ℕ → ℕ) (l : Link) → k l.from + k l.to ≡ 2 * d l.from l.to → IsTight d k l
+tight_after : (d : TableValue) (k : ℕ → ℕ) (l : Link) → k l.from + k l.to ≡ 2 * entry d l.from l.to → IsTight d k l
 tight_after d k l e = sym e
 
 due_ready : (step : Step) (t : TableValue) (h k : ℕ → ℕ) (s r : Search) (by : ℕ) → Changes by s r
@@ -242,13 +242,13 @@ due_ready : (step : Step) (t : TableValue) (h k : ℕ → ℕ) (s r : Search) (b
 due_ready (Meet l) t h k s r by ch up same outer due = (
   omega (arith, due.0, outer l.from),
   omega (arith, due.1, ap (λ (xs : List ℕ). count l.to xs) ch.free),
-  tight_after (entry t) k l
+  tight_after t k l
       (omega (arith, due.2, up l.from due.0, same l.to (omega (arith, due.1)))),
 )
 due_ready (Grow l) t h k s r by ch up same outer due = (
   omega (arith, due.0, outer l.from),
   omega (arith, due.1, ap (λ (cs : List Couple). count l.to (couple_members cs)) ch.rest),
-  tight_after (entry t) k l (omega (arith, due.2, up l.from due.0, same l.to (omega (arith, due.1)))),
+  tight_after t k l (omega (arith, due.2, up l.from due.0, same l.to (omega (arith, due.1)))),
 )
 due_ready (Shrink l) t h k s r by ch up same outer due = (
   omega (arith, due.0, outer l.from),
@@ -261,7 +261,7 @@ due_ready (Shrink l) t h k s r by ch up same outer due = (
         (λ (ks : List Branch). around l.from l.to ks) ch.tree,
     around_same_all by l.from l.to s.tree.items,
   ),
-  tight_after (entry t) k l (omega (arith, due.3, up l.from due.0, up l.to due.1)),
+  tight_after t k l (omega (arith, due.3, up l.from due.0, up l.to due.1)),
 )
 due_ready (Expand at) t h k s r by ch up same outer due =
     subst (λ (ks : List Branch). FirstComesApart (drop at ks)) (sym ch.tree)
@@ -337,13 +337,13 @@ steps_on t s r c ch m cs b =
         grown = subst (λ (v : NestValue). IsGrown v.members r.tree.items) (sym ch.root)
             (subst (λ (ks : List Branch). IsGrown s.root.members ks) (sym ch.tree) (grown_same by s.root.members s.tree.items i.grown));
         joined = subst (λ (cs : List Couple). Each IsJoined cs) (sym ch.rest) i.joined;
-        root = subst (λ (v : NestValue). IsSound (entry t) k v) (sym ch.root)
-            (sound_up (entry t) h k by s.root (λ x. omega (arith, i.places x, one x, base_in x s.root.members s.tree.items))
+        root = subst (λ (v : NestValue). IsSound t k v) (sym ch.root)
+            (sound_up t h k by s.root (λ x. omega (arith, i.places x, one x, base_in x s.root.members s.tree.items))
             (λ x here. up x (omega (arith, here, base_in x s.root.members s.tree.items))) i.root);
-        tree = subst (λ (ks : List Branch). Each (IsFirm (entry t) k) ks) (sym ch.tree)
-            (firm_changed (entry t) h k by s.root.members s.tree.items i.grown can i.tree (λ x. omega (arith, i.places x, one x)) up down);
-        rest = subst (λ (cs : List Couple). Each (IsFirmCouple (entry t) k) cs) (sym ch.rest)
-            (couples_same (entry t) h k s.rest.items i.joined i.rest (λ x here. same x (omega (arith, here))));
+        tree = subst (λ (ks : List Branch). Each (IsFirm t k) ks) (sym ch.tree)
+            (firm_changed t h k by s.root.members s.tree.items i.grown can i.tree (λ x. omega (arith, i.places x, one x)) up down);
+        rest = subst (λ (cs : List Couple). Each (IsFirmCouple t k) cs) (sym ch.rest)
+            (couples_same t h k s.rest.items i.joined i.rest (λ x here. same x (omega (arith, here))));
         loads = loads_stay t h s r c i b ch can;
       };
       ready = due_ready c.step t h k s r by ch up same outer b.due;

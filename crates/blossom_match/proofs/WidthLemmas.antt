@@ -89,7 +89,7 @@ branches_tall x by (b ∷ bs) can =
     )
 
 -- a set of the outer sets, of the inner sets and of the others
-pub sound_up : (d : ℕ → ℕ → ℕ) (h k : ℕ → ℕ) (by : ℕ) (s : NestValue) → ((x : ℕ) → count x s.members ≤ 1)
+pub sound_up : (d : TableValue) (h k : ℕ → ℕ) (by : ℕ) (s : NestValue) → ((x : ℕ) → count x s.members ≤ 1)
     → ((x : ℕ) → 1 ≤ count x s.members → k x ≡ h x + by) → IsSound d h s →
     IsSound d k (with_width (s.width + by) s)
 sound_up d h k by s once up i = record {
@@ -101,7 +101,7 @@ sound_up d h k by s once up i = record {
   even = λ x y hx hy. omega (arith, i.even x y hx hy, up x hx, up y hy);
 }
 
-sound_down : (d : ℕ → ℕ → ℕ) (h k : ℕ → ℕ) (by : ℕ) (s : NestValue) → by ≤ s.width → ((x : ℕ) → count x s.members ≤ 1)
+sound_down : (d : TableValue) (h k : ℕ → ℕ) (by : ℕ) (s : NestValue) → by ≤ s.width → ((x : ℕ) → count x s.members ≤ 1)
     → ((x : ℕ) → 1 ≤ count x s.members → k x + by ≡ h x) → IsSound d h s →
     IsSound d k (with_width (s.width - by) s)
 sound_down d h k by s low once down i = record {
@@ -113,7 +113,7 @@ sound_down d h k by s low once down i = record {
   even = λ x y hx hy. omega (arith, i.even x y hx hy, down x hx, down y hy);
 }
 
-sound_same : (d : ℕ → ℕ → ℕ) (h k : ℕ → ℕ) (s : NestValue) → ((x : ℕ) → 1 ≤ count x s.members → k x ≡ h x) → IsSound d h s → IsSound d k s
+sound_same : (d : TableValue) (h k : ℕ → ℕ) (s : NestValue) → ((x : ℕ) → 1 ≤ count x s.members → k x ≡ h x) → IsSound d h s → IsSound d k s
 sound_same d h k s same i = record {
   kept = i.kept;
   paid = i.paid;
@@ -121,7 +121,7 @@ sound_same d h k s same i = record {
   even = λ x y hx hy. omega (arith, i.even x y hx hy, same x hx, same y hy);
 }
 
-pub firm_changed : (d : ℕ → ℕ → ℕ) (h k : ℕ → ℕ) (by : ℕ) (base : List ℕ) (bs : List Branch) → IsGrown base bs → Each (CanChange by) bs
+pub firm_changed : (d : TableValue) (h k : ℕ → ℕ) (by : ℕ) (base : List ℕ) (bs : List Branch) → IsGrown base bs → Each (CanChange by) bs
     → Each (IsFirm d h) bs →
     ((x : ℕ) → count x (outer_members base bs) + count x (inner_members bs) ≤ 1)
     → ((x : ℕ) → 1 ≤ count x (outer_members base bs) → k x ≡ h x + by) →
@@ -149,7 +149,7 @@ firm_changed d h k by base (b ∷ bs) g can f once up down =
           (λ x here. up x (omega (arith, here, more x, o x))) (λ x here. down x (omega (arith, here, i x))),
     )
 
-pub couples_same : (d : ℕ → ℕ → ℕ) (h k : ℕ → ℕ) (cs : List Couple) → Each IsJoined cs → Each (IsFirmCouple d h) cs
+pub couples_same : (d : TableValue) (h k : ℕ → ℕ) (cs : List Couple) → Each IsJoined cs → Each (IsFirmCouple d h) cs
     → ((x : ℕ) → 1 ≤ count x (couple_members cs) → k x ≡ h x) → Each (IsFirmCouple d k) cs
 couples_same d h k [] j f same = tt
 couples_same d h k (c ∷ cs) j f same =
@@ -270,7 +270,7 @@ outer_limit t h s c x f is i b hf hx =
           (place_in t f (omega (arith, i.places f, hf))),
     )
 
-pub set_limit : (d : ℕ → ℕ → ℕ) (h : ℕ → ℕ) (n : NestValue) (by : ℕ) → IsSound d h n → ((x : ℕ) → count x n.members ≤ 1)
+pub set_limit : (d : TableValue) (h : ℕ → ℕ) (n : NestValue) (by : ℕ) → IsSound d h n → ((x : ℕ) → count x n.members ≤ 1)
     → ((x : ℕ) → 1 ≤ count x n.members → h x + by ≤ 2 * MAX_DISTANCE) → n.width + by < 2 ^ 32
 set_limit d h n by i once limit =
     let r = some_member n.members (omega (arith, i.kept.odd)) in

@@ -1,5 +1,7 @@
 -- Odd sets of places with widths, as flat lists. Widths and heights count halves of a step.
 use Rattle.std.specs.Prelude.{◌≡◌, ℕ, ◌+◌, ◌-◌, ◌*◌, ◌%◌, List, [], ◌∷◌, ◌++◌, length, eqb, cond}
+use Rattle.blossom_match.specs.TableValue.{TableValue}
+use Rattle.blossom_match.specs.Tables.{entry}
 
 -- a set with a width
 pub record Band : Type 0 where
@@ -65,11 +67,11 @@ NoneHold x [] = Unit {0}
 NoneHold x (b ∷ bs) = (count x b.members ≡ 0) × NoneHold x bs
 
 -- a link uses up its distance
-abbrev pub TollIsPaid : (ℕ → ℕ → ℕ) → Toll → Type 0
-TollIsPaid d t = 2 * d t.from t.to ≡ t.price
+abbrev pub TollIsPaid : TableValue → Toll → Type 0
+TollIsPaid d t = 2 * entry d t.from t.to ≡ t.price
 
 -- all links use up their distances
-abbrev pub IsPaid : (ℕ → ℕ → ℕ) → List Toll → Type 0
+abbrev pub IsPaid : TableValue → List Toll → Type 0
 IsPaid d [] = Unit {0}
 IsPaid d (t ∷ ts) = TollIsPaid d t × IsPaid d ts
 

@@ -1,5 +1,7 @@
 -- Sets in pairs.
 use Rattle.std.specs.Prelude.{◌≡◌, ℕ, ◌+◌, ◌*◌, ◌≤◌, List, [], ◌∷◌, ◌++◌, drop}
+use Rattle.blossom_match.specs.TableValue.{TableValue}
+use Rattle.blossom_match.specs.Tables.{entry}
 use Rattle.blossom_match.specs.Bands.{Band, bands, count, height, IsPaid}
 use Rattle.blossom_match.specs.declared.nest.Part.{Part}
 use Rattle.blossom_match.specs.declared.couples.Couple.{Couple}
@@ -27,8 +29,8 @@ pub record IsJoined (c : Couple) : Type 0 where
   pub to : count c.link.to c.second.members ≡ 1
 
 -- the link and each link inside use up their distances
-pub record IsSettled (d : ℕ → ℕ → ℕ) (c : Couple) : Type 0 where
-  pub link : 2 * d c.link.from c.link.to ≡ height c.link.from (bands c.first)
+pub record IsSettled (d : TableValue) (c : Couple) : Type 0 where
+  pub link : 2 * entry d c.link.from c.link.to ≡ height c.link.from (bands c.first)
       + height c.link.to (bands c.second)
   pub first : IsPaid d c.first.tolls
   pub second : IsPaid d c.second.tolls

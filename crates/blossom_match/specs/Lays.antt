@@ -1,5 +1,6 @@
 -- An inner set that comes apart: a way of parts is laid into the tree.
 use Rattle.std.specs.Prelude.{◌≡◌, ℕ, ◌+◌, ◌%◌, ◌<◌, ◌≤◌, ◌⊎◌, List, [], ◌∷◌, length, drop}
+use Rattle.blossom_match.specs.TableValue.{TableValue}
 use Rattle.blossom_match.specs.Lists.{Each}
 use Rattle.blossom_match.specs.Bands.{Adds, Band, NestValue, bands, count}
 use Rattle.blossom_match.specs.Rings.{back_of, members_in, bands_in, FirstHolds, IsRing, Linked}
@@ -41,7 +42,7 @@ pub record GoesEvenly (entry exit : ℕ) (old new : List Part) : Type 0 where
   pub last : EvenlyHolds exit new
   pub places : (x : ℕ) → count x (members_in new) ≡ count x (members_in old)
   pub sums : (F : List Band → ℕ) → Adds F → F (bands_in new) ≡ F (bands_in old)
-  pub firm : (d : ℕ → ℕ → ℕ) (h : ℕ → ℕ) → IsSymmetric d → Each (IsFirmPart d h) old
+  pub firm : (d : TableValue) (h : ℕ → ℕ) → IsSymmetric d → Each (IsFirmPart d h) old
       → Each (IsFirmPart d h) new
 
 -- the way leads into the first part, and each link to the next
@@ -75,7 +76,7 @@ pub record Lays (root : NestValue) (old : List Branch) (ring : List Part) (way p
       ≡ F (branch_bands old) + F (bands_in ring) + F (bands outer)
   pub fewer : length (inner_bands new) + length (couple_bands cs)
       ≤ length (inner_bands old) + length (bands_in ring)
-  pub firm : (d : ℕ → ℕ → ℕ) (h : ℕ → ℕ) → Each (IsFirm d h) old → IsTight d h way
+  pub firm : (d : TableValue) (h : ℕ → ℕ) → Each (IsFirm d h) old → IsTight d h way
       → IsTight d h pair → Each (IsFirmPart d h) ring → IsSound d h outer →
       Each (IsFirm d h) new × Each (IsFirmCouple d h) cs
 
@@ -103,5 +104,5 @@ pub record Expands (root : NestValue) (old new : List Branch) (was now : List Co
       + F (record { members = ring; width = 0 } ∷ []) ≡ F (branch_bands old) + F (couple_bands was)
   pub fewer : length (inner_bands new) + length (couple_bands now)
       < length (inner_bands old) + length (couple_bands was)
-  pub firm : (d : ℕ → ℕ → ℕ) (h : ℕ → ℕ) → IsSymmetric d → Each (IsFirm d h) old
+  pub firm : (d : TableValue) (h : ℕ → ℕ) → IsSymmetric d → Each (IsFirm d h) old
       → Each (IsFirmCouple d h) was → Each (IsFirm d h) new × Each (IsFirmCouple d h) now

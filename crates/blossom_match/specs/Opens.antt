@@ -1,5 +1,6 @@
 -- A set taken apart at one of its members.
 use Rattle.std.specs.Prelude.{◌≡◌, ℕ, ◌+◌, ◌%◌, ◌≤◌, List, [], length, Option, Some, None}
+use Rattle.blossom_match.specs.TableValue.{TableValue}
 use Rattle.blossom_match.specs.Lists.{Each}
 use Rattle.blossom_match.specs.Bands.{Band, NestValue, Adds, bands, count, height, hit, IsPaid}
 use Rattle.blossom_match.specs.Couples.{couple_members, couple_bands, IsJoined, IsSettled}
@@ -22,7 +23,7 @@ CoreHolds left (Some s) cs = (count left s.members ≡ 1)
     × ((x : ℕ) × (1 ≤ count x (couple_members cs)))
 
 -- the links inside the part that is left use up their distances
-abbrev pub CoreIsPaid : (ℕ → ℕ → ℕ) → Option NestValue → Type 0
+abbrev pub CoreIsPaid : TableValue → Option NestValue → Type 0
 CoreIsPaid d None = Unit {0}
 CoreIsPaid d (Some s) = IsPaid d s.tolls
 
@@ -39,4 +40,4 @@ pub record OpensAt (left : ℕ) (s : NestValue) (members : List ℕ) (width : �
       + count x (couple_members couples)
   pub holds : CoreHolds left core couples
   pub joined : Each IsJoined couples
-  pub paid : (d : ℕ → ℕ → ℕ) → IsPaid d s.tolls → CoreIsPaid d core × Each (IsSettled d) couples
+  pub paid : (d : TableValue) → IsPaid d s.tolls → CoreIsPaid d core × Each (IsSettled d) couples

@@ -32,7 +32,7 @@ pub record IsStanding (t : TableValue) (h : ℕ → ℕ) (couples : List Couple)
   pub room : FreeHaveRoom t h free
   pub places : (x : ℕ) → count x (couple_members couples) + count x free ≡ is_place t x
   pub joined : Each IsJoined couples
-  pub firm : Each (IsFirmCouple (entry t) h) couples
+  pub firm : Each (IsFirmCouple t h) couples
   pub loads : (a b : ℕ) → a < t.places → b < t.places → a ≢ b
       → load a b (couple_bands couples) ≤ 2 * entry t a b
 
@@ -58,9 +58,9 @@ pub record IsSearch (t : TableValue) (h : ℕ → ℕ) (s : Search) : Type 0 whe
       + count x (couple_members s.rest.items) + count x s.free.items ≡ is_place t x
   pub grown : IsGrown s.root.members s.tree.items
   pub joined : Each IsJoined s.rest.items
-  pub root : IsSound (entry t) h s.root
-  pub tree : Each (IsFirm (entry t) h) s.tree.items
-  pub rest : Each (IsFirmCouple (entry t) h) s.rest.items
+  pub root : IsSound t h s.root
+  pub tree : Each (IsFirm t h) s.tree.items
+  pub rest : Each (IsFirmCouple t h) s.rest.items
   pub loads : (a b : ℕ) → a < t.places → b < t.places → a ≢ b →
       load a b (bands s.root) + load a b (branch_bands s.tree.items)
       + load a b (couple_bands s.rest.items) ≤ 2 * entry t a b
@@ -72,12 +72,12 @@ holding_both a b s = both a b s.root + around a b s.tree.items
 -- the step can be done
 abbrev pub IsReady : TableValue → (ℕ → ℕ) → Search → Step → Type 0
 IsReady t h s (Meet link) = (1 ≤ count link.from (outers s)) × (1 ≤ count link.to s.free.items)
-    × IsTight (entry t) h link
+    × IsTight t h link
 IsReady t h s (Grow link) = (1 ≤ count link.from (outers s))
-    × (1 ≤ count link.to (couple_members s.rest.items)) × IsTight (entry t) h link
+    × (1 ≤ count link.to (couple_members s.rest.items)) × IsTight t h link
 IsReady t h s (Shrink link) =
     (1 ≤ count link.from (outers s)) × (1 ≤ count link.to (outers s))
-    × (holding_both link.from link.to s ≡ 0) × IsTight (entry t) h link
+    × (holding_both link.from link.to s ≡ 0) × IsTight t h link
 IsReady t h s (Expand at) = FirstComesApart (drop at s.tree.items)
 
 -- a search at which the step can be done

@@ -1,5 +1,6 @@
 -- A link between two outer sets closes a ring.
 use Rattle.std.specs.Prelude.{◌≡◌, ℕ, ◌+◌, ◌*◌, ◌%◌, ◌<◌, ◌≤◌, ◌⊎◌, List, [], ◌∷◌, ◌++◌, length, reverse}
+use Rattle.blossom_match.specs.TableValue.{TableValue}
 use Rattle.blossom_match.specs.Lists.{Each}
 use Rattle.blossom_match.specs.Bands.{Adds, Band, NestValue, Kept, bands, count}
 use Rattle.blossom_match.specs.Rings.{back_of, members_in, bands_in, ring_of, AllKept}
@@ -65,7 +66,7 @@ pub record Shrinks (link : Link) (root new_root : NestValue) (old new : List Bra
       F (bands new_root) + F (branch_bands new)
       ≡ F (bands root) + F (branch_bands old) + F (record { members = ring; width = 0 } ∷ [])
   pub fewer : length (inner_bands new) < length (inner_bands old)
-  pub firm : (d : ℕ → ℕ → ℕ) (h : ℕ → ℕ) → IsSymmetric d → IsTight d h link → IsSound d h root
+  pub firm : (d : TableValue) (h : ℕ → ℕ) → IsSymmetric d → IsTight d h link → IsSound d h root
       → Each (IsFirm d h) old →
       IsSound d h new_root × Each (IsFirm d h) new
 
@@ -97,7 +98,7 @@ pub record Chaining (link : Link) (root : NestValue) (tree left : List Branch) (
       + F (branch_bands (reverse aside)) ≡ F (branch_bands tree)
   pub fewer : 2 * (length (inner_bands left) + length (inner_bands (reverse aside))) + length chain
       ≤ 2 * length (inner_bands tree)
-  pub firm : (d : ℕ → ℕ → ℕ) (h : ℕ → ℕ) → IsSymmetric d → IsTight d h link → Each (IsFirm d h) tree
+  pub firm : (d : TableValue) (h : ℕ → ℕ) → IsSymmetric d → IsTight d h link → Each (IsFirm d h) tree
       →
       Each (IsFirm d h) left × Each (IsFirm d h) (reverse aside) × Each (IsFirmPart d h) chain
       × IsTight d h way

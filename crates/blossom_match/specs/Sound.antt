@@ -1,5 +1,7 @@
 -- Sets and links that use up their distances, where h is the height of each place over all sets.
 use Rattle.std.specs.Prelude.{◌≡◌, ℕ, ◌+◌, ◌*◌, ◌%◌, ◌≤◌}
+use Rattle.blossom_match.specs.TableValue.{TableValue}
+use Rattle.blossom_match.specs.Tables.{entry}
 use Rattle.blossom_match.specs.Bands.{NestValue, bands, count, height, Kept, IsPaid}
 use Rattle.blossom_match.specs.declared.nest.Link.{Link}
 use Rattle.blossom_match.specs.declared.nest.Part.{Part}
@@ -7,34 +9,34 @@ use Rattle.blossom_match.specs.declared.couples.Couple.{Couple}
 use Rattle.blossom_match.specs.declared.branches.Branch.{Branch}
 
 -- the distance does not depend on the order of the places
-abbrev pub IsSymmetric : (ℕ → ℕ → ℕ) → Type 0
-IsSymmetric d = (a b : ℕ) → d a b ≡ d b a
+abbrev pub IsSymmetric : TableValue → Type 0
+IsSymmetric d = (a b : ℕ) → entry d a b ≡ entry d b a
 
 -- the heights of the ends use up the distance
-abbrev pub IsTight : (ℕ → ℕ → ℕ) → (ℕ → ℕ) → Link → Type 0
-IsTight d h l = 2 * d l.from l.to ≡ h l.from + h l.to
+abbrev pub IsTight : TableValue → (ℕ → ℕ) → Link → Type 0
+IsTight d h l = 2 * entry d l.from l.to ≡ h l.from + h l.to
 
 -- a set whose inner links use up their distances, that alone makes the heights of its members,
 -- which are all even or all odd
-pub record IsSound (d : ℕ → ℕ → ℕ) (h : ℕ → ℕ) (s : NestValue) : Type 0 where
+pub record IsSound (d : TableValue) (h : ℕ → ℕ) (s : NestValue) : Type 0 where
   pub kept : Kept s
   pub paid : IsPaid d s.tolls
   pub local : (x : ℕ) → 1 ≤ count x s.members → height x (bands s) ≡ h x
   pub even : (x y : ℕ) → 1 ≤ count x s.members → 1 ≤ count y s.members → (h x + h y) % 2 ≡ 0
 
 -- a sound set and a tight link to the part after it
-pub record IsFirmPart (d : ℕ → ℕ → ℕ) (h : ℕ → ℕ) (p : Part) : Type 0 where
+pub record IsFirmPart (d : TableValue) (h : ℕ → ℕ) (p : Part) : Type 0 where
   pub next : IsTight d h p.next
   pub nest : IsSound d h p.nest
 
 -- two sound sets and a tight link
-pub record IsFirmCouple (d : ℕ → ℕ → ℕ) (h : ℕ → ℕ) (c : Couple) : Type 0 where
+pub record IsFirmCouple (d : TableValue) (h : ℕ → ℕ) (c : Couple) : Type 0 where
   pub link : IsTight d h c.link
   pub first : IsSound d h c.first
   pub second : IsSound d h c.second
 
 -- two sound sets and two tight links
-pub record IsFirm (d : ℕ → ℕ → ℕ) (h : ℕ → ℕ) (b : Branch) : Type 0 where
+pub record IsFirm (d : TableValue) (h : ℕ → ℕ) (b : Branch) : Type 0 where
   pub up : IsTight d h b.up
   pub pair : IsTight d h b.pair
   pub inner : IsSound d h b.inner

@@ -29,7 +29,7 @@ pub record LieIn (places : List ℕ) (moats : List Moat) : Type 0 where
 -- the pairs inside a set whose member `left` is paired outside, and its moats
 pub record TakesNest (left : ℕ) (s : NestValue) (old new : List Pair)
     (was now : List Moat) : Type 0 where
-  pub paid : (t : TableValue) → IsPaid (entry t) s.tolls → 2 * cost_of t new + height left (bands s)
+  pub paid : (t : TableValue) → IsPaid t s.tolls → 2 * cost_of t new + height left (bands s)
       ≡ 2 * cost_of t old + total (bands s)
   pub places : (x : ℕ) → ends_at new x + hit x left ≡ ends_at old x + count x s.members
   pub widths : width_of now ≡ width_of was + total (bands s)
@@ -41,7 +41,7 @@ pub record TakesNest (left : ℕ) (s : NestValue) (old new : List Pair)
 -- the pairs of the couples and inside them, and their moats
 pub record TakesCouples (cs : List Couple) (old new : List Pair)
     (was now : List Moat) : Type 0 where
-  pub paid : (t : TableValue) → Each (IsSettled (entry t)) cs → 2 * cost_of t new
+  pub paid : (t : TableValue) → Each (IsSettled t) cs → 2 * cost_of t new
       ≡ 2 * cost_of t old + total (couple_bands cs)
   pub places : (x : ℕ) → ends_at new x ≡ ends_at old x + count x (couple_members cs)
   pub widths : width_of now ≡ width_of was + total (couple_bands cs)
@@ -56,8 +56,8 @@ pub record Taking (all left : List Couple) (old now : List Pair)
   pub joined : Each IsJoined left
   pub once : (x : ℕ) → count x (couple_members all) ≤ 1
   pub fewer : length (couple_bands left) ≤ length (couple_bands all)
-  pub stays : (t : TableValue) → Each (IsSettled (entry t)) all → Each (IsSettled (entry t)) left
-  pub paid : (t : TableValue) → Each (IsSettled (entry t)) all
+  pub stays : (t : TableValue) → Each (IsSettled t) all → Each (IsSettled t) left
+  pub paid : (t : TableValue) → Each (IsSettled t) all
       → 2 * cost_of t now + total (couple_bands left) ≡ 2 * cost_of t old + total (couple_bands all)
   pub places : (x : ℕ) → ends_at now x + count x (couple_members left)
       ≡ ends_at old x + count x (couple_members all)

@@ -1,5 +1,6 @@
 -- The search tree as a list of branches, the oldest first.
 use Rattle.std.specs.Prelude.{◌≡◌, ℕ, ◌+◌, ◌≤◌, List, [], ◌∷◌, ◌++◌, min, nat_lt, if◌then◌else◌}
+use Rattle.blossom_match.specs.TableValue.{TableValue}
 use Rattle.blossom_match.specs.Lists.{Each}
 use Rattle.blossom_match.specs.Bands.{Adds, Band, NestValue, bands, count}
 use Rattle.blossom_match.specs.Rings.{back_of}
@@ -59,7 +60,7 @@ pub record Augmenting (met : NestValue) (link : Link) (root : NestValue)
 pub record Augments (root met : NestValue) (link : Link) (tree : List Branch)
     (old new : List Couple) : Type 0 where
   pub joined : Each IsJoined old → Each IsJoined new
-  pub firm : (d : ℕ → ℕ → ℕ) (h : ℕ → ℕ) → IsTight d h link → IsSound d h root → IsSound d h met
+  pub firm : (d : TableValue) (h : ℕ → ℕ) → IsTight d h link → IsSound d h root → IsSound d h met
       → Each (IsFirm d h) tree →
       Each (IsFirmCouple d h) old → Each (IsFirmCouple d h) new
   pub places : (x : ℕ) → count x (couple_members new) ≡
