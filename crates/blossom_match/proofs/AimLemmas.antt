@@ -8,16 +8,16 @@ use Rattle.blossom_match.specs.Bounds.{holding}
 use Rattle.blossom_match.specs.Reaches.{left_by, IsLeft, IsReached}
 use Rattle.blossom_match.specs.Aims.{change_at, Aims, AimsAt, CanLead, Leaves}
 use Rattle.blossom_match.specs.TableValue.{TableValue}
-use Rattle.blossom_match.specs.declared.reach.TheConstants.{FAR}
+use Rattle.blossom_match.specs.declared.table.TheConstants.{FAR}
 use Rattle.blossom_match.specs.declared.branches.Branch.{Branch}
 use Rattle.blossom_match.specs.declared.couples.Couple.{Couple}
 use Rattle.blossom_match.specs.declared.least.Aim.{Aim}
 use Rattle.blossom_match.specs.declared.least.Kind.{Kind}
-use Rattle.blossom_match.proofs.ListLemmas.{drop_here}
+use Rattle.blossom_match.proofs.ListLemmas.{drop_here, number_here, take_here}
 use Rattle.blossom_match.proofs.SumLemmas.{count-append}
 use Rattle.blossom_match.proofs.CoupleLemmas.{couple_here}
 use Rattle.blossom_match.proofs.RaisedLemmas.{outer_places}
-use Rattle.blossom_match.proofs.ScanLemmas.{number_here, split_here, take_here}
+use Rattle.blossom_match.proofs.ScanLemmas.{split_here}
 use Rattle.blossom_match.proofs.ChainLemmas.{around_append}
 use Rattle.blossom_match.proofs.TreeLemmas.{base_in, couple_members-append, couple_members_push, outer-append, outer_members_push}
 use Rattle.blossom_match.proofs.ReachLemmas.{around_first}

@@ -10,9 +10,9 @@ use Rattle.blossom_match.specs.Heights.{HeightsAre}
 use Rattle.blossom_match.specs.TableValue.{TableValue}
 use Rattle.blossom_match.specs.Tables.{entry, IsTable}
 use Rattle.blossom_match.specs.Bounds.{step_of, Bounds, IsDue, Narrows, RingIsDue}
-use Rattle.blossom_match.specs.Reaches.{CanReach, Reaches}
+use Rattle.blossom_match.specs.Reaches.{Reaches}
 use Rattle.blossom_match.specs.Aims.{change_at, goals, Aims, AimsAt, IsAimed, LeadsTo}
-use Rattle.blossom_match.specs.declared.reach.TheConstants.{FAR}
+use Rattle.blossom_match.specs.declared.table.TheConstants.{FAR}
 use Rattle.blossom_match.specs.declared.least.Aim.{Aim}
 use Rattle.blossom_match.specs.declared.least.Kind.{Kind}
 use Rattle.blossom_match.specs.declared.table.TheConstants.{MAX_DISTANCE}
@@ -22,6 +22,7 @@ use Rattle.blossom_match.specs.declared.search.Search.{Search}
 use Rattle.blossom_match.specs.declared.search.Step.{Step}
 use Rattle.blossom_match.specs.declared.least.Change.{Change}
 use Rattle.blossom_match.specs.declared.least.Kind.TheVariants as kind
+use Rattle.blossom_match.proofs.RowLemmas.{far_is}
 use Rattle.blossom_match.proofs.SumLemmas.{count-append, height-append, load-append, load_across, load_along, low, some_member}
 use Rattle.blossom_match.proofs.ScanLemmas.{around_none}
 use Rattle.blossom_match.proofs.SearchLemmas.{is_one, place_in, low_branches, low_couples}
@@ -219,18 +220,6 @@ aimed t h s hs reach first met grown crossed a =
     (still_aimed s hs reach kind.Grow met grown
     (still_aimed s hs reach kind.Meet first met (aimed_case s hs reach kind.Meet first a.at_first) a.at_met.is) a.at_grown.is)
     a.at_crossed.is
-
--- heights for the search's places
-pub can_reach_now : (t : TableValue) (h : ℕ → ℕ) (s : Search) (hs : List ℕ) → IsSearch t h s → length hs ≡ t.places
-    → CanReach t hs s.root s.tree.items
-can_reach_now t h s hs i size = record {
-  cells = size;
-  within = λ x here. place_in t x (omega (arith, i.places x, here));
-  once = λ x. omega (arith, i.places x, is_one t x);
-}
-
-far_is : FAR ≡ 2 * MAX_DISTANCE + 1
-far_is = refl
 
 -- an outer place of another set reaches the place
 pub is_near : (t : TableValue) (h : ℕ → ℕ) (s : Search) (hs reach : List ℕ) (a b : ℕ) → IsTable t → IsSearch t h s

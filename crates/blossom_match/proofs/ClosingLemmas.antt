@@ -2,17 +2,19 @@
 use Rattle.std.proofs.Common.{◌≡◌, ℕ, ◌+◌, ◌%◌, ◌≤◌, zero, suc, List, [], ◌∷◌, ◌++◌, arith, refl, sym, subst}
 use Rattle.blossom_match.specs.TableValue.{TableValue}
 use Rattle.blossom_match.specs.Lists.{Each}
-use Rattle.blossom_match.specs.Bands.{bands, count, height, IsPaid}
-use Rattle.blossom_match.specs.Rings.{members_in, bands_in, tolls_in, Linked, ring_tolls, tolls_along, IsLinkedRing, IsRing, AllKept, nest_of}
+use Rattle.blossom_match.specs.Bands.{bands, count, height, rows_of, IsPaid}
+use Rattle.blossom_match.specs.Rows.{IsNear}
+use Rattle.blossom_match.specs.Rings.{members_in, bands_in, tolls_in, Linked, ring_tolls, tolls_along, IsLinkedRing, IsRing, AllKept, ring_of, ring_row, rows_in}
 use Rattle.blossom_match.specs.Sound.{IsFirm, IsFirmPart, IsSound, IsTight}
 use Rattle.blossom_match.specs.Shrinks.{Leads}
 use Rattle.blossom_match.specs.Trees.{outer_members, inner_members, IsGrown}
 use Rattle.blossom_match.specs.declared.nest.Link.{Link}
 use Rattle.blossom_match.specs.declared.nest.Part.{Part}
 use Rattle.blossom_match.specs.declared.branches.Branch.{Branch}
-use Rattle.blossom_match.proofs.ListLemmas.{each-map}
+use Rattle.blossom_match.proofs.ListLemmas.{each-append, each-map}
 use Rattle.blossom_match.proofs.SumLemmas.{count-append, height-append, low, none_tall, IsPaid-append}
 use Rattle.blossom_match.proofs.RingLemmas.{made_kept, none_in}
+use Rattle.blossom_match.proofs.RowLemmas.{ring_near}
 use Rattle.blossom_match.proofs.TreeLemmas.{outer_members_base}
 
 pub leads_on : (way : Link) (ps : List Part) (to : ℕ) (p : Part) → Leads way ps to → count to p.nest.members ≡ 1
@@ -74,6 +76,10 @@ paid_inside : (d : TableValue) (h : ℕ → ℕ) (ps : List Part) → Each (IsFi
 paid_inside d h [] f = tt
 paid_inside d h (p ∷ ps) f = IsPaid-append d p.nest.tolls (tolls_in ps) f.0.nest.paid (paid_inside d h ps f.1)
 
+near_inside : (d : TableValue) (h : ℕ → ℕ) (ps : List Part) → Each (IsFirmPart d h) ps → Each (IsNear d) (rows_in ps)
+near_inside d h [] f = tt
+near_inside d h (p ∷ ps) f = each-append (IsNear d) (rows_of p.nest) (rows_in ps) f.0.nest.near (near_inside d h ps f.1)
+
 -- a member of the first part is in no other; a member of another is not in it
 local_case : (n : ℕ) (d : TableValue) (h : ℕ → ℕ) (x : ℕ) (p : Part) (ps : List Part) → count x p.nest.members ≡ n → AllKept (p ∷ ps)
     → IsSound d h p.nest →
@@ -97,13 +103,17 @@ local_in d h x (p ∷ ps) kept f once some =
 pub ring_sound : (d : TableValue) (h : ℕ → ℕ) (p : Part) (ps : List Part) → IsRing (p ∷ ps) → ((x : ℕ) → count x (members_in (p ∷ ps)) ≤ 1)
     → Each (IsFirmPart d h) (p ∷ ps) →
     ((x y : ℕ) → 1 ≤ count x (members_in (p ∷ ps)) → 1 ≤ count y (members_in (p ∷ ps)) → (h x + h y) % 2 ≡ 0)
-    → IsSound d h (nest_of (members_in (p ∷ ps)) 0 (p ∷ ps))
+    → IsSound d h (ring_of (p ∷ ps))
 ring_sound d h p ps ring once firm even = record {
-  kept = made_kept (members_in (p ∷ ps)) 0 (p ∷ ps) (refl, ring);
+  kept = made_kept (members_in (p ∷ ps)) 0 (ring_row (p ∷ ps)) (p ∷ ps) (refl, ring);
   paid = IsPaid-append d (ring_tolls (p ∷ ps)) (tolls_in (p ∷ ps))
       (ring_is_paid d h p ps ring.linked (each-map (IsFirmPart d h) (IsLocal h) (λ q f. f.nest.local) (p ∷ ps) firm)
       (each-map (IsFirmPart d h) (λ (k : Part). IsTight d h k.next) (λ q f. f.next) (p ∷ ps) firm))
       (paid_inside d h (p ∷ ps) firm);
+  near = (
+    ring_near d h p ps firm once (λ x some. local_in d h x (p ∷ ps) ring.kept firm (once x) some),
+    near_inside d h (p ∷ ps) firm,
+  );
   local = λ x some. omega (arith, local_in d h x (p ∷ ps) ring.kept firm (once x) some);
   even = even;
 }

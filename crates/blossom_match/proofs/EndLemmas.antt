@@ -8,7 +8,7 @@ use Rattle.blossom_match.specs.Lists.{Each, EachPair}
 use Rattle.blossom_match.specs.Bands.{Band, apart, count, hit, load}
 use Rattle.blossom_match.specs.Couples.{couple_members, couple_bands, IsJoined, IsSettled}
 use Rattle.blossom_match.specs.Sound.{IsFirmCouple}
-use Rattle.blossom_match.specs.Searches.{height_at, CanStep, IsSearch, IsStanding}
+use Rattle.blossom_match.specs.Searches.{height_at, CanStep, IsSearch, IsStanding, CanStepAt}
 use Rattle.blossom_match.specs.Bounds.{Bounds, CanSearch}
 use Rattle.blossom_match.specs.Rings.{single_of}
 use Rattle.blossom_match.specs.Widths.{CanWiden, Widens}
@@ -51,30 +51,30 @@ place_there t place couples free heights st =
     omega (arith, st.size, place_in t place (omega (arith, st.standing.places place, count-append place free (place ∷ []), hit_same place)))
 
 pub begins : (t : TableValue) (place : ℕ) (couples : List Couple) (free heights : List ℕ) (s : Search)
-    → Stands t couples (free ++ place ∷ []) heights → 1 ≤ length free → Begins place couples free heights s → CanSearch t s
+    → Stands t couples (free ++ place ∷ []) heights → 1 ≤ length free → Begins t place couples free heights s → CanSearch t s
 begins t place couples free heights s st some b =
     let high = λ (hs : List ℕ) (x : ℕ). get_or hs x 0 in
     let at = subst (λ (hs : List ℕ). IsStanding t (high hs) s.rest.items (s.free.items ++ place ∷ [])) (sym b.heights)
     (subst (λ (cs : List Couple). IsStanding t (high heights) cs (s.free.items ++ place ∷ [])) (sym b.rest)
     (subst (λ (xs : List ℕ). IsStanding t (high heights) couples (xs ++ place ∷ [])) (sym b.free) st.standing)) in
     record {
-      search = begun t (height_at s) place s at (subst (λ (hs : List ℕ). s.root ≡ single_of place (high hs place)) (sym b.heights) b.root)
+      search = begun t (height_at s) place s b.table at (subst (λ (hs : List ℕ). s.root ≡ single_of t place (high hs place)) (sym b.heights) b.root)
           b.tree;
       size = ap (λ (hs : List ℕ). length hs) b.heights ∙ st.size;
       some = omega (arith, some, ap (λ (xs : List ℕ). length xs) b.free);
     }
 
 pub can_step : (t : TableValue) (s wide : Search) (c : Change) → IsMetric t → CanSearch t s → Bounds t (height_at s) s c → Widens s c wide
-    → CanStep wide c.step
+    → CanStepAt t wide c.step
 can_step t s wide c m can bounds w =
     let on = w.search t m can bounds in
-    record { t = t; search = on.search; ready = on.ready; size = on.size }
+    record { search = on.search; ready = on.ready; size = on.size }
 
 pub can_widen_now : (t : TableValue) (s : Search) (c : Change) → IsMetric t → CanSearch t s → Bounds t (height_at s) s c → CanWiden s c
 can_widen_now t s c m can bounds = record { t = t; metric = m; can = can; bounds = bounds }
 
 pub goes : (t : TableValue) (s wide : Search) (c : Change) (next : Stepped) → IsMetric t → CanSearch t s → Bounds t (height_at s) s c
-    → Widens s c wide → Leads wide c.step next → Goes t s next
+    → Widens s c wide → Leads t wide c.step next → Goes t s next
 goes t s wide c (More r) m can bounds w l =
     let on = w.search t m can bounds in
     let free = l.free ∙ w.free in
@@ -92,7 +92,7 @@ goes t s wide c (More r) m can bounds w l =
 goes t s wide c (Done r) m can bounds w l =
     let on = w.search t m can bounds in
     let same = subst (λ (hs : List ℕ). IsStanding t (λ (x : ℕ). get_or hs x 0) r.couples.items r.free.items) (sym l.heights)
-    (l.standing t on.search on.ready) in (
+    l.standing in (
       record { standing = same; size = ap (λ (hs : List ℕ). length hs) l.heights ∙ on.size },
       omega
           (arith, l.fewer, ap (λ (xs : List ℕ). length xs) w.free),

@@ -3,8 +3,9 @@ use Rattle.std.proofs.Common.{◌≡◌, ℕ, ◌+◌, ◌%◌, ◌≤◌, ◌<�
 use Rattle.std.proofs.lemmas.List.{length-take, take-append-drop}
 use Rattle.blossom_match.specs.TableValue.{TableValue}
 use Rattle.blossom_match.specs.Lists.{Each}
-use Rattle.blossom_match.specs.Bands.{Adds, Band, NestValue, bands, count, height, IsPaid}
-use Rattle.blossom_match.specs.Rings.{members_in, bands_in, tolls_in, nest_of, ring_tolls, AllKept, FirstHolds, IsRing}
+use Rattle.blossom_match.specs.Bands.{Adds, Band, NestValue, bands, count, height, rows_of, IsPaid}
+use Rattle.blossom_match.specs.Rows.{IsNear}
+use Rattle.blossom_match.specs.Rings.{members_in, bands_in, tolls_in, nest_of, ring_tolls, rows_in, AllKept, FirstHolds, IsRing}
 use Rattle.blossom_match.specs.Couples.{IsJoined}
 use Rattle.blossom_match.specs.Sound.{IsFirm, IsFirmCouple, IsFirmPart, IsSound, IsTight}
 use Rattle.blossom_match.specs.Trees.{outer_members, inner_members, IsGrown}
@@ -48,34 +49,36 @@ links_tight d h p e [] t = (t.0, tt)
 links_tight d h p e (q ∷ qs) t = (t.0, links_tight d h q e qs t.1)
 
 firm_each : (d : TableValue) (h : ℕ → ℕ) (ps : List Part) → AllKept ps → AllLocal h ps → Each (λ (k : Part). IsTight d h k.next) ps
-    → IsPaid d (tolls_in ps) →
+    → IsPaid d (tolls_in ps) → Each (IsNear d) (rows_in ps) →
     ((x y : ℕ) → 1 ≤ count x (members_in ps) → 1 ≤ count y (members_in ps) → (h x + h y) % 2 ≡ 0) → Each (IsFirmPart d h) ps
-firm_each d h [] kept at t paid even = tt
-firm_each d h (p ∷ ps) kept at t paid even =
+firm_each d h [] kept at t paid near even = tt
+firm_each d h (p ∷ ps) kept at t paid near even =
     let c = λ (x : ℕ). count-append x p.nest.members (members_in ps) in (
       record {
         next = t.0;
         nest = record {
           kept = kept.0;
           paid = IsPaid-left d p.nest.tolls (tolls_in ps) paid;
+          near = each-left (IsNear d) (rows_of p.nest) (rows_in ps) near;
           local = at.0;
           even = λ x y hx hy. even x y (omega (arith, c x, hx)) (omega (arith, c y, hy));
         };
       },
       firm_each d h ps kept.1 at.1 t.1 (IsPaid-right d p.nest.tolls (tolls_in ps) paid)
+          (each-right (IsNear d) (rows_of p.nest) (rows_in ps) near)
           (λ x y hx hy. even x y (omega (arith, c x, hx)) (omega (arith, c y, hy))),
     )
 
 -- the parts of a sound ring without a width are firm
-parts_firm : (d : TableValue) (h : ℕ → ℕ) (ps : List Part) → IsRing ps → ((x : ℕ) → count x (members_in ps) ≤ 1)
-    → IsSound d h (nest_of (members_in ps) 0 ps) → Each (IsFirmPart d h) ps
-parts_firm d h [] ring once s = tt
-parts_firm d h (p ∷ ps) ring once s =
+parts_firm : (d : TableValue) (h : ℕ → ℕ) (near : List ℕ) (ps : List Part) → IsRing ps → ((x : ℕ) → count x (members_in ps) ≤ 1)
+    → IsSound d h (nest_of (members_in ps) 0 near ps) → Each (IsFirmPart d h) ps
+parts_firm d h near [] ring once s = tt
+parts_firm d h near (p ∷ ps) ring once s =
     let at = parts_local h (p ∷ ps) ring.kept once (λ x here. omega (arith, s.local x here)) in
     let tight = paid_is_tight d h p (ps ++ p ∷ []) ring.linked at.0 (AllLocal_on h ps p at.1 at.0)
     (IsPaid-left d (ring_tolls (p ∷ ps)) (tolls_in (p ∷ ps)) s.paid) in
     firm_each d h (p ∷ ps) ring.kept at (links_tight d h p p ps tight)
-    (IsPaid-right d (ring_tolls (p ∷ ps)) (tolls_in (p ∷ ps)) s.paid) s.even
+    (IsPaid-right d (ring_tolls (p ∷ ps)) (tolls_in (p ∷ ps)) s.paid) s.near.1 s.even
 
 drop_past : (xs ys : List Branch) → drop (length xs) (xs ++ ys) ≡ ys
 drop_past [] ys = refl
@@ -164,7 +167,7 @@ into_ring way (p ∷ ps) r first once = (
 
 pub can_lay : (root : NestValue) (old bs : List Branch) (b : Branch) (later : List Branch) (parts ring : List Part)
     → SplitAt root old bs b later →
-    b.inner ≡ nest_of (members_in parts) b.inner.width parts → GoesEvenly b.up.to b.pair.from parts ring
+    b.inner ≡ nest_of (members_in parts) b.inner.width b.inner.near parts → GoesEvenly b.up.to b.pair.from parts ring
     → CanLay root bs ring b.up b.pair b.outer
 can_lay root old bs b later parts ring s made g =
     let once = λ (x : ℕ). ap (λ (v : NestValue). count x v.members) made in
@@ -180,11 +183,12 @@ can_lay root old bs b later parts ring s made g =
 
 pub expanded : (root : NestValue) (old bs : List Branch) (b : Branch) (later mid new : List Branch) (parts ring : List Part)
     (was cs now : List Couple) → SplitAt root old bs b later →
-    IsRing parts → b.inner ≡ nest_of (members_in parts) b.inner.width parts → GoesEvenly b.up.to b.pair.from parts ring
+    IsRing parts → b.inner ≡ nest_of (members_in parts) b.inner.width b.inner.near parts → GoesEvenly b.up.to b.pair.from parts ring
     → Lays root bs ring b.up b.pair b.outer mid cs →
     now ≡ was ++ cs → new ≡ mid ++ later → Expands root old new was now
 expanded root old bs b later mid new parts ring was cs now s is made g l e f =
-    let flat : b.inner ≡ nest_of (members_in parts) 0 parts = made ∙ ap (λ (w : ℕ). nest_of (members_in parts) w parts) s.zero_wide in
+    let flat : b.inner ≡ nest_of (members_in parts) 0 b.inner.near parts =
+    made ∙ ap (λ (w : ℕ). nest_of (members_in parts) w b.inner.near parts) s.zero_wide in
     let inside = λ (x : ℕ). ap (λ (v : NestValue). count x v.members) made in
     let tree = bs ++ b ∷ [] in
     let band : Band = record { members = members_in parts; width = 0 } in
@@ -237,6 +241,6 @@ expanded root old bs b later mid new parts ring was cs now s is made g l e f =
           let k = each-last (IsFirm d h) bs b front in
           let sound = subst (λ (v : NestValue). IsSound d h v) flat k.inner in
           let r = l.firm d h (each-left (IsFirm d h) bs (b ∷ []) front) k.up k.pair
-          (g.firm d h sy (parts_firm d h parts is (λ x. omega (arith, inside x, s.once x)) sound)) k.outer in
+          (g.firm d h sy (parts_firm d h b.inner.near parts is (λ x. omega (arith, inside x, s.once x)) sound)) k.outer in
           (each-append (IsFirm d h) mid later r.0 (each-right (IsFirm d h) tree later t), each-append (IsFirmCouple d h) was cs c r.1);
     })))

@@ -1,15 +1,17 @@
 -- Free places and their prices: a search begins at one, and ends at another.
 use Rattle.std.proofs.Common.{◌≡◌, ◌≢◌, ℕ, ◌+◌, ◌*◌, ◌≤◌, ◌<◌, suc, zero, List, [], ◌∷◌, ◌++◌, length, Bool, true, false, cond, eqb, arith, refl, sym, ap, subst, ◌∙◌}
 use Rattle.std.proofs.lemmas.Bool.{eqb-true}
+use Rattle.blossom_match.proofs.RowLemmas.{single_near}
+use Rattle.blossom_match.specs.Rows.{single_row}
 use Rattle.blossom_match.specs.Lists.{Each}
 use Rattle.blossom_match.specs.Bands.{Band, NestValue, NoneHold, apart, bands, count, height, hit, load}
 use Rattle.blossom_match.specs.Rings.{single_of}
 use Rattle.blossom_match.specs.Couples.{couple_members, couple_bands}
 use Rattle.blossom_match.specs.Sound.{IsFirm, IsFirmCouple, IsSound}
 use Rattle.blossom_match.specs.Trees.{branch_bands, inner_members, outer_members, Augments, IsGrown}
-use Rattle.blossom_match.specs.Searches.{height_at, height_of, outers, Ends, IsSearch, IsStanding}
+use Rattle.blossom_match.specs.Searches.{height_at, height_of, outers, Ends, IsSearch, IsStanding, CanStepAt}
 use Rattle.blossom_match.specs.TableValue.{TableValue}
-use Rattle.blossom_match.specs.Tables.{entry}
+use Rattle.blossom_match.specs.Tables.{entry, IsTable}
 use Rattle.blossom_match.specs.declared.nest.Link.{Link}
 use Rattle.blossom_match.specs.declared.couples.Couple.{Couple}
 use Rattle.blossom_match.specs.declared.branches.Branch.{Branch}
@@ -18,7 +20,7 @@ use Rattle.blossom_match.specs.declared.search.Standing.{Standing}
 use Rattle.blossom_match.specs.declared.search.Step.TheVariants.{Meet}
 use Rattle.blossom_match.proofs.SumLemmas.{count-append, height-append, hit_is, hit_same, load-append, load-comm, load_alone, low, none_hold, NoneHold-append}
 use Rattle.blossom_match.proofs.RingLemmas.{made_kept}
-use Rattle.blossom_match.proofs.SearchLemmas.{is_one, low_branches, low_couples}
+use Rattle.blossom_match.proofs.SearchLemmas.{is_one, low_branches, low_couples, place_in}
 use Rattle.blossom_match.proofs.TableLemmas.{entry-comm}
 use Rattle.blossom_match.proofs.TreeLemmas.{base_in}
 
@@ -89,13 +91,14 @@ pub under : (t : TableValue) (h : ℕ → ℕ) (s : Search) (x : ℕ) → IsSear
 under t h s x i = under_case (count x s.free.items) t h s x i refl
 
 -- one place with its height is a sound set
-pub single_sound : (d : TableValue) (h : ℕ → ℕ) (x : ℕ) → IsSound d h (single_of x (h x))
-single_sound d h x =
+pub single_sound : (d : TableValue) (h : ℕ → ℕ) (x : ℕ) → IsTable d → x < d.places → IsSound d h (single_of d x (h x))
+single_sound d h x is low =
     let at = λ (y : ℕ) (here : 1 ≤ hit y x + 0). hit_is y x (omega (arith, here)) in
     record {
-      kept = made_kept (x ∷ []) (h x) [] refl;
+      kept = made_kept (x ∷ []) (h x) (single_row d x) [] refl;
       paid = tt;
-      local = λ y here. subst (λ (z : ℕ). height z (bands (single_of x (h x))) ≡ h z) (sym (at y here))
+      near = (single_near d x is low, tt);
+      local = λ y here. subst (λ (z : ℕ). height z (bands (single_of d x (h x))) ≡ h z) (sym (at y here))
           (omega (arith, ap (λ (k : ℕ). h x * k) (hit_same x)));
       even = λ y z hy hz. omega (arith, ap h (at y hy), ap h (at z hz));
     }
@@ -109,9 +112,9 @@ load_case false true a b f w old top e g ne base left right = omega (arith, righ
 load_case false false a b f w old top e g ne base left right = omega (arith, base)
 
 -- the load with the set of one place more
-single_load : (a b f w old top : ℕ) → a ≢ b → old ≤ top → (a ≡ f → old + w ≤ top) → (b ≡ f → old + w ≤ top)
-    → old + load a b (bands (single_of f w)) ≤ top
-single_load a b f w old top ne base left right = omega (arith, load_case (eqb a f) (eqb b f) a b f w old top refl refl ne base left right)
+single_load : (t : TableValue) (a b f w old top : ℕ) → a ≢ b → old ≤ top → (a ≡ f → old + w ≤ top) → (b ≡ f → old + w ≤ top)
+    → old + load a b (bands (single_of t f w)) ≤ top
+single_load t a b f w old top ne base left right = omega (arith, load_case (eqb a f) (eqb b f) a b f w old top refl refl ne base left right)
 
 tall_case : (p : Bool) (x f w top old left was : ℕ) → eqb x f ≡ p → left + cond p 1 0 ≡ was → left ≡ 0 → (was ≡ 0 → top ≡ old)
     → (x ≡ f → (top ≡ w) × (old ≡ 0)) →
@@ -122,9 +125,9 @@ tall_case true x f w top old left was e n none tall same =
 tall_case false x f w top old left was e n none tall same = omega (arith, tall (omega (arith, n, none)))
 
 -- the height with the set of one place more
-single_tall : (x f w top old left was : ℕ) → left + hit x f ≡ was → left ≡ 0 → (was ≡ 0 → top ≡ old) → (x ≡ f → (top ≡ w) × (old ≡ 0)) → top
-    ≡ old + height x (bands (single_of f w))
-single_tall x f w top old left was n none tall same = omega (arith, tall_case (eqb x f) x f w top old left was refl n none tall same)
+single_tall : (t : TableValue) (x f w top old left was : ℕ) → left + hit x f ≡ was → left ≡ 0 → (was ≡ 0 → top ≡ old) → (x ≡ f → (top ≡ w) × (old ≡ 0)) → top
+    ≡ old + height x (bands (single_of t f w))
+single_tall t x f w top old left was n none tall same = omega (arith, tall_case (eqb x f) x f w top old left was refl n none tall same)
 
 -- a free place and any other have room in a search
 load_room : (t : TableValue) (h : ℕ → ℕ) (s : Search) (x f : ℕ) → IsSearch t h s → x < t.places → 1 ≤ count f s.free.items → x ≢ f
@@ -132,17 +135,17 @@ load_room : (t : TableValue) (h : ℕ → ℕ) (s : Search) (x f : ℕ) → IsSe
 load_room t h s x f i lx hf ne = omega (arith, load_free t h s x f i hf, under t h s x i, i.room x f lx hf ne)
 
 met_standing : (t : TableValue) (h : ℕ → ℕ) (link : Link) (s : Search) (r : Standing) (m : NestValue)
-    → Augments s.root m link s.tree.items s.rest.items r.couples.items → m ≡ single_of link.to (h link.to) →
+    → Augments s.root m link s.tree.items s.rest.items r.couples.items → IsTable t → m ≡ single_of t link.to (h link.to) →
     ((x : ℕ) → count x r.free.items + hit x link.to ≡ count x s.free.items) → IsSearch t h s → 1 ≤ count link.to s.free.items
     → 2 * entry t link.from link.to ≡ h link.from + h link.to →
     IsStanding t h r.couples.items r.free.items
-met_standing t h link s r m aug e counts i here tight =
+met_standing t h link s r m aug is e counts i here tight =
     let f = link.to in
     let at = λ (F : List Band → ℕ). ap (λ (v : NestValue). F (bands v)) e in
     record {
       tall = λ x none. omega (
         arith,
-        single_tall x f (h f) (h x) (height_of s x) (count x r.free.items) (count x s.free.items) (counts x) none (i.tall x)
+        single_tall t x f (h f) (h x) (height_of s x) (count x r.free.items) (count x s.free.items) (counts x) none (i.tall x)
             (λ g. (ap h g, ap (height_of s) g ∙ low_free t h s f i here)),
         aug.sums (height x) (height-append x),
         at (height x),
@@ -150,11 +153,11 @@ met_standing t h link s r m aug e counts i here tight =
       room = λ a g la hg ne. i.room a g la (omega (arith, hg, counts g)) ne;
       places = λ x. omega (arith, i.places x, aug.places x, ap (λ (v : NestValue). count x v.members) e, counts x);
       joined = aug.joined i.joined;
-      firm = aug.firm t h tight i.root (subst (λ (v : NestValue). IsSound t h v) (sym e) (single_sound t h f))
+      firm = aug.firm t h tight i.root (subst (λ (v : NestValue). IsSound t h v) (sym e) (single_sound t h f is (place_in t f (omega (arith, i.places f, here)))))
           i.tree i.rest;
       loads = λ a b la lb ne. omega (
         arith,
-        single_load a b f (h f) (load_of s a b) (2 * entry t a b) ne (i.loads a b la lb ne)
+        single_load t a b f (h f) (load_of s a b) (2 * entry t a b) ne (i.loads a b la lb ne)
             (λ g. omega (
               arith,
               load_of-comm s a b,
@@ -167,12 +170,12 @@ met_standing t h link s r m aug e counts i here tight =
       );
     }
 
-pub met : (link : Link) (s : Search) (r : Standing) (m : NestValue) → Augments s.root m link s.tree.items s.rest.items r.couples.items → m
-    ≡ single_of link.to (height_at s link.to) →
+pub met : (t : TableValue) (link : Link) (s : Search) (r : Standing) (m : NestValue) → CanStepAt t s (Meet link)
+    → Augments s.root m link s.tree.items s.rest.items r.couples.items → IsTable t → m ≡ single_of t link.to (height_at s link.to) →
     ((x : ℕ) → count x r.free.items + hit x link.to ≡ count x s.free.items) → length r.free.items + 1 ≡ length s.free.items
-    → r.heights.items ≡ s.heights.items → Ends s (Meet link) r
-met link s r m aug e counts fewer same = record {
-  standing = λ t i ready. met_standing t (height_at s) link s r m aug e counts i ready.1 ready.2;
+    → r.heights.items ≡ s.heights.items → Ends t s (Meet link) r
+met t link s r m can aug is e counts fewer same = record {
+  standing = met_standing t (height_at s) link s r m aug is e counts can.search can.ready.1 can.ready.2;
   fewer = fewer;
   heights = same;
 }
@@ -197,9 +200,9 @@ standing_room t h cs free x f i lx hf ne =
     )
 
 -- a search from a free place
-pub begun : (t : TableValue) (h : ℕ → ℕ) (place : ℕ) (s : Search) → IsStanding t h s.rest.items (s.free.items ++ place ∷ []) → s.root
-    ≡ single_of place (h place) → s.tree.items ≡ [] → IsSearch t h s
-begun t h place s i e f =
+pub begun : (t : TableValue) (h : ℕ → ℕ) (place : ℕ) (s : Search) → IsTable t
+    → IsStanding t h s.rest.items (s.free.items ++ place ∷ []) → s.root ≡ single_of t place (h place) → s.tree.items ≡ [] → IsSearch t h s
+begun t h place s is i e f =
     let cs = s.rest.items in
     let at = λ (x : ℕ). count-append x s.free.items (place ∷ []) in
     let here : 1 ≤ count place (s.free.items ++ place ∷ []) = omega (arith, at place, hit_same place) in
@@ -208,7 +211,7 @@ begun t h place s i e f =
     record {
       tall = λ x none. omega (
         arith,
-        single_tall x place (h place) (h x) (height x (couple_bands cs)) (count x s.free.items) (count x (s.free.items ++ place ∷ []))
+        single_tall t x place (h place) (h x) (height x (couple_bands cs)) (count x s.free.items) (count x (s.free.items ++ place ∷ []))
             (omega (arith, at x)) none (i.tall x)
             (λ g. (ap h g, ap (λ (z : ℕ). height z (couple_bands cs)) g ∙ low_standing t h cs (s.free.items ++ place ∷ []) place i here)),
         sums (height x),
@@ -226,12 +229,12 @@ begun t h place s i e f =
       );
       grown = subst (λ (bs : List Branch). IsGrown s.root.members bs) (sym f) tt;
       joined = i.joined;
-      root = subst (λ (v : NestValue). IsSound t h v) (sym e) (single_sound t h place);
+      root = subst (λ (v : NestValue). IsSound t h v) (sym e) (single_sound t h place is (place_in t place (omega (arith, i.places place, here))));
       tree = subst (λ (bs : List Branch). Each (IsFirm t h) bs) (sym f) tt;
       rest = i.firm;
       loads = λ a b la lb ne. omega (
         arith,
-        single_load a b place (h place) (load a b (couple_bands cs)) (2 * entry t a b) ne (i.loads a b la lb ne)
+        single_load t a b place (h place) (load a b (couple_bands cs)) (2 * entry t a b) ne (i.loads a b la lb ne)
             (λ g. omega (
               arith,
               load-comm a b (couple_bands cs),

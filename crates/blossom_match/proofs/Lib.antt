@@ -7,6 +7,7 @@ pub mod OpenLemmas
 pub mod MoatLemmas
 pub mod LeastLemmas
 mod LimitFacts
+mod RowFacts
 pub mod TakenLemmas
 pub mod TreeLemmas
 pub mod AugmentLemmas
@@ -21,12 +22,12 @@ pub mod SearchLemmas
 pub mod FreeLemmas
 pub mod RaisedLemmas
 pub mod ScanLemmas
+pub mod RowLemmas
 pub mod ReachLemmas
 pub mod AimLemmas
 pub mod BoundLemmas
 pub mod WidthLemmas
 pub mod LoweredLemmas
-pub mod RingReachLemmas
 pub mod EndLemmas
 pub mod WideningLemmas
 pub mod PriceLemmas

@@ -1,5 +1,5 @@
 -- Facts of each item of joined lists.
-use Rattle.std.proofs.Common.{◌≡◌, ℕ, suc, zero, List, [], ◌∷◌, ◌++◌, take, drop, length, ◌+◌, ◌<◌, get_or, drop-cons, add-one, sym, ap, subst, ◌∙◌}
+use Rattle.std.proofs.Common.{◌≡◌, ℕ, suc, zero, List, [], ◌∷◌, ◌++◌, take, drop, length, ◌+◌, ◌<◌, get_or, drop-cons, add-one, arith, refl, sym, ap, subst, ◌∙◌}
 use Rattle.std.proofs.Math.Seq.{take-append_seam}
 use Rattle.blossom_match.specs.Lists.{Each, EachPair}
 
@@ -43,6 +43,27 @@ pairs-append R (x ∷ xs) ys p q across = (each-append (R x) xs ys p.0 across.0,
 -- the item at the index comes first among those that are left
 pub drop_here : {X : Type 0} (xs : List X) (i : ℕ) (x : X) → i < length xs → x ≡ get_or xs i x → drop i xs ≡ x ∷ drop (i + 1) xs
 drop_here {X} xs i x low is = rw add-one (drop-cons xs i x low ∙ ap (λ (y : X). y ∷ drop (suc i) xs) (sym is))
+
+-- one item more
+take_suc : {X : Type 0} (xs : List X) (i : ℕ) (x : X) → i < length xs → x ≡ get_or xs i x → take (suc i) xs ≡ take i xs ++ x ∷ []
+take_suc [] i x low is = absurd (omega arith)
+take_suc {X} (y ∷ ys) zero x low is = ap (λ (z : X). z ∷ []) (sym is)
+take_suc {X} (y ∷ ys) (suc i) x low is = ap (λ (zs : List X). y ∷ zs) (take_suc ys i x (omega arith) is)
+
+pub take_here : {X : Type 0} (xs : List X) (i : ℕ) (x : X) → i < length xs → x ≡ get_or xs i x → take (i + 1) xs ≡ take i xs ++ x ∷ []
+take_here xs i x low is = rw add-one (take_suc xs i x low is)
+
+number_suc : (xs : List ℕ) (i : ℕ) → i < length xs → take (suc i) xs ≡ take i xs ++ get_or xs i 0 ∷ []
+number_suc [] i low = absurd (omega arith)
+number_suc (y ∷ ys) zero low = refl
+number_suc (y ∷ ys) (suc i) low = ap (λ (zs : List ℕ). y ∷ zs) (number_suc ys i (omega arith))
+
+pub number_here : (xs : List ℕ) (i : ℕ) → i < length xs → take (i + 1) xs ≡ take i xs ++ get_or xs i 0 ∷ []
+number_here xs i low = rw add-one (number_suc xs i low)
+
+-- what holds of each holds of the one at the index
+pub each_here : {X : Type 0} (P : X → Type 0) (xs : List X) (i : ℕ) (x : X) → Each P xs → i < length xs → x ≡ get_or xs i x → P x
+each_here {X} P xs i x p low is = (subst (λ (ks : List X). Each P ks) (drop_here xs i x low is) (each-drop P i xs p)).0
 
 -- what a vector has behind a call on its slice
 pub written : (len : ℕ) (new old : List ℕ) → length new ≡ len → take len (new ++ drop (length new) old) ≡ new

@@ -1,38 +1,23 @@
 -- What the outer places leave after a change of widths.
-use Rattle.std.proofs.Common.{◌≡◌, ℕ, ◌+◌, ◌-◌, ◌*◌, ◌≤◌, ◌<◌, ◌⊎◌, inl, inr, List, length, get_or, Bool, true, false, cond, ltb, arith, refl, sym, ap, ◌∙◌}
+use Rattle.std.proofs.Common.{◌≡◌, ℕ, ◌+◌, ◌-◌, ◌*◌, ◌≤◌, ◌<◌, ◌⊎◌, inl, inr, List, length, get_or, Bool, true, false, cond, ltb, arith, refl, sym, ap, subst, ◌∙◌}
 use Rattle.std.proofs.lemmas.Bool.{ltb-true, ltb-false}
 use Rattle.blossom_match.specs.Bands.{NestValue, count}
 use Rattle.blossom_match.specs.Trees.{around, both, inner_members, outer_members}
-use Rattle.blossom_match.specs.Searches.{height_at, outers, Advances, CanStep, IsSearch}
+use Rattle.blossom_match.specs.Searches.{height_at, outers, Advances, CanStep, CanStepAt, HangsOn, IsSearch}
 use Rattle.blossom_match.specs.Bounds.{holding}
 use Rattle.blossom_match.specs.Widths.{Changes}
-use Rattle.blossom_match.specs.Reaches.{left_by, lowered, CanReach, IsReached, SearchReaches}
+use Rattle.blossom_match.specs.Rows.{lowered}
+use Rattle.blossom_match.specs.Reaches.{left_by, CanTakeAll, IsReachable, IsReached, Reaches, ReachesMore, ReachesOuters, SearchReaches}
 use Rattle.blossom_match.specs.TableValue.{TableValue}
 use Rattle.blossom_match.specs.Tables.{IsTable}
 use Rattle.blossom_match.specs.declared.table.TheConstants.{MAX_DISTANCE}
-use Rattle.blossom_match.specs.declared.reach.TheConstants.{FAR}
+use Rattle.blossom_match.specs.declared.table.TheConstants.{FAR}
 use Rattle.blossom_match.specs.declared.branches.Branch.{Branch}
 use Rattle.blossom_match.specs.declared.search.Search.{Search}
 use Rattle.blossom_match.specs.declared.search.Step.{Step}
 use Rattle.blossom_match.proofs.SearchLemmas.{is_one, place_in}
 use Rattle.blossom_match.proofs.WidthLemmas.{around_same_all, outer_same}
-
-near_case : (p : Bool) (by room : ℕ) → ltb room FAR ≡ p → room < FAR → cond p (room - by) room ≡ room - by
-near_case true by room e near = refl
-near_case false by room e near = absurd (omega (arith, ltb-false room FAR e, near))
-
-lowered_near : (by room : ℕ) → room < FAR → lowered by room ≡ room - by
-lowered_near by room near = near_case (ltb room FAR) by room refl near
-
-far_case : (p : Bool) (by room : ℕ) → ltb room FAR ≡ p → room ≡ FAR → cond p (room - by) room ≡ FAR
-far_case true by room e far = absurd (omega (arith, ltb-true room FAR e, far))
-far_case false by room e far = far
-
-lowered_far : (by room : ℕ) → room ≡ FAR → lowered by room ≡ FAR
-lowered_far by room far = far_case (ltb room FAR) by room refl far
-
-far_is : FAR ≡ 2 * MAX_DISTANCE + 1
-far_is = refl
+use Rattle.blossom_match.proofs.RowLemmas.{far_is, lowered_far, lowered_less, lowered_near}
 
 -- the same places, the same sets, and heights that rise
 record IsRaised (t : TableValue) (by : ℕ) (s r : Search) : Type 0 where
@@ -112,6 +97,7 @@ still_reaches t by s r old new is i ch reaches size at =
     λ x lx. at x (omega (arith, lx, size, reaches.size)) in
     record {
       size = size ∙ reaches.size;
+      short = λ x lx. omega (arith, cell x lx, lowered_less by (get_or old x 0), reaches.short x lx);
       least = λ a x ha lx apart.
           let here : 1 ≤ count a (outers s) = omega (arith, ha, k.outs a) in
           least_lower t by s r a x (get_or old x 0) (get_or new x 0) k here lx
@@ -119,13 +105,38 @@ still_reaches t by s r old new is i ch reaches size at =
       is = λ x lx. is_lower t by s r x (get_or old x 0) (get_or new x 0) k lx (cell x lx) (reaches.is x lx);
     }
 
--- the step's search can be reached anew
-pub can_reach : (t : TableValue) (s r : Search) (st : Step) → CanStep s st → length s.heights.items ≡ t.places → Advances s st r
-    → CanReach t r.heights.items r.root r.tree.items
-can_reach t s r st k size adv =
-    let i = adv.search k.t (height_at s) k.search k.ready in
-    record {
-      cells = ap (λ (hs : List ℕ). length hs) adv.heights ∙ size;
-      within = λ x here. omega (arith, place_in k.t x (omega (arith, i.places x, here)), k.size, size);
-      once = λ x. omega (arith, i.places x, is_one k.t x);
-    }
+-- what the sets of a search make of its heights
+pub searched : (t : TableValue) (s : Search) → IsSearch t (height_at s) s → CanTakeAll t s
+searched t s i = record {
+  once = λ x. omega (arith, i.places x, is_one t x);
+  sound = i.root;
+  firm = i.tree;
+}
+
+-- the search that the step leads to
+can_take_at : (t : TableValue) (s r : Search) (st now : Step) → st ≡ now → CanStepAt t s st → Advances s now r → CanTakeAll t r
+can_take_at t s r st now e k adv =
+    let on = subst (λ (st : Step). CanStepAt t s st) e k in
+    searched t r (subst (λ (hs : List ℕ). IsSearch t (λ (x : ℕ). get_or hs x 0) r) (sym adv.heights)
+    (adv.search t (height_at s) on.search on.ready))
+
+pub is_reachable : (t : TableValue) (s r : Search) (st now : Step) (reach : List ℕ) → st ≡ now → CanStepAt t s st → Advances s now r
+    → SearchReaches t s reach → IsReachable r reach
+is_reachable t s r st now reach e k adv reaches = record { t = t; can = can_take_at t s r st now e k adv; size = reaches.size }
+
+-- its outer sets are taken in anew
+pub anew : (t : TableValue) (s r : Search) (st now : Step) (old new : List ℕ) → st ≡ now → CanStepAt t s st → Advances s now r
+    → SearchReaches t s old → length new ≡ length old → ReachesOuters r.root r.tree.items new → SearchReaches t r new
+anew t s r st now old new e k adv reaches size all = all t r.heights.items (can_take_at t s r st now e k adv) (size ∙ reaches.size)
+
+-- its newest outer set is taken in
+pub one_more : (t : TableValue) (s r : Search) (st now : Step) (old new : List ℕ) → st ≡ now → CanStepAt t s st → Advances s now r
+    → HangsOn s r → SearchReaches t s old → ReachesMore r old new → SearchReaches t r new
+one_more t s r st now old new e k adv hangs reaches more =
+    more t s.tree.items hangs.branch (can_take_at t s r st now e k adv) hangs.tree
+    (subst (λ (v : NestValue). Reaches t r.heights.items v s.tree.items old) (sym hangs.root)
+    (subst (λ (hs : List ℕ). Reaches t hs s.root s.tree.items old) (sym adv.heights) reaches))
+
+-- the step can be taken
+pub steps_at : (t : TableValue) (s : Search) (st now : Step) → st ≡ now → CanStepAt t s st → CanStep s now
+steps_at t s st now e k = record { t = t; can = subst (λ (k : Step). CanStepAt t s k) e k }

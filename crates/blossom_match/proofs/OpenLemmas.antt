@@ -111,8 +111,8 @@ single_count left x (m ∷ []) one there =
     subst (λ (k : ℕ). cond (eqb x m) 1 0 + 0 ≡ hit x k) (sym e) (omega arith)
 single_count left x (m ∷ n ∷ ms) one there = absurd (omega arith)
 
-opens_single : (left w : ℕ) (ms : List ℕ) → length ms ≡ 1 → count left ms ≡ 1 → OpensAt left (nest_of ms w []) ms w None []
-opens_single left w ms one there = record {
+opens_single : (left w : ℕ) (ms near : List ℕ) → length ms ≡ 1 → count left ms ≡ 1 → OpensAt left (nest_of ms w near []) ms w None []
+opens_single left w ms near one there = record {
   same = refl;
   wide = refl;
   odd = omega (arith, one);
@@ -190,10 +190,10 @@ coupled_some (p ∷ q ∷ ps) two kept =
     let some = some_member p.nest.members (omega (arith, kept.0.odd)) in
     (some.0, omega (arith, some.1, count-append some.0 p.nest.members (q.nest.members ++ couple_members (couples_along ps))))
 
-opens_turned : (left w : ℕ) (ms : List ℕ) (old : List Part) (p : Part) (ps : List Part) (i : ℕ) → p ∷ ps ≡ drop i old ++ take i old →
-    ms ≡ members_in old → IsRing old → Kept (nest_of ms w old) → count left ms ≡ 1 → 1 ≤ count left p.nest.members →
-    OpensAt left (nest_of ms w old) ms w (Some p.nest) (couples_along ps)
-opens_turned left w ms old p ps i e same ring kept there first =
+opens_turned : (left w : ℕ) (ms near : List ℕ) (old : List Part) (p : Part) (ps : List Part) (i : ℕ) → p ∷ ps ≡ drop i old ++ take i old →
+    ms ≡ members_in old → IsRing old → Kept (nest_of ms w near old) → count left ms ≡ 1 → 1 ≤ count left p.nest.members →
+    OpensAt left (nest_of ms w near old) ms w (Some p.nest) (couples_along ps)
+opens_turned left w ms near old p ps i e same ring kept there first =
     let turned : IsRing (p ∷ ps) = subst IsRing (sym e) (turned_is_ring old i ring) in
     let even : length ps % 2 ≡ 0 = omega (arith, turned.odd) in
     let at = λ (x : ℕ). ap (λ (xs : List ℕ). count x xs) same in
@@ -223,26 +223,26 @@ made_ring : (ms : List ℕ) (ps : List Part) → 0 < length ps → IsMade ms ps 
 made_ring ms [] some made = absurd (omega arith)
 made_ring ms (p ∷ ps) some made = made
 
-pub opens_ring : (left w : ℕ) (s : NestValue) (ms : List ℕ) (old ring : List Part) (p : Part) (ps : List Part) (cs : List Couple) →
-    s ≡ nest_of ms w old → IsMade ms old → count left s.members ≡ 1 → IsTurned old ring → FirstHolds left ring →
+pub opens_ring : (left w : ℕ) (s : NestValue) (ms near : List ℕ) (old ring : List Part) (p : Part) (ps : List Part) (cs : List Couple) →
+    s ≡ nest_of ms w near old → IsMade ms old → count left s.members ≡ 1 → IsTurned old ring → FirstHolds left ring →
     ring ≡ p ∷ ps → cs ≡ couples_along ps → OpensAt left s ms w (Some p.nest) cs
-opens_ring left w s ms old ring p ps cs is made there turned first e f =
+opens_ring left w s ms near old ring p ps cs is made there turned first e f =
     let all = made_ring ms old (omega (arith, turned.within)) made in
     let here : count left ms ≡ 1 = subst (λ (u : NestValue). count left u.members ≡ 1) is there in
-    let done = opens_turned left w ms old p ps turned.at (sym e ∙ turned.is) all.0 all.1 (made_kept ms w old made) here
+    let done = opens_turned left w ms near old p ps turned.at (sym e ∙ turned.is) all.0 all.1 (made_kept ms w near old made) here
     (subst (FirstHolds left) e first) in
     let moved = subst (λ (u : NestValue). OpensAt left u ms w (Some p.nest) (couples_along ps)) (sym is) done in
     subst (λ (ks : List Couple). OpensAt left s ms w (Some p.nest) ks) (sym f) moved
 
-none_of : (left w : ℕ) (ms : List ℕ) (ps : List Part) → length ps ≡ 0 → IsMade ms ps → count left ms ≡ 1
-    → OpensAt left (nest_of ms w ps) ms w None []
-none_of left w ms [] none made there = opens_single left w ms made there
-none_of left w ms (p ∷ ps) none made there = absurd (omega arith)
+none_of : (left w : ℕ) (ms near : List ℕ) (ps : List Part) → length ps ≡ 0 → IsMade ms ps → count left ms ≡ 1
+    → OpensAt left (nest_of ms w near ps) ms w None []
+none_of left w ms near [] none made there = opens_single left w ms near made there
+none_of left w ms near (p ∷ ps) none made there = absurd (omega arith)
 
-pub opens_place : (left w : ℕ) (s : NestValue) (ms : List ℕ) (ps : List Part) (cs : List Couple) → s ≡ nest_of ms w ps → IsMade ms ps
+pub opens_place : (left w : ℕ) (s : NestValue) (ms near : List ℕ) (ps : List Part) (cs : List Couple) → s ≡ nest_of ms w near ps → IsMade ms ps
     → count left s.members ≡ 1 →
     length ps ≡ 0 → cs ≡ [] → OpensAt left s ms w None cs
-opens_place left w s ms ps cs is made there none f =
+opens_place left w s ms near ps cs is made there none f =
     let here : count left ms ≡ 1 = subst (λ (u : NestValue). count left u.members ≡ 1) is there in
-    let moved = subst (λ (u : NestValue). OpensAt left u ms w None []) (sym is) (none_of left w ms ps none made here) in
+    let moved = subst (λ (u : NestValue). OpensAt left u ms w None []) (sym is) (none_of left w ms near ps none made here) in
     subst (λ (ks : List Couple). OpensAt left s ms w None ks) (sym f) moved

@@ -5,7 +5,7 @@ use Rattle.std.proofs.lemmas.Bool.{eqb-true, eqb-false, ltb-false}
 use Rattle.std.proofs.lemmas.List.{get_or-set_other, get_or-set_same}
 use Rattle.blossom_match.specs.Bands.{count, hit}
 use Rattle.blossom_match.specs.Trees.{outer_members}
-use Rattle.blossom_match.specs.Searches.{height_at, is_place, CanStep, Ends, IsReady, IsSearch, IsStanding}
+use Rattle.blossom_match.specs.Searches.{height_at, is_place, CanStep, Ends, IsReady, IsSearch, IsStanding, CanStepAt}
 use Rattle.blossom_match.specs.Phases.{Begins, Stands}
 use Rattle.blossom_match.specs.Prices.{AreHalves, CanPair, FindsTight, LeavesRoom, Lies, Pairs}
 use Rattle.blossom_match.specs.TableValue.{TableValue}
@@ -146,7 +146,7 @@ record CanMeet (t : TableValue) (place other : ℕ) (s : Search) : Type 0 where
 
 can_meet : (t : TableValue) (place other : ℕ) (couples : List Couple) (free left heights : List ℕ) (s : Search)
     → ((x : ℕ) → count x left + hit x place ≡ count x free) →
-    Stands t couples free heights → FindsTight t heights free place other → Begins place couples left heights s → CanMeet t place other s
+    Stands t couples free heights → FindsTight t heights free place other → Begins t place couples left heights s → CanMeet t place other s
 can_meet t place other couples free left heights s counts st f b =
     let here : 1 ≤ count other left = omega (arith, counts other, f.here, no_hit other place (λ g. f.pair.differ (sym g))) in
     let at = reordered t couples free (left ++ place ∷ []) heights (λ x. omega (arith, counts x, count-append x left (place ∷ []))) st in
@@ -167,24 +167,24 @@ can_meet t place other couples free left heights s counts st f b =
       size = can.size;
     }
 
-pub pair_step : (place other : ℕ) (from : Standing) (left : List ℕ) (s : Search) → CanPair place other from
+pub pair_step : (t : TableValue) (place other : ℕ) (from : Standing) (left : List ℕ) (s : Search) → CanPair t place other from
     → ((x : ℕ) → count x left + hit x place ≡ count x from.free.items) →
-    Begins place from.couples.items left from.heights.items s → CanStep s (Meet (record { from = place; to = other }))
-pair_step place other from left s can counts b =
-    let m = can_meet can.t place other from.couples.items from.free.items left from.heights.items s counts can.stands can.found b in
-    record { t = can.t; search = m.search; ready = m.ready; size = m.size }
+    Begins t place from.couples.items left from.heights.items s → CanStepAt t s (Meet (record { from = place; to = other }))
+pair_step t place other from left s can counts b =
+    let m = can_meet t place other from.couples.items from.free.items left from.heights.items s counts can.stands can.found b in
+    record { search = m.search; ready = m.ready; size = m.size }
 
-pub paired : (place other : ℕ) (from : Standing) (left : List ℕ) (s : Search) (r : Standing)
+pub paired : (t : TableValue) (place other : ℕ) (from : Standing) (left : List ℕ) (s : Search) (r : Standing) → CanPair t place other from
     → ((x : ℕ) → count x left + hit x place ≡ count x from.free.items) → length left + 1 ≡ length from.free.items →
-    Begins place from.couples.items left from.heights.items s → Ends s (Meet (record { from = place; to = other })) r
-    → Pairs place other from r
-paired place other from left s r counts fewer b e = record {
-  stands = λ t st f.
-      let can = can_meet t place other from.couples.items from.free.items left from.heights.items s counts st f b in
+    Begins t place from.couples.items left from.heights.items s → Ends t s (Meet (record { from = place; to = other })) r
+    → Pairs t from r
+paired t place other from left s r k counts fewer b e = record {
+  stands =
+      let can = can_meet t place other from.couples.items from.free.items left from.heights.items s counts k.stands k.found b in
       let same : r.heights.items ≡ s.heights.items = e.heights in
       record {
         standing = subst (λ (hs : List ℕ). IsStanding t (λ (x : ℕ). get_or hs x 0) r.couples.items r.free.items) (sym same)
-            (e.standing t can.search can.ready);
+            e.standing;
         size = ap (λ (hs : List ℕ). length hs) same ∙ can.size;
       };
   fewer = omega (arith, fewer, e.fewer, ap (λ (xs : List ℕ). length xs) b.free);

@@ -84,13 +84,13 @@ none_in x (p ∷ ps) all none =
     let c = count-append x p.nest.members (members_in ps) in
     NoneHold-append x (bands p.nest) (bands_in ps) (none_hold x p.nest all.0 (omega (arith, c))) (none_in x ps all.1 (omega (arith, c)))
 
-pub made_kept : (ms : List ℕ) (w : ℕ) (ps : List Part) → IsMade ms ps → Kept (nest_of ms w ps)
-made_kept ms w [] one = record { odd = omega (arith, one); covered = λ x none. tt; single = λ e. one }
-made_kept ms w (p ∷ ps) made = record {
+pub made_kept : (ms : List ℕ) (w : ℕ) (near : List ℕ) (ps : List Part) → IsMade ms ps → Kept (nest_of ms w near ps)
+made_kept ms w near [] one = record { odd = omega (arith, one); covered = λ x none. tt; single = λ e. one }
+made_kept ms w near (p ∷ ps) made = record {
   odd = omega (arith, ap (λ (xs : List ℕ). length xs) made.0, members_size (p ∷ ps) made.1.kept, made.1.odd);
   covered = λ x none. none_in x (p ∷ ps) made.1.kept (sym (ap (λ (xs : List ℕ). count x xs) made.0) ∙ none);
   single = λ e. absurd (omega arith);
 }
 
 pub nest_kept : (a : Inside) → IsNest a → Kept (nest_value a)
-nest_kept a nest = made_kept a.members.items a.width a.parts.items nest
+nest_kept a nest = made_kept a.members.items a.width a.near.items a.parts.items nest

@@ -8,27 +8,10 @@ use Rattle.blossom_match.specs.Trees.{around, outer_members}
 use Rattle.blossom_match.specs.Bounds.{holding, FirstIsDue, IsWidthOf, Narrows, NarrowsAt, RingIsDue, RingIsWide}
 use Rattle.blossom_match.specs.declared.branches.Branch.{Branch}
 use Rattle.blossom_match.specs.declared.least.Change.{Change}
-use Rattle.blossom_match.proofs.ListLemmas.{drop_here, each-map, each-push}
+use Rattle.blossom_match.proofs.ListLemmas.{drop_here, each-map, each-push, take_here}
 use Rattle.blossom_match.proofs.SumLemmas.{count-append}
 use Rattle.blossom_match.proofs.ChainLemmas.{around_append}
 use Rattle.blossom_match.proofs.TreeLemmas.{base_in, outer-append}
-
--- one item more
-take_suc : {X : Type 0} (xs : List X) (i : ℕ) (x : X) → i < length xs → x ≡ get_or xs i x → take (suc i) xs ≡ take i xs ++ x ∷ []
-take_suc [] i x low is = absurd (omega arith)
-take_suc {X} (y ∷ ys) zero x low is = ap (λ (z : X). z ∷ []) (sym is)
-take_suc {X} (y ∷ ys) (suc i) x low is = ap (λ (zs : List X). y ∷ zs) (take_suc ys i x (omega arith) is)
-
-pub take_here : {X : Type 0} (xs : List X) (i : ℕ) (x : X) → i < length xs → x ≡ get_or xs i x → take (i + 1) xs ≡ take i xs ++ x ∷ []
-take_here xs i x low is = rw add-one (take_suc xs i x low is)
-
-number_suc : (xs : List ℕ) (i : ℕ) → i < length xs → take (suc i) xs ≡ take i xs ++ get_or xs i 0 ∷ []
-number_suc [] i low = absurd (omega arith)
-number_suc (y ∷ ys) zero low = refl
-number_suc (y ∷ ys) (suc i) low = ap (λ (zs : List ℕ). y ∷ zs) (number_suc ys i (omega arith))
-
-pub number_here : (xs : List ℕ) (i : ℕ) → i < length xs → take (i + 1) xs ≡ take i xs ++ get_or xs i 0 ∷ []
-number_here xs i low = rw add-one (number_suc xs i low)
 
 -- outer sets that do not hold one of the places do not hold both
 pub around_none : (a b : ℕ) (base : List ℕ) (bs : List Branch) → count b (outer_members base bs) ≡ 0 → around a b bs ≡ 0

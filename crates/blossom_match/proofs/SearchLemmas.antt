@@ -8,9 +8,9 @@ use Rattle.blossom_match.specs.Rings.{back_of}
 use Rattle.blossom_match.specs.Couples.{couple_members, couple_bands, IsJoined}
 use Rattle.blossom_match.specs.Sound.{IsFirm, IsFirmCouple, IsSound, IsSymmetric, IsTight}
 use Rattle.blossom_match.specs.Trees.{branch_bands, hung_by, inner_bands, inner_members, outer_members, IsGrown, TakesOut}
-use Rattle.blossom_match.specs.Shrinks.{Shrinks}
+use Rattle.blossom_match.specs.Shrinks.{Shrinking, Shrinks}
 use Rattle.blossom_match.specs.Lays.{Expands}
-use Rattle.blossom_match.specs.Searches.{is_place, outers, Advances, FreeHaveRoom}
+use Rattle.blossom_match.specs.Searches.{height_at, is_place, outers, Advances, CanStep, FreeHaveRoom}
 use Rattle.blossom_match.specs.TableValue.{TableValue}
 use Rattle.blossom_match.specs.Tables.{entry}
 use Rattle.blossom_match.specs.declared.nest.Link.{Link}
@@ -318,3 +318,23 @@ taken_place x xs new i place low is e =
       count-append x (take i xs) (drop i xs),
       ap (λ (ys : List ℕ). count x ys) here,
     )
+
+-- the link closes a ring
+pub can_shrink : (link : Link) (s : Search) → CanStep s (Shrink link) → Shrinking link s.root s.tree.items
+can_shrink link s k =
+    let i = k.can.search in
+    let ready = k.can.ready in
+    record {
+      grown = i.grown;
+      from = ready.0;
+      to = ready.1;
+      apart = ready.2;
+      once = λ x. omega (arith, i.places x, is_one k.t x);
+      t = k.t;
+      h = height_at s;
+      within = λ x here. place_in k.t x (omega (arith, i.places x, here));
+      symmetric = entry-comm k.t;
+      tight = ready.3;
+      sound = i.root;
+      firm = i.tree;
+    }

@@ -1,17 +1,17 @@
 -- The ring that the loop closes.
-use Rattle.std.proofs.Common.{◌≡◌, ℕ, ◌+◌, ◌%◌, ◌≤◌, List, [], ◌∷◌, ◌++◌, length, reverse, arith, refl, sym, ap, subst, ◌∙◌}
+use Rattle.std.proofs.Common.{◌≡◌, ℕ, ◌+◌, ◌%◌, ◌≤◌, List, [], ◌∷◌, ◌++◌, length, reverse, arith, refl, sym, ap, subst, ◌∙◌, ◌<◌}
 use Rattle.std.proofs.lemmas.List.{append-nil}
 use Rattle.blossom_match.specs.TableValue.{TableValue}
 use Rattle.blossom_match.specs.Lists.{Each}
 use Rattle.blossom_match.specs.Bands.{Adds, Band, NestValue, Kept, bands, count}
-use Rattle.blossom_match.specs.Rings.{members_in, bands_in, IsRing}
-use Rattle.blossom_match.specs.Sound.{IsFirm, IsSound}
+use Rattle.blossom_match.specs.Rings.{members_in, bands_in, IsRing, HaveRows}
+use Rattle.blossom_match.specs.Sound.{IsFirm, IsSound, IsFirmPart}
 use Rattle.blossom_match.specs.Trees.{around, both, outer_members, inner_members, IsGrown}
 use Rattle.blossom_match.specs.Shrinks.{part_of, ring_value, Closable, Shrinking, Shrinks, Chaining}
 use Rattle.blossom_match.specs.declared.nest.Link.{Link}
 use Rattle.blossom_match.specs.declared.nest.Part.{Part}
 use Rattle.blossom_match.specs.declared.branches.Branch.{Branch}
-use Rattle.blossom_match.proofs.ListLemmas.{each-append, each-left, each-last}
+use Rattle.blossom_match.proofs.ListLemmas.{each-append, each-left, each-last, each-map}
 use Rattle.blossom_match.proofs.SumLemmas.{adds_none, count-append, size-append, some_member}
 use Rattle.blossom_match.proofs.ClosingLemmas.{chain_closes, ring_sound, tree_even}
 use Rattle.blossom_match.proofs.TreeLemmas.{last_of, outer_members_push, inner_members_push, branch_bands_push, branch_bands-append, inner_bands_push, inner_bands-append, grown_more, grown-append, outer-append, inner-append}
@@ -39,13 +39,31 @@ not_empty link s way to [] begun apart from back =
     absurd (omega (arith, apart, from, back, ap (λ (x : ℕ). count x s.members) e.0, ap (λ (x : ℕ). count x s.members) e.1))
 not_empty link s way to (p ∷ ps) begun apart from back = omega arith
 
+same_size : (t : TableValue) (h : ℕ → ℕ) (n : ℕ) → n ≡ t.places → (ps : List Part) → Each (IsFirmPart t h) ps
+    → Each (λ (p : Part). length p.nest.near ≡ n) ps
+same_size t h n e ps f = each-map (IsFirmPart t h) (λ (p : Part). length p.nest.near ≡ n) (λ p k. k.nest.near.0.size ∙ sym e) ps f
+
+-- the rows of a set and of a firm chain
+have_rows : (t : TableValue) (h : ℕ → ℕ) (top : NestValue) (way : Link) (chain : List Part) → IsSound t h top
+    → Each (IsFirmPart t h) chain → ((x : ℕ) → 1 ≤ count x top.members + count x (members_in chain) → x < t.places)
+    → HaveRows (length top.near) (part_of top way ∷ chain)
+have_rows t h top way chain s f within = record {
+  rows = (refl, same_size t h (length top.near) s.near.0.size chain f);
+  within = λ x here. omega (
+    arith,
+    within x (omega (arith, here, count-append x top.members (members_in chain))),
+    s.near.0.size,
+  );
+}
+
 pub closable : (link : Link) (root : NestValue) (tree left bs : List Branch) (b : Branch) (chain : List Part) (aside : List Branch)
-    (way : Link) (to : ℕ) →
+    (way : Link) (to : ℕ) → Shrinking link root tree →
     Chaining link root tree left chain aside way to → left ≡ bs ++ b ∷ [] → 1 ≤ count way.from b.outer.members
     → 1 ≤ count to b.outer.members →
     Closable b.outer way chain to
-closable link root tree left bs b chain aside way to c e here there =
+closable link root tree left bs b chain aside way to sh c e here there =
     let c = subst (λ (ks : List Branch). Chaining link root tree ks chain aside way to) e c in
+    let u = c.firm sh.t sh.h sh.symmetric sh.tight sh.firm in
     record {
       leads = c.leads;
       from = omega (arith, c.once way.from, c.places way.from, outer_members_push way.from root.members bs b);
@@ -53,20 +71,24 @@ closable link root tree left bs b chain aside way to c e here there =
       even = c.even;
       some = not_empty link b.outer way to chain c.begun (omega (arith, c.apart, around_push link.from link.to bs b)) here there;
       kept = c.kept;
+      rows = have_rows sh.t sh.h b.outer way chain (each-last (IsFirm sh.t sh.h) bs b u.0).outer u.2
+          (λ x some. sh.within x (omega (arith, some, c.places x, outer_members_push x root.members bs b)));
     }
 
 pub closable_root : (link : Link) (root : NestValue) (tree left : List Branch) (chain : List Part) (aside : List Branch) (way : Link)
-    (to : ℕ) →
+    (to : ℕ) → Shrinking link root tree →
     Chaining link root tree left chain aside way to → length left ≡ 0 → Closable root way chain to
-closable_root link root tree [] chain aside way to c none = record {
+closable_root link root tree [] chain aside way to sh c none = record {
   leads = c.leads;
   from = omega (arith, c.once way.from, c.places way.from, c.from);
   back = omega (arith, c.once to, c.places to, c.back);
   even = c.even;
   some = not_empty link root way to chain c.begun (omega (arith, c.apart)) c.from c.back;
   kept = c.kept;
+  rows = have_rows sh.t sh.h root way chain sh.sound (c.firm sh.t sh.h sh.symmetric sh.tight sh.firm).2
+      (λ x some. sh.within x (omega (arith, some, c.places x)));
 }
-closable_root link root tree (b ∷ bs) chain aside way to c none = absurd (omega arith)
+closable_root link root tree (b ∷ bs) chain aside way to sh c none = absurd (omega arith)
 
 abbrev with_outer : Branch → NestValue → Branch
 with_outer b s = record { up = b.up; inner = b.inner; pair = b.pair; outer = s }
@@ -270,7 +292,7 @@ pub closed_root : (link : Link) (root ring : NestValue) (tree left rest none : L
     Shrinking link root tree → Chaining link root tree left chain aside way to → length left ≡ 0 → ring ≡ ring_value top way chain →
     left ≡ rest ++ none → new ≡ rest ++ reverse aside → Shrinks link root ring tree new
 closed_root link root ring tree [] rest none new chain aside way to top e sh c zero_left closes m n =
-    at_the_root link root ring tree new chain aside way to sh c (closable_root link root tree [] chain aside way to c zero_left) sh.kept
+    at_the_root link root ring tree new chain aside way to sh c (closable_root link root tree [] chain aside way to sh c zero_left) sh.sound.kept
     (closes ∙ ap (λ (s : NestValue). ring_value s way chain) e)
     (n ∙ ap (λ (ks : List Branch). ks ++ reverse aside) (empty_left [] rest none zero_left m))
 closed_root link root ring tree (b ∷ bs) rest none new chain aside way to top e sh c zero_left closes m n = absurd (omega arith)

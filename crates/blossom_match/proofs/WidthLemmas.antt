@@ -95,6 +95,7 @@ pub sound_up : (d : TableValue) (h k : ℕ → ℕ) (by : ℕ) (s : NestValue) �
 sound_up d h k by s once up i = record {
   kept = record { odd = i.kept.odd; covered = i.kept.covered; single = i.kept.single };
   paid = i.paid;
+  near = i.near;
   local = λ x here.
       let one : count x s.members ≡ 1 = omega (arith, here, once x) in
       omega (arith, wide_tall x by s, ap (λ (n : ℕ). by * n) one, i.local x here, up x here);
@@ -107,6 +108,7 @@ sound_down : (d : TableValue) (h k : ℕ → ℕ) (by : ℕ) (s : NestValue) →
 sound_down d h k by s low once down i = record {
   kept = record { odd = i.kept.odd; covered = i.kept.covered; single = i.kept.single };
   paid = i.paid;
+  near = i.near;
   local = λ x here.
       let one : count x s.members ≡ 1 = omega (arith, here, once x) in
       omega (arith, narrow_tall x by s low, ap (λ (n : ℕ). by * n) one, i.local x here, down x here);
@@ -117,6 +119,7 @@ sound_same : (d : TableValue) (h k : ℕ → ℕ) (s : NestValue) → ((x : ℕ)
 sound_same d h k s same i = record {
   kept = i.kept;
   paid = i.paid;
+  near = i.near;
   local = λ x here. omega (arith, i.local x here, same x here);
   even = λ x y hx hy. omega (arith, i.even x y hx hy, same x hx, same y hy);
 }

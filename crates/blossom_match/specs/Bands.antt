@@ -14,20 +14,40 @@ pub record Toll : Type 0 where
   pub to : ℕ
   pub price : ℕ
 
--- an odd set: its members, its width, all sets inside it, and all links inside it
+-- a set by its members and the sets inside it, and a cell for each place of the table
+pub record Row : Type 0 where
+  pub members : List ℕ
+  pub below : List Band
+  pub cells : List ℕ
+
+-- an odd set: its members, its width, its row, all sets inside it, all links inside it, and the
+-- rows of the sets inside it
 pub record NestValue : Type 0 where
   pub members : List ℕ
   pub width : ℕ
+  pub near : List ℕ
   pub below : List Band
   pub tolls : List Toll
+  pub rows : List Row
 
 -- the set and all sets inside it
 abbrev pub bands : NestValue → List Band
 bands s = record { members = s.members; width = s.width } ∷ s.below
 
+-- the row of the set and those of all sets inside it
+abbrev pub rows_of : NestValue → List Row
+rows_of s = record { members = s.members; below = s.below; cells = s.near } ∷ s.rows
+
 -- the same set with another width
 abbrev pub with_width : ℕ → NestValue → NestValue
-with_width w s = record { members = s.members; width = w; below = s.below; tolls = s.tolls }
+with_width w s = record {
+  members = s.members;
+  width = w;
+  near = s.near;
+  below = s.below;
+  tolls = s.tolls;
+  rows = s.rows;
+}
 
 -- 1 where the two are one place
 abbrev pub hit : ℕ → ℕ → ℕ

@@ -6,6 +6,7 @@ pub mod TableValue
 -- the rest is for the search alone
 pub mod Lists
 pub mod Bands
+pub mod Rows
 pub mod Rings
 pub mod Sizes
 pub mod Couples
@@ -20,7 +21,6 @@ pub mod Bounds
 pub mod Widths
 pub mod Reaches
 pub mod Aims
-pub mod RingReaches
 pub mod Phases
 pub mod Prices
 pub mod Heights

@@ -5,6 +5,7 @@ use Rattle.blossom_match.specs.Searches.{size_of, Advances, Ends, IsStanding}
 use Rattle.blossom_match.specs.Bounds.{CanSearch}
 use Rattle.blossom_match.specs.Reaches.{SearchReaches}
 use Rattle.blossom_match.specs.TableValue.{TableValue}
+use Rattle.blossom_match.specs.Tables.{IsTable}
 use Rattle.blossom_match.specs.declared.couples.Couple.{Couple}
 use Rattle.blossom_match.specs.declared.search.Search.{Search}
 use Rattle.blossom_match.specs.declared.search.Step.{Step}
@@ -22,18 +23,19 @@ pub record IsMatched (t : TableValue) (couples : List Couple) : Type 0 where
   pub stands : Stands t couples [] heights
 
 -- the search of a single place
-pub record Begins (place : ℕ) (couples : List Couple) (places prices : List ℕ)
+pub record Begins (t : TableValue) (place : ℕ) (couples : List Couple) (places prices : List ℕ)
     (s : Search) : Type 0 where
-  pub root : s.root ≡ single_of place (slice_index prices place)
+  pub table : IsTable t
+  pub root : s.root ≡ single_of t place (slice_index prices place)
   pub heights : s.heights.items ≡ prices
   pub tree : s.tree.items ≡ []
   pub rest : s.rest.items ≡ couples
   pub free : s.free.items ≡ places
 
 -- what the step leads to
-abbrev pub Leads : Search → Step → Stepped → Type 0
-Leads s step (More r) = Advances s step r
-Leads s step (Done r) = Ends s step r
+abbrev pub Leads : TableValue → Search → Step → Stepped → Type 0
+Leads t s step (More r) = Advances s step r
+Leads t s step (Done r) = Ends t s step r
 
 -- a search with fewer sets outside the outer ones, or its end
 abbrev pub Goes : TableValue → Search → Stepped → Type 0

@@ -33,15 +33,12 @@ pub record FindsTight (t : TableValue) (heights free : List ℕ) (place other : 
   pub pair : IsTightPair t heights place other
 
 -- two free places whose prices use up their distance
-pub record CanPair (place other : ℕ) (s : Standing) : Type 0 where
-  pub t : TableValue
+pub record CanPair (t : TableValue) (place other : ℕ) (s : Standing) : Type 0 where
   pub stands : Stands t s.couples.items s.free.items s.heights.items
   pub here : 1 ≤ count place s.free.items
   pub found : FindsTight t s.heights.items s.free.items place other
 
 -- both places are in a couple
-pub record Pairs (place other : ℕ) (s r : Standing) : Type 0 where
-  pub stands : (t : TableValue) → Stands t s.couples.items s.free.items s.heights.items
-      → FindsTight t s.heights.items s.free.items place other →
-      Stands t r.couples.items r.free.items r.heights.items
+pub record Pairs (t : TableValue) (s r : Standing) : Type 0 where
+  pub stands : Stands t r.couples.items r.free.items r.heights.items
   pub fewer : length r.free.items + 2 ≡ length s.free.items

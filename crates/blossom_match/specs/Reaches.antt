@@ -1,32 +1,15 @@
 -- How near the outer places are to each place, in halves of a step.
-use Rattle.std.specs.Prelude.{◌≡◌, ℕ, ◌+◌, ◌-◌, ◌*◌, ◌<◌, ◌≤◌, ◌⊎◌, List, ◌∷◌, [], ◌++◌, length, nat_lt, slice_index, if◌then◌else◌}
+use Rattle.std.specs.Prelude.{◌≡◌, ℕ, ◌-◌, ◌*◌, ◌<◌, ◌≤◌, ◌⊎◌, List, ◌∷◌, [], ◌++◌, length, slice_index}
+use Rattle.blossom_match.specs.Lists.{Each}
 use Rattle.blossom_match.specs.Bands.{NestValue, count}
+use Rattle.blossom_match.specs.Sound.{IsFirm, IsSound}
 use Rattle.blossom_match.specs.Trees.{outer_members}
 use Rattle.blossom_match.specs.Bounds.{holding}
 use Rattle.blossom_match.specs.TableValue.{TableValue}
 use Rattle.blossom_match.specs.Tables.{entry}
-use Rattle.blossom_match.specs.declared.table.TheConstants.{MAX_DISTANCE}
-use Rattle.blossom_match.specs.declared.reach.TheConstants.{FAR}
+use Rattle.blossom_match.specs.declared.table.TheConstants.{FAR}
 use Rattle.blossom_match.specs.declared.branches.Branch.{Branch}
 use Rattle.blossom_match.specs.declared.search.Search.{Search}
-
--- the rows of the table one after another, each whole
-pub record RowsAre (t : TableValue) (rows : List ℕ) : Type 0 where
-  pub size : length rows ≡ t.places * t.places
-  pub cells : (a x : ℕ) → a < t.places → x < t.places
-      → slice_index rows (a * t.places + x) ≡ entry t a x
-
--- the row of the place follows
-pub record PushesRow (t : TableValue) (a : ℕ) (old new : List ℕ) : Type 0 where
-  pub size : length new ≡ length old + t.places
-  pub kept : (i : ℕ) → i < length old → slice_index new i ≡ slice_index old i
-  pub cells : (x : ℕ) → x < t.places → slice_index new (length old + x) ≡ entry t a x
-
--- one row of the table
-pub record IsRow (t : TableValue) (a : ℕ) (row : List ℕ) : Type 0 where
-  pub size : length row ≡ t.places
-  pub cells : (x : ℕ) → x < t.places → slice_index row x ≡ entry t a x
-  pub short : (x : ℕ) → x < length row → slice_index row x ≤ MAX_DISTANCE
 
 -- what the height of a leaves for x
 abbrev pub left_by : TableValue → List ℕ → ℕ → ℕ → ℕ
@@ -38,18 +21,12 @@ pub record IsLeft (t : TableValue) (hs xs : List ℕ) (x room : ℕ) : Type 0 wh
   pub here : 1 ≤ count a xs
   pub exact : room ≡ left_by t hs a x
 
--- each cell becomes the least of what it was and what the places leave
-pub record TakesIn (t : TableValue) (hs xs old new : List ℕ) : Type 0 where
-  pub less : (x : ℕ) → x < t.places → slice_index new x ≤ slice_index old x
-  pub least : (a x : ℕ) → 1 ≤ count a xs → x < t.places → slice_index new x ≤ left_by t hs a x
-  pub is : (x : ℕ) → x < t.places
-      → (slice_index new x ≡ slice_index old x) ⊎ IsLeft t hs xs x (slice_index new x)
-
--- so does each cell outside the set of the places; those of the set stay
+-- each cell outside the set of the places becomes the least of what it was and what the places
+-- leave; those of the set stay
 pub record TakesSet (t : TableValue) (hs xs old new : List ℕ) : Type 0 where
   pub size : length new ≡ length old
-  pub kept : (x : ℕ) → 1 ≤ count x xs → slice_index new x ≡ slice_index old x
-  pub less : (x : ℕ) → x < t.places → count x xs ≡ 0 → slice_index new x ≤ slice_index old x
+  pub kept : (x : ℕ) → x < t.places → 1 ≤ count x xs → slice_index new x ≡ slice_index old x
+  pub less : (x : ℕ) → x < t.places → slice_index new x ≤ slice_index old x
   pub least : (a x : ℕ) → 1 ≤ count a xs → x < t.places → count x xs ≡ 0
       → slice_index new x ≤ left_by t hs a x
   pub is : (x : ℕ) → x < t.places → count x xs ≡ 0
@@ -67,6 +44,7 @@ pub record IsReached (t : TableValue) (hs : List ℕ) (root : NestValue) (tree :
 pub record Reaches (t : TableValue) (hs : List ℕ) (root : NestValue) (tree : List Branch)
     (reach : List ℕ) : Type 0 where
   pub size : length reach ≡ t.places
+  pub short : (x : ℕ) → x < t.places → slice_index reach x ≤ FAR
   pub least : (a x : ℕ) → 1 ≤ count a (outer_members root.members tree) → x < t.places
       → holding a x root tree ≡ 0 → slice_index reach x ≤ left_by t hs a x
   pub is : (x : ℕ) → x < t.places
@@ -83,11 +61,34 @@ pub record CanReach (t : TableValue) (hs : List ℕ) (root : NestValue)
   pub within : (x : ℕ) → 1 ≤ count x (outer_members root.members tree) → x < t.places
   pub once : (x : ℕ) → count x (outer_members root.members tree) ≤ 1
 
--- the newest branch's outer set is taken in
-pub record ReachesMore (t : TableValue) (s : Search) (old new : List ℕ) : Type 0 where
-  pub more : (before : List Branch) (b : Branch) → s.tree.items ≡ before ++ b ∷ []
-      → Reaches t s.heights.items s.root before old → SearchReaches t s new
+-- different outer places, and sound sets
+pub record CanTake (t : TableValue) (hs : List ℕ) (root : NestValue)
+    (tree : List Branch) : Type 0 where
+  pub once : (x : ℕ) → count x (outer_members root.members tree) ≤ 1
+  pub sound : IsSound t (λ x. slice_index hs x) root
+  pub firm : Each (IsFirm t (λ x. slice_index hs x)) tree
 
--- what is left after the outer places have risen
-abbrev pub lowered : ℕ → ℕ → ℕ
-lowered by room = if nat_lt room FAR then room - by else room
+-- so has a search
+abbrev pub CanTakeAll : TableValue → Search → Type 0
+CanTakeAll t s = CanTake t s.heights.items s.root s.tree.items
+
+-- the set's row has n cells
+abbrev pub HasRow : ℕ → NestValue → Type 0
+HasRow n s = length s.near ≡ n
+
+-- so it has for some table, with a cell for each place
+pub record IsReachable (s : Search) (cells : List ℕ) : Type 0 where
+  pub t : TableValue
+  pub can : CanTakeAll t s
+  pub size : length cells ≡ t.places
+
+-- the root and the outer sets are taken in
+abbrev pub ReachesOuters : NestValue → List Branch → List ℕ → Type 0
+ReachesOuters root tree new = (t : TableValue) (hs : List ℕ) → CanTake t hs root tree
+    → length new ≡ t.places → Reaches t hs root tree new
+
+-- the newest branch's outer set is taken in
+abbrev pub ReachesMore : Search → List ℕ → List ℕ → Type 0
+ReachesMore s old new = (t : TableValue) (before : List Branch) (b : Branch) → CanTakeAll t s
+    → s.tree.items ≡ before ++ b ∷ [] → Reaches t s.heights.items s.root before old
+    → SearchReaches t s new

@@ -81,11 +81,15 @@ IsReady t h s (Shrink link) =
 IsReady t h s (Expand at) = FirstComesApart (drop at s.tree.items)
 
 -- a search at which the step can be done
-pub record CanStep (s : Search) (step : Step) : Type 0 where
-  pub t : TableValue
+pub record CanStepAt (t : TableValue) (s : Search) (step : Step) : Type 0 where
   pub search : IsSearch t (height_at s) s
   pub ready : IsReady t (height_at s) s step
   pub size : length s.heights.items ≡ t.places
+
+-- so it is over some table
+pub record CanStep (s : Search) (step : Step) : Type 0 where
+  pub t : TableValue
+  pub can : CanStepAt t s step
 
 -- the number that falls with each step: the sets that are in no outer set
 abbrev pub size_of : Search → ℕ
@@ -112,8 +116,7 @@ pub record ClosesAt (at : ℕ) (s r : Search) : Type 0 where
   pub heights : r.heights.items ≡ s.heights.items
 
 -- the step ends the search
-pub record Ends (s : Search) (step : Step) (r : Standing) : Type 0 where
-  pub standing : (t : TableValue) → IsSearch t (height_at s) s → IsReady t (height_at s) s step
-      → IsStanding t (height_at s) r.couples.items r.free.items
+pub record Ends (t : TableValue) (s : Search) (step : Step) (r : Standing) : Type 0 where
+  pub standing : IsStanding t (height_at s) r.couples.items r.free.items
   pub fewer : length r.free.items + 1 ≡ length s.free.items
   pub heights : r.heights.items ≡ s.heights.items

@@ -3,7 +3,7 @@ use Rattle.std.specs.Prelude.{◌≡◌, ℕ, ◌+◌, ◌*◌, ◌%◌, ◌<◌
 use Rattle.blossom_match.specs.TableValue.{TableValue}
 use Rattle.blossom_match.specs.Lists.{Each}
 use Rattle.blossom_match.specs.Bands.{Adds, Band, NestValue, Kept, bands, count}
-use Rattle.blossom_match.specs.Rings.{back_of, members_in, bands_in, ring_of, AllKept}
+use Rattle.blossom_match.specs.Rings.{back_of, members_in, bands_in, ring_of, AllKept, HaveRows}
 use Rattle.blossom_match.specs.Sound.{IsFirm, IsFirmPart, IsSound, IsSymmetric, IsTight}
 use Rattle.blossom_match.specs.Trees.{around, both, branch_bands, inner_bands, outer_members, inner_members, IsGrown}
 use Rattle.blossom_match.specs.declared.nest.Link.{Link}
@@ -40,15 +40,23 @@ pub record Closable (top : NestValue) (way : Link) (chain : List Part) (to : ℕ
   pub even : length chain % 2 ≡ 0
   pub some : 1 ≤ length chain
   pub kept : AllKept chain
+  pub rows : HaveRows (length top.near) (record { nest = top; next = way } ∷ chain)
 
--- a link between places of two outer sets
+-- a tight link between places of two outer sets of a sound tree
 pub record Shrinking (link : Link) (root : NestValue) (tree : List Branch) : Type 0 where
   pub grown : IsGrown root.members tree
   pub from : 1 ≤ count link.from (outer_members root.members tree)
   pub to : 1 ≤ count link.to (outer_members root.members tree)
   pub apart : both link.from link.to root + around link.from link.to tree ≡ 0
   pub once : (x : ℕ) → count x (outer_members root.members tree) + count x (inner_members tree) ≤ 1
-  pub kept : Kept root
+  pub t : TableValue
+  pub h : ℕ → ℕ
+  pub within : (x : ℕ)
+      → 1 ≤ count x (outer_members root.members tree) + count x (inner_members tree) → x < t.places
+  pub symmetric : IsSymmetric t
+  pub tight : IsTight t h link
+  pub sound : IsSound t h root
+  pub firm : Each (IsFirm t h) tree
 
 -- the ring that the link closes is one outer set, without a width
 pub record Shrinks (link : Link) (root new_root : NestValue) (old new : List Branch) : Type 0 where

@@ -2,7 +2,9 @@
 use Rattle.std.specs.Prelude.{◌≡◌, ℕ, ◌+◌, ◌*◌, ◌%◌, ◌≤◌}
 use Rattle.blossom_match.specs.TableValue.{TableValue}
 use Rattle.blossom_match.specs.Tables.{entry}
-use Rattle.blossom_match.specs.Bands.{NestValue, bands, count, height, Kept, IsPaid}
+use Rattle.blossom_match.specs.Lists.{Each}
+use Rattle.blossom_match.specs.Bands.{NestValue, bands, count, height, rows_of, Kept, IsPaid}
+use Rattle.blossom_match.specs.Rows.{IsNear}
 use Rattle.blossom_match.specs.declared.nest.Link.{Link}
 use Rattle.blossom_match.specs.declared.nest.Part.{Part}
 use Rattle.blossom_match.specs.declared.couples.Couple.{Couple}
@@ -16,11 +18,12 @@ IsSymmetric d = (a b : ℕ) → entry d a b ≡ entry d b a
 abbrev pub IsTight : TableValue → (ℕ → ℕ) → Link → Type 0
 IsTight d h l = 2 * entry d l.from l.to ≡ h l.from + h l.to
 
--- a set whose inner links use up their distances, that alone makes the heights of its members,
--- which are all even or all odd
+-- a set whose inner links use up their distances, whose rows are right, and that alone makes the
+-- heights of its members, which are all even or all odd
 pub record IsSound (d : TableValue) (h : ℕ → ℕ) (s : NestValue) : Type 0 where
   pub kept : Kept s
   pub paid : IsPaid d s.tolls
+  pub near : Each (IsNear d) (rows_of s)
   pub local : (x : ℕ) → 1 ≤ count x s.members → height x (bands s) ≡ h x
   pub even : (x y : ℕ) → 1 ≤ count x s.members → 1 ≤ count y s.members → (h x + h y) % 2 ≡ 0
 

@@ -8,14 +8,13 @@ ghost use Rattle.blossom_match.specs.Searches.{height_at};
 ghost use Rattle.blossom_match.specs.Reaches.{left_by, CanReach, IsReached, SearchReaches};
 ghost use Rattle.blossom_match.specs.Aims.{change_of, Aims, AimsAt, CanLead, LeadsTo, Leaves, LeavesIn};
 ghost use Rattle.blossom_match.specs.declared.least.Kind.TheVariants as kind;
-ghost use Rattle.blossom_match.specs.declared.reach.TheConstants.{FAR};
+ghost use Rattle.blossom_match.specs.declared.table.TheConstants.{FAR};
 
 use crate::branches::Branch;
 use crate::couples::Couple;
 use crate::nest::{Link, Nest};
-use crate::reach::FAR;
 use crate::search::{Search, Step};
-use crate::table::DistTable;
+use crate::table::{DistTable, FAR};
 
 /// A change of widths, in halves of a step, and what can be done after it.
 #[derive(Clone, Copy, Drop)]

@@ -16,7 +16,7 @@ mod phase;
 mod prices;
 mod reach;
 mod ring;
-mod ring_reach;
+mod rows;
 mod search;
 mod shrinking;
 mod table;

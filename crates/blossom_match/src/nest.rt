@@ -1,7 +1,11 @@
 ghost use Rattle.std.specs.Prelude.{◌≡◌, ◌≤◌, ◌+◌, ◌<◌, ◌^◌, IsTrue, false, length, nat_lt, slice_index, IfOk};
 ghost use Rattle.blossom_match.specs.Bands.{count, with_width, Kept};
-ghost use Rattle.blossom_match.specs.Rings.{back_of, members_in, nest_of, ring_of as the_ring, single_of, IsMade, IsRing, PartsAre};
+ghost use Rattle.blossom_match.specs.Rings.{back_of, members_in, nest_of, ring_of as the_ring, single_of, IsMade, IsRing, PartsAre, RowsAgree};
+ghost use Rattle.blossom_match.specs.Tables.{IsTable};
 
+use crate::ring::row_of;
+use crate::rows::single_row;
+use crate::table::DistTable;
 use design_model::Memory;
 use std::alloc::Global;
 use std::marker::Model;
@@ -19,6 +23,7 @@ pub struct Link {
 pub struct Nest {
     members: Vec<u32>,
     width: u32,
+    near: Vec<u32>,
     parts: Vec<Part>,
 }
 
@@ -76,13 +81,17 @@ pub fn times(xs: &[u32], x: u32) -> usize
 }
 
 /// The set of one place, as wide as it is high.
-pub fn single(alloc: Global, place: u32, heights: &[u32]) -> Result<Nest, Memory>
-    requires { place < length heights.now }
-    ensures { IfOk result (λ s. s ≡ single_of place (slice_index heights.now place)) }
+pub fn single(alloc: Global, t: &DistTable, place: u32, heights: &[u32]) -> Result<Nest, Memory>
+    requires cell { place < length heights.now }
+    requires within { place < t.now.places }
+    ensures is { IfOk result (λ s. s ≡ single_of t.now place (slice_index heights.now place)) }
+    ensures table { IsTable t.now }
 {
+    let near = single_row(alloc, t, place)?;
     Ok(Nest {
         members: vec![in alloc; place]?,
         width: heights[place as usize],
+        near,
         parts: Vec::new(alloc),
     })
 }
@@ -100,6 +109,13 @@ impl Nest {
         ensures { result ≡ self.now.width }
     {
         self.width
+    }
+
+    /// What the set leaves for each place outside it over its width.
+    pub fn near(&self) -> &[u32]
+        ensures { result.now ≡ self.now.near }
+    {
+        &self.near
     }
 
     /// The ring's parts that the set is made of; a single place has none.
@@ -139,23 +155,26 @@ impl Nest {
         let Nest {
             members,
             width: _,
+            near,
             parts,
         } = self;
         Nest {
             members,
             width,
+            near,
             parts,
         }
     }
 
     /// The members, and the parts that the set is made of.
     pub fn into_shell(self) -> (Vec<u32>, Vec<Part>)
-        ensures made { self ≡ nest_of result.0.items self.width result.1.items }
+        ensures made { self ≡ nest_of result.0.items self.width self.near result.1.items }
         ensures kept { IsMade result.0.items result.1.items }
     {
         let Nest {
             members,
             width: _,
+            near: _,
             parts,
         } = self;
         (members, parts)
@@ -165,11 +184,12 @@ impl Nest {
     pub fn into_parts(self) -> Vec<Part>
         requires { 0 < length self.below }
         ensures ring { IsRing result.items }
-        ensures made { self ≡ nest_of (members_in result.items) self.width result.items }
+        ensures made { self ≡ nest_of (members_in result.items) self.width self.near result.items }
     {
         let Nest {
             members: _,
             width: _,
+            near: _,
             parts,
         } = self;
         parts
@@ -188,13 +208,16 @@ fn members_of(alloc: Global, parts: &[Part]) -> Result<Vec<u32>, Memory>
 
 /// The set of all members of a ring, without a width.
 pub fn ring_of(alloc: Global, parts: Vec<Part>) -> Result<Nest, Memory>
-    requires { IsRing parts.items }
+    requires ring { IsRing parts.items }
+    requires rows { RowsAgree parts.items }
     ensures { IfOk result (λ s. s ≡ the_ring parts.items) }
 {
     let members = members_of(alloc, &parts)?;
+    let near = row_of(alloc, &parts, &members)?;
     Ok(Nest {
         members,
         width: 0,
+        near,
         parts,
     })
 }

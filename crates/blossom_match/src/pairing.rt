@@ -5,7 +5,7 @@ ghost use Rattle.blossom_match.specs.Phases.{IsMatched, Stands};
 use crate::couples::Couple;
 use crate::phase::pair_up;
 use crate::prices::priced;
-use crate::reach::{cells_for, rows_of};
+use crate::rows::far_cells;
 use crate::search::Standing;
 use crate::table::DistTable;
 use design_model::Memory;
@@ -32,11 +32,10 @@ fn search_all(alloc: Global, t: &DistTable, from: Standing) -> Result<Vec<Couple
     requires even { length from.free.items % 2 ≡ 0 }
     ensures { IfOk result (λ cs. IsMatched t.now cs.items) }
 {
-    let rows = rows_of(alloc, t)?;
-    let mut reach = cells_for(alloc, t)?;
+    let mut reach = far_cells(alloc, t.places() as usize)?;
     let mut now = from;
     while let Some(place) = now.free.pop() {
-        now = pair_up(alloc, t, &rows, place, now, &mut reach)?;
+        now = pair_up(alloc, t, place, now, &mut reach)?;
     }
     Ok(now.couples)
 }

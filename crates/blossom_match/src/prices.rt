@@ -114,7 +114,7 @@ fn settle(alloc: Global, t: &DistTable, place: u32, from: Standing) -> Result<St
     match tight_with(t, place, &raised) {
         None => Ok(raised),
         Some(other) => {
-            let paired = pair(alloc, place, other, raised)?;
+            let paired = pair(alloc, t, place, other, raised)?;
             Ok(paired)
         }
     }
@@ -180,9 +180,15 @@ fn is_tight(t: &DistTable, heights: &[u32], place: u32, other: u32) -> bool
 }
 
 /// Pairs two free places: a search from the one meets the other at once.
-fn pair(alloc: Global, place: u32, other: u32, from: Standing) -> Result<Standing, Memory>
-    requires { CanPair place other from }
-    ensures { IfOk result (λ r. Pairs place other from r) }
+fn pair(
+    alloc: Global,
+    t: &DistTable,
+    place: u32,
+    other: u32,
+    from: Standing,
+) -> Result<Standing, Memory>
+    requires { CanPair t.now place other from }
+    ensures { IfOk result (λ r. Pairs t.now from r) }
 {
     let Standing {
         couples,
@@ -196,9 +202,10 @@ fn pair(alloc: Global, place: u32, other: u32, from: Standing) -> Result<Standin
         free: left,
         heights,
     };
-    let search = begin(alloc, place, alone)?;
+    let search = begin(alloc, t, place, alone)?;
     let met = meet(
         alloc,
+        t,
         search,
         Link {
             from: place,

@@ -1,8 +1,11 @@
-ghost use Rattle.std.specs.Prelude.{◌≡◌, ◌≤◌, ◌<◌, length, IfOk};
+ghost use Rattle.std.specs.Prelude.{◌≡◌, ◌≤◌, ◌<◌, ℕ, length, slice_index, IfOk};
+ghost use Rattle.blossom_match.specs.Lists.{Each};
 ghost use Rattle.blossom_match.specs.Bands.{count};
-ghost use Rattle.blossom_match.specs.Rings.{members_in, FirstHolds, HoldsAt, IsTurned};
+ghost use Rattle.blossom_match.specs.Rings.{least_of, members_in, ring_row, row_for as the_row, FirstHolds, HaveRows, HoldsAt, IsTurned, RowsAgree};
+ghost use Rattle.blossom_match.specs.declared.table.TheConstants.{FAR};
 
 use crate::nest::Part;
+use crate::rows::{clear, far_cells, merge};
 use design_model::Memory;
 use std::alloc::Global;
 use std::collections::VecDeque;
@@ -43,4 +46,48 @@ pub fn listed(alloc: Global, chain: VecDeque<Part>) -> Result<Vec<Part>, Memory>
         parts.push(p)?;
     }
     Ok(parts)
+}
+
+/// What a ring of the parts leaves for each place outside it.
+pub fn row_of(alloc: Global, parts: &[Part], members: &[u32]) -> Result<Vec<u32>, Memory>
+    requires some { 0 < length parts.now }
+    requires rows { RowsAgree parts.now }
+    requires members { members.now ≡ members_in parts.now }
+    ensures { IfOk result (λ row. row.items ≡ ring_row parts.now) }
+{
+    let n = parts[0].nest.near().len();
+    let row = row_for(alloc, n, parts, members)?;
+    Ok(row)
+}
+
+fn row_for(alloc: Global, n: usize, parts: &[Part], members: &[u32]) -> Result<Vec<u32>, Memory>
+    requires rows { HaveRows n parts.now }
+    requires members { members.now ≡ members_in parts.now }
+    ensures { IfOk result (λ row. row.items ≡ the_row n parts.now) }
+{
+    let mut row = far_cells(alloc, n)?;
+    fill(parts, members, &mut row);
+    Ok(row)
+}
+
+/// Makes the row in cells that are all far.
+fn fill(parts: &[Part], members: &[u32], cells: &mut [u32])
+    requires rows { HaveRows (length cells.old) parts.now }
+    requires members { members.now ≡ members_in parts.now }
+    requires far { (x : ℕ) → x < length cells.old → slice_index cells.old x ≡ FAR }
+    ensures { cells.new ≡ the_row (length cells.old) parts.now }
+{
+    merge_all(parts, cells);
+    clear(members, cells);
+}
+
+/// The least that the parts leave over their widths.
+fn merge_all(parts: &[Part], cells: &mut [u32])
+    requires rows { Each (λ p. length p.nest.near ≡ length cells.old) parts.now }
+    requires far { (x : ℕ) → x < length cells.old → slice_index cells.old x ≡ FAR }
+    ensures { (x : ℕ) → x < length cells.old → slice_index cells.new x ≡ least_of parts.now x }
+{
+    for p in parts {
+        merge(p.nest.near(), p.nest.width(), cells);
+    }
 }

@@ -1,6 +1,6 @@
 ghost use Rattle.std.specs.Prelude.{◌≡◌, ◌≤◌, ◌<◌, ◌+◌, ℕ, length, slice_index, IfOk};
 ghost use Rattle.blossom_match.specs.Bands.{count, hit};
-ghost use Rattle.blossom_match.specs.Searches.{Advances, CanStep, ClosesAt, Ends, HangsOn};
+ghost use Rattle.blossom_match.specs.Searches.{Advances, CanStep, CanStepAt, ClosesAt, Ends, HangsOn};
 ghost use Rattle.blossom_match.specs.declared.search.Step.TheVariants as step;
 
 use crate::branches::{Branch, augment, grow};
@@ -8,6 +8,7 @@ use crate::couples::{Couple, take_couple};
 use crate::expanding::expand;
 use crate::nest::{Link, Nest, single};
 use crate::shrinking::shrink;
+use crate::table::DistTable;
 use design_model::Memory;
 use std::alloc::Global;
 
@@ -116,9 +117,9 @@ pub fn expand_at(alloc: Global, s: Search, at: usize) -> Result<Search, Memory>
 }
 
 /// Pairs all sets of the tree and the free place that the link leads to.
-pub fn meet(alloc: Global, s: Search, link: Link) -> Result<Standing, Memory>
-    requires { CanStep s (step.Meet link) }
-    ensures { IfOk result (λ r. Ends s (step.Meet link) r) }
+pub fn meet(alloc: Global, t: &DistTable, s: Search, link: Link) -> Result<Standing, Memory>
+    requires { CanStepAt t.now s (step.Meet link) }
+    ensures { IfOk result (λ r. Ends t.now s (step.Meet link) r) }
 {
     let Search {
         root,
@@ -129,7 +130,7 @@ pub fn meet(alloc: Global, s: Search, link: Link) -> Result<Standing, Memory>
     } = s;
     let mut left = free;
     take_place(&mut left, link.to);
-    let met = single(alloc, link.to, &heights)?;
+    let met = single(alloc, t, link.to, &heights)?;
     let mut couples = rest;
     augment(root, tree, link, met, &mut couples)?;
     Ok(Standing {

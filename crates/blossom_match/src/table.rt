@@ -10,6 +10,8 @@ use std::marker::Model;
 pub const MAX_PLACES: u32 = 1024;
 /// The largest distance, in steps.
 pub const MAX_DISTANCE: u32 = 200_000;
+/// More than twice any distance.
+pub const FAR: u32 = 2 * MAX_DISTANCE + 1;
 
 /// The distance of each two of n places, in steps.
 #[derive(Drop)]

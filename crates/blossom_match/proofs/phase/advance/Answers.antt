@@ -9,10 +9,6 @@ pub take_step-requires-clause-step : goal.take_step-requires-clause-step
 take_step-requires-clause-step c = can_step c.args.t.now c.args.s c.in_ok-wide.wide c.least-change.result c.requires.metric
     c.requires.search c.least-change.ensures c.in_ok-wide.ensures.widens
 
-pub take_step-requires-clause-cells : goal.take_step-requires-clause-cells
-take_step-requires-clause-cells c =
-    (c.in_ok-wide.ensures.widens.search c.args.t.now c.requires.metric c.requires.search c.least-change.ensures).size
-
 pub take_step-requires-clause-reaches : goal.take_step-requires-clause-reaches
 take_step-requires-clause-reaches c =
     still_reaches c.args.t.now c.least-change.result.by c.args.s c.in_ok-wide.wide c.args.reach.now c.lower_reach.new.reach

@@ -1,5 +1,5 @@
 use Rattle.std.proofs.Common.{◌≡◌, ◌≤◌, ◌<◌, ℕ, get_or}
-use Rattle.blossom_match.specs.Reaches.{lowered}
+use Rattle.blossom_match.specs.Rows.{lowered}
 use Rattle.blossom_match.proofs.reach.lower_reach.Given as goal
 
 -- the cells so far, and those that are left

@@ -1,38 +1,27 @@
-use Rattle.std.proofs.Common.{arith, List, ℕ, ap, subst}
-use Rattle.blossom_match.specs.Bands.{count}
-use Rattle.blossom_match.specs.Reaches.{TakesSet}
-use Rattle.blossom_match.proofs.TreeLemmas.{base_in}
-use Rattle.blossom_match.proofs.ReachLemmas.{outer_within, reaches_next, root_reached}
+use Rattle.std.proofs.Common.{arith, List, subst}
+use Rattle.std.proofs.lemmas.List.{take_all}
+use Rattle.blossom_match.specs.Reaches.{Reaches}
+use Rattle.blossom_match.specs.declared.branches.Branch.{Branch}
+use Rattle.blossom_match.proofs.ReachLemmas.{reaches_next, reaches_root}
 use Rattle.blossom_match.proofs.reach.reach_all.Goals as goal
 
-pub take_set-requires-clause-within : goal.take_set-requires-clause-within
-take_set-requires-clause-within c = λ a ha.
-    c.requires.can.within a (omega (
-      arith,
-      ha,
-      ap (λ (ks : List ℕ). count a ks) c.members.ensures,
-      base_in a c.args.root.now.members c.args.tree.now,
-    ))
-
 pub loop-b-init : goal.loop-b-init
-loop-b-init c =
-    root_reached c.args.t.now c.args.heights.now c.args.root.now c.reset.new.reach c.take_set.new.reach
-    (omega (arith, c.reset.auto.reach, c.requires.size)) c.reset.ensures
-    (subst (λ (ks : List ℕ). TakesSet c.args.t.now c.args.heights.now ks c.reset.new.reach c.take_set.new.reach) c.members.ensures
-    c.in_ok-take_set.ensures)
-
-pub take_set-requires-in-loop-b-clause-within : goal.take_set-requires-in-loop-b-clause-within
-take_set-requires-in-loop-b-clause-within c = λ a ha.
-    c.requires.can.within a (omega (
-      arith,
-      ha,
-      ap (λ (ks : List ℕ). count a ks) c.members-in-loop-b.ensures,
-      outer_within a c.args.root.now.members c.args.tree.now c.loop-b.b-index c.b-item.result c.loop-b-test.true c.b-item.is,
-    ))
+loop-b-init c = record {
+  reaches = λ t hs can size. reaches_root t hs c.args.root.now c.args.tree.now c.reset.new.reach c.take_set.new.reach can
+      (omega (arith, c.take_set.auto.reach, size)) c.take_set.auto.reach c.reset.ensures c.take_set.ensures;
+  size = omega (arith, c.take_set.auto.reach, c.reset.auto.reach);
+}
 
 pub loop-b-preserved : goal.loop-b-preserved
-loop-b-preserved c =
-    reaches_next c.args.t.now c.args.heights.now c.args.root.now c.args.tree.now c.loop-b.b-index c.b-item.result c.loop-b.reach
-    c.take_set-in-loop-b.new.reach c.requires.can c.loop-b-test.true c.b-item.is c.loop-b.invariant
-    (subst (λ (ks : List ℕ). TakesSet c.args.t.now c.args.heights.now ks c.loop-b.reach c.take_set-in-loop-b.new.reach)
-    c.members-in-loop-b.ensures c.in_ok-take_set-2.ensures)
+loop-b-preserved c = record {
+  reaches = λ t hs can size. reaches_next t hs c.args.root.now c.args.tree.now c.loop-b.b-index c.b-item.result c.loop-b.reach
+      c.take_set-in-loop-b.new.reach can c.loop-b-test.true c.b-item.is
+      (c.loop-b.invariant.reaches t hs can (omega (arith, c.take_set-in-loop-b.auto.reach, size)))
+      c.take_set-in-loop-b.auto.reach c.take_set-in-loop-b.ensures;
+  size = omega (arith, c.take_set-in-loop-b.auto.reach, c.loop-b.invariant.size);
+}
+
+pub returns : goal.returns
+returns c = λ t hs can size.
+    subst (λ (ks : List Branch). Reaches t hs c.args.root.now ks c.loop-b.reach)
+    (take_all c.loop-b.b-index c.args.tree.now (omega (arith, c.loop-b-test.false))) (c.loop-b.invariant.reaches t hs can size)

@@ -12,7 +12,7 @@ loop-b-init c = record {
 
 pub close-requires : goal.close-requires
 close-requires c =
-    closable c.args.link _ _ c.loop-b.tree.items c.pop.new.self.items c.in-Some.b _ _ _ _ c.loop-b.invariant.goes c.in-Some.ensures.items
+    closable c.args.link _ _ c.loop-b.tree.items c.pop.new.self.items c.in-Some.b _ _ _ _ c.requires c.loop-b.invariant.goes c.in-Some.ensures.items
     (c.holds-at_left.ensures.yes c.if-at_left.true) (c.holds-at_right.ensures.yes c.if-at_right.true)
 
 pub returns-then-at_right : goal.returns-then-at_right
@@ -20,8 +20,8 @@ returns-then-at_right c =
     let goes = c.loop-b.invariant.goes in
     let here = c.holds-at_left.ensures.yes c.if-at_left.true in
     let there = c.holds-at_right.ensures.yes c.if-at_right.true in
-    let closes = closable c.args.link _ _ c.loop-b.tree.items c.pop.new.self.items c.in-Some.b _ _ _ _ goes c.in-Some.ensures.items here
-    there in
+    let closes = closable c.args.link _ _ c.loop-b.tree.items c.pop.new.self.items c.in-Some.b _ _ _ _ c.requires goes c.in-Some.ensures.items
+    here there in
     rw c.loop-b.invariant.same (closed_inside c.args.link c.args.root c.in_ok-ring.ring c.args.tree.now.items c.loop-b.tree.items
     c.pop.new.self.items _ _ c.in-Some.b _ _ _ _
     c.requires goes c.in-Some.ensures.items closes c.know-in-Some.ensures c.in_ok-ring.ensures c.in_ok-push_branch.ensures
@@ -59,7 +59,7 @@ loop-b-preserved c = record {
 pub close-requires-2 : goal.close-requires-2
 close-requires-2 c =
     let none : length c.loop-b.tree.items ≡ 0 = omega (arith, c.in_default.ensures.cases) in
-    rw c.loop-b.invariant.same (closable_root c.args.link _ _ c.loop-b.tree.items _ _ _ _ c.loop-b.invariant.goes none)
+    rw c.loop-b.invariant.same (closable_root c.args.link _ _ c.loop-b.tree.items _ _ _ _ c.requires c.loop-b.invariant.goes none)
 
 pub returns : goal.returns
 returns c =

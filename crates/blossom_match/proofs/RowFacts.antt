@@ -1,0 +1,21 @@
+-- Worked rows.
+use Rattle.std.proofs.Common.{◌≡◌, ℕ, List, [], ◌∷◌, refl}
+use Rattle.blossom_match.specs.Rings.{ring_row, single_of}
+use Rattle.blossom_match.specs.Rows.{single_row}
+use Rattle.blossom_match.specs.TableValue.{TableValue}
+use Rattle.blossom_match.specs.declared.nest.Part.{Part}
+
+-- 0, 1 and 2 are 2 from each other; 3 is 5 from 0, 4 from 1 and 6 from 2
+abbrev four : TableValue
+four = record { places = 4; cells = 0 ∷ 2 ∷ 2 ∷ 5 ∷ 0 ∷ 0 ∷ 2 ∷ 4 ∷ 0 ∷ 0 ∷ 0 ∷ 6 ∷ 0 ∷ 0 ∷ 0 ∷ 0 ∷ [] }
+
+abbrev part : ℕ → ℕ → ℕ → Part
+part place width to = record { nest = single_of four place width; next = record { from = place; to = to } }
+
+-- twice the distances, both ways
+pub known_single : single_row four 1 ≡ 4 ∷ 400001 ∷ 4 ∷ 8 ∷ []
+known_single = refl
+
+-- of 10 less 1, 8 less 2 and 12 less 5 the second is least
+pub known_ring : ring_row (part 0 1 1 ∷ part 1 2 2 ∷ part 2 5 0 ∷ []) ≡ 400001 ∷ 400001 ∷ 400001 ∷ 6 ∷ []
+known_ring = refl

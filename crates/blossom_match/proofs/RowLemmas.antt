@@ -1,0 +1,314 @@
+-- What sets leave for the places outside them.
+use Rattle.std.proofs.Common.{◌≡◌, ◌≢◌, ℕ, ◌+◌, ◌-◌, ◌*◌, ◌≤◌, ◌<◌, ◌⊎◌, inl, inr, suc, zero, List, [], ◌∷◌, ◌++◌, length, take, drop, get_or, set, map, min, Bool, true, false, cond, eqb, ltb, arith, refl, sym, ap, subst, ◌∙◌, get_or-set_other, get_or-set_same}
+use Rattle.std.proofs.lemmas.Bool.{cases_lt, eqb-false, eqb-true, ltb-true, ltb-false}
+use Rattle.std.proofs.lemmas.Grind.{same_number_lists}
+use Rattle.std.proofs.lemmas.List.FromFn.{get_or-map-range_with_len, length-map-range_with_len}
+use Rattle.std.specs.List.{range_with_len}
+use Rattle.blossom_match.proofs.ListLemmas.{number_here, take_here}
+use Rattle.blossom_match.specs.Lists.{Each}
+use Rattle.blossom_match.specs.Bands.{NestValue, Row, bands, count, height, hit}
+use Rattle.blossom_match.specs.Rows.{lowered, single_cell, single_row, IsNear, IsRoomOf, Merges}
+use Rattle.blossom_match.specs.Rings.{bands_in, least_of, members_in, ring_cell, ring_row, row_for, HaveRows}
+use Rattle.blossom_match.specs.Sound.{IsFirmPart, IsSound}
+use Rattle.blossom_match.specs.Reaches.{left_by, IsLeft, TakesSet}
+use Rattle.blossom_match.specs.TableValue.{TableValue}
+use Rattle.blossom_match.specs.Tables.{entry, IsTable}
+use Rattle.blossom_match.specs.declared.table.TheConstants.{FAR, MAX_DISTANCE}
+use Rattle.blossom_match.specs.declared.nest.Part.{Part}
+use Rattle.blossom_match.proofs.SumLemmas.{count-append, hit_is, hit_same}
+
+pub far_is : FAR ≡ 2 * MAX_DISTANCE + 1
+far_is = refl
+
+not_case : (b : Bool) (x y : ℕ) → eqb x y ≡ b → (x ≡ y → ⊥) → cond b 1 0 ≤ 0
+not_case true x y e ne = absurd (ne (eqb-true x y e))
+not_case false x y e ne = omega arith
+
+pub not_hit : (x y : ℕ) → (x ≡ y → ⊥) → hit x y ≤ 0
+not_hit x y ne = not_case (eqb x y) x y refl ne
+
+pub counts_next : (members : List ℕ) (i x : ℕ) → i < length members
+    → count x (take (i + 1) members) ≡ count x (take i members) + hit x (get_or members i 0)
+counts_next members i x low =
+    omega (
+      arith,
+      ap (λ (ys : List ℕ). count x ys) (number_here members i low),
+      count-append x (take i members) (get_or members i 0 ∷ []),
+    )
+
+put_case : (p : Bool) (x m v : ℕ) (cells : List ℕ) → eqb x m ≡ p → m < length cells → (x ≢ m → get_or cells x 0 ≡ v)
+    → get_or (set cells m v) x 0 ≡ v
+put_case true x m v cells is low here =
+    let e : x ≡ m = eqb-true x m is in
+    subst (λ (y : ℕ). get_or (set cells m v) y 0 ≡ v) (sym e) (get_or-set_same cells m v 0 low)
+put_case false x m v cells is low here =
+    let ne : x ≢ m = eqb-false x m is in
+    rw get_or-set_other (here ne)
+
+-- the cell of one place more is FAR
+pub clear_next : (members cells : List ℕ) (i : ℕ) → i < length members → get_or members i 0 < length cells
+    → ((x : ℕ) → 1 ≤ count x (take i members) → get_or cells x 0 ≡ FAR) → (x : ℕ) → 1 ≤ count x (take (i + 1) members)
+    → get_or (set cells (get_or members i 0) FAR) x 0 ≡ FAR
+clear_next members cells i low within on x here =
+    put_case (eqb x (get_or members i 0)) x (get_or members i 0) FAR cells refl within
+    (λ ne. on x (omega (arith, here, counts_next members i x low, not_hit x (get_or members i 0) ne)))
+
+-- and no other
+pub clear_others : (members cells first : List ℕ) (i v : ℕ) → i < length members
+    → ((x : ℕ) → count x (take i members) ≡ 0 → get_or cells x 0 ≡ get_or first x 0) → (x : ℕ)
+    → count x (take (i + 1) members) ≡ 0 → get_or (set cells (get_or members i 0) v) x 0 ≡ get_or first x 0
+clear_others members cells first i v low others x none =
+    let m = get_or members i 0 in
+    let ne : x ≢ m = λ e. omega (arith, none, counts_next members i x low, hit_same x, ap (λ (y : ℕ). hit x y) e) in
+    rw get_or-set_other (others x (omega (arith, none, counts_next members i x low)))
+
+near_case : (p : Bool) (by room : ℕ) → ltb room FAR ≡ p → room < FAR → cond p (room - by) room ≡ room - by
+near_case true by room e near = refl
+near_case false by room e near = absurd (omega (arith, ltb-false room FAR e, near))
+
+pub lowered_near : (by room : ℕ) → room < FAR → lowered by room ≡ room - by
+lowered_near by room near = near_case (ltb room FAR) by room refl near
+
+far_case : (p : Bool) (by room : ℕ) → ltb room FAR ≡ p → room ≡ FAR → cond p (room - by) room ≡ FAR
+far_case true by room e far = absurd (omega (arith, ltb-true room FAR e, far))
+far_case false by room e far = far
+
+pub lowered_far : (by room : ℕ) → room ≡ FAR → lowered by room ≡ FAR
+lowered_far by room far = far_case (ltb room FAR) by room refl far
+
+less_case : (p : Bool) (by room : ℕ) → cond p (room - by) room ≤ room
+less_case true by room = omega arith
+less_case false by room = omega arith
+
+pub lowered_less : (by room : ℕ) → lowered by room ≤ room
+lowered_less by room = less_case (ltb room FAR) by room
+
+-- a cell of a row that is made cell by cell
+at_row : (f : ℕ → ℕ) (n x : ℕ) → x < n → get_or (map f (range_with_len 0 n)) x 0 ≡ f x
+at_row f n x lx = get_or-map-range_with_len f 0 n x x 0 lx (omega arith)
+
+own_case : (b : Bool) (v : ℕ) → 1 ≤ cond b 1 0 + 0 → cond b FAR v ≡ FAR
+own_case true v here = refl
+own_case false v here = absurd (omega arith)
+
+other_case : (b : Bool) (v : ℕ) → cond b 1 0 + 0 ≡ 0 → cond b FAR v ≡ v
+other_case true v none = absurd (omega arith)
+other_case false v none = refl
+
+-- the row of a single place
+pub single_near : (t : TableValue) (place : ℕ) → IsTable t → place < t.places
+    → IsNear t (record { members = place ∷ []; below = []; cells = single_row t place })
+single_near t place is low =
+    let at = at_row (single_cell t place) t.places in
+    let other = λ (x : ℕ) (none : count x (place ∷ []) ≡ 0) (lx : x < t.places). at x lx
+    ∙ other_case (eqb x place) (2 * entry t place x) none in
+    record {
+      size = length-map-range_with_len (single_cell t place) 0 t.places;
+      own = λ x here lx. at x lx ∙ own_case (eqb x place) (2 * entry t place x) here;
+      short = λ x none lx. omega (arith, other x none lx, is.short place x low lx, far_is);
+      least = λ a x ha none lx.
+          omega (arith, other x none lx, ap (λ (y : ℕ). entry t y x) (hit_is a place (omega (arith, ha))));
+      is = λ x none lx. record { a = place; here = omega (arith, hit_same place); exact = omega (arith, other x none lx) };
+    }
+
+-- one of the places has so much room for x over its height
+record IsRoom (t : TableValue) (h : ℕ → ℕ) (xs : List ℕ) (x room : ℕ) : Type 0 where
+  a : ℕ
+  here : 1 ≤ count a xs
+  exact : room ≡ 2 * entry t a x - h a
+
+times_one : (by n : ℕ) → n ≡ 1 → by * n ≡ by
+times_one by n e = omega (arith, ap (λ (k : ℕ). by * k) e)
+
+-- the height of a member is the width and the heights inside
+over : (t : TableValue) (h : ℕ → ℕ) (s : NestValue) (a : ℕ) → IsSound t h s → count a s.members ≡ 1 → s.width + height a s.below ≡ h a
+over t h s a k one = omega (arith, k.local a (omega (arith, one)), times_one s.width (count a s.members) one)
+
+-- over its width a set leaves no more for x than a member does
+pub near_least : (t : TableValue) (h : ℕ → ℕ) (s : NestValue) (a x : ℕ) → IsSound t h s → count a s.members ≡ 1
+    → count x s.members ≡ 0 → x < t.places → lowered s.width (get_or s.near x 0) ≤ 2 * entry t a x - h a
+near_least t h s a x k one none lx =
+    omega (
+      arith,
+      lowered_near s.width (get_or s.near x 0) (k.near.0.short x none lx),
+      k.near.0.least a x (omega (arith, one)) none lx,
+      over t h s a k one,
+    )
+
+-- and some member leaves so much
+near_is : (t : TableValue) (h : ℕ → ℕ) (s : NestValue) (x : ℕ) → IsSound t h s → ((y : ℕ) → count y s.members ≤ 1)
+    → count x s.members ≡ 0 → x < t.places → IsRoom t h s.members x (lowered s.width (get_or s.near x 0))
+near_is t h s x k once none lx =
+    let r = k.near.0.is x none lx in
+    record {
+      a = r.a;
+      here = r.here;
+      exact = omega (
+        arith,
+        lowered_near s.width (get_or s.near x 0) (k.near.0.short x none lx),
+        r.exact,
+        over t h s r.a k (omega (arith, r.here, once r.a)),
+      );
+    }
+
+least_case : (n : ℕ) (t : TableValue) (h : ℕ → ℕ) (p : Part) (rest a x : ℕ) → count a p.nest.members ≡ n → n ≤ 1
+    → IsSound t h p.nest → count x p.nest.members ≡ 0 → x < t.places → (n ≡ 0 → rest ≤ 2 * entry t a x - h a)
+    → min (lowered p.nest.width (get_or p.nest.near x 0)) rest ≤ 2 * entry t a x - h a
+least_case zero t h p rest a x e few k none lx later = omega (arith, later refl)
+least_case (suc n) t h p rest a x e few k none lx later = omega (arith, near_least t h p.nest a x k (omega (arith, e, few)) none lx)
+
+-- no member of the parts leaves less
+least_low : (t : TableValue) (h : ℕ → ℕ) (ps : List Part) (a x : ℕ) → Each (IsFirmPart t h) ps → count a (members_in ps) ≤ 1
+    → 1 ≤ count a (members_in ps) → count x (members_in ps) ≡ 0 → x < t.places → least_of ps x ≤ 2 * entry t a x - h a
+least_low t h [] a x f once here none lx = absurd (omega (arith, here))
+least_low t h (p ∷ ps) a x f once here none lx =
+    let ca = count-append a p.nest.members (members_in ps) in
+    let cx = count-append x p.nest.members (members_in ps) in
+    least_case (count a p.nest.members) t h p (least_of ps x) a x refl (omega (arith, once, ca)) f.0.nest (omega (arith, none, cx)) lx
+    (λ e. least_low t h ps a x f.1 (omega (arith, once, ca)) (omega (arith, here, ca, e)) (omega (arith, none, cx)) lx)
+
+min_case : (t : TableValue) (h : ℕ → ℕ) (xs ys : List ℕ) (x one rest : ℕ) → IsRoom t h xs x one
+    → (rest ≡ FAR) ⊎ IsRoom t h ys x rest → one < FAR → (one < rest) ⊎ (rest ≤ one) → IsRoom t h (xs ++ ys) x (min one rest)
+min_case t h xs ys x one rest k later near (inl less) =
+    record { a = k.a; here = omega (arith, k.here, count-append k.a xs ys); exact = omega (arith, k.exact, less) }
+min_case t h xs ys x one rest k (inl far) near (inr more) = absurd (omega (arith, far, more, near))
+min_case t h xs ys x one rest k (inr l) near (inr more) =
+    record { a = l.a; here = omega (arith, l.here, count-append l.a xs ys); exact = omega (arith, l.exact, more) }
+
+least_with : (t : TableValue) (h : ℕ → ℕ) (p : Part) (ps : List Part) (x : ℕ) → IsSound t h p.nest
+    → ((y : ℕ) → count y (members_in (p ∷ ps)) ≤ 1) → count x (members_in (p ∷ ps)) ≡ 0 → x < t.places
+    → (least_of ps x ≡ FAR) ⊎ IsRoom t h (members_in ps) x (least_of ps x)
+    → IsRoom t h (members_in (p ∷ ps)) x (least_of (p ∷ ps) x)
+least_with t h p ps x k once none lx later =
+    let c = λ (y : ℕ). count-append y p.nest.members (members_in ps) in
+    let out : count x p.nest.members ≡ 0 = omega (arith, none, c x) in
+    let one = lowered p.nest.width (get_or p.nest.near x 0) in
+    min_case t h p.nest.members (members_in ps) x one (least_of ps x) (near_is t h p.nest x k (λ y. omega (arith, once y, c y)) out lx) later
+    (omega (arith, lowered_less p.nest.width (get_or p.nest.near x 0), k.near.0.short x out lx)) (cases_lt one (least_of ps x))
+
+least_rest : (t : TableValue) (h : ℕ → ℕ) (ps : List Part) (x : ℕ) → Each (IsFirmPart t h) ps
+    → ((y : ℕ) → count y (members_in ps) ≤ 1) → count x (members_in ps) ≡ 0 → x < t.places
+    → (least_of ps x ≡ FAR) ⊎ IsRoom t h (members_in ps) x (least_of ps x)
+least_rest t h [] x f once none lx = inl refl
+least_rest t h (p ∷ ps) x f once none lx =
+    let c = λ (y : ℕ). count-append y p.nest.members (members_in ps) in
+    inr (least_with t h p ps x f.0.nest once none lx
+    (least_rest t h ps x f.1 (λ y. omega (arith, once y, c y)) (omega (arith, none, c x)) lx))
+
+-- some member leaves so much
+least_is : (t : TableValue) (h : ℕ → ℕ) (p : Part) (ps : List Part) (x : ℕ) → Each (IsFirmPart t h) (p ∷ ps)
+    → ((y : ℕ) → count y (members_in (p ∷ ps)) ≤ 1) → count x (members_in (p ∷ ps)) ≡ 0 → x < t.places
+    → IsRoom t h (members_in (p ∷ ps)) x (least_of (p ∷ ps) x)
+least_is t h p ps x f once none lx =
+    let c = λ (y : ℕ). count-append y p.nest.members (members_in ps) in
+    least_with t h p ps x f.0.nest once none lx
+    (least_rest t h ps x f.1 (λ y. omega (arith, once y, c y)) (omega (arith, none, c x)) lx)
+
+in_case : (b : Bool) (n v : ℕ) → ltb 0 n ≡ b → 1 ≤ n → cond b FAR v ≡ FAR
+in_case true n v e here = refl
+in_case false n v e here = absurd (omega (arith, ltb-false 0 n e, here))
+
+out_case : (b : Bool) (n v : ℕ) → ltb 0 n ≡ b → n ≡ 0 → cond b FAR v ≡ v
+out_case true n v e none = absurd (omega (arith, ltb-true 0 n e, none))
+out_case false n v e none = refl
+
+-- a ring's cell at a member, and at any other place
+ring_own : (ps : List Part) (x : ℕ) → 1 ≤ count x (members_in ps) → ring_cell ps x ≡ FAR
+ring_own ps x here = in_case (ltb 0 (count x (members_in ps))) (count x (members_in ps)) (least_of ps x) refl here
+
+ring_other : (ps : List Part) (x : ℕ) → count x (members_in ps) ≡ 0 → ring_cell ps x ≡ least_of ps x
+ring_other ps x none = out_case (ltb 0 (count x (members_in ps))) (count x (members_in ps)) (least_of ps x) refl none
+
+least_short : (p : Part) (ps : List Part) (x : ℕ) → get_or p.nest.near x 0 < FAR → least_of (p ∷ ps) x < FAR
+least_short p ps x near = omega (arith, lowered_less p.nest.width (get_or p.nest.near x 0), near)
+
+-- the row of a ring of firm parts
+pub ring_near : (t : TableValue) (h : ℕ → ℕ) (p : Part) (ps : List Part) → Each (IsFirmPart t h) (p ∷ ps)
+    → ((x : ℕ) → count x (members_in (p ∷ ps)) ≤ 1)
+    → ((x : ℕ) → 1 ≤ count x (members_in (p ∷ ps)) → height x (bands_in (p ∷ ps)) ≡ h x)
+    → IsNear t (record { members = members_in (p ∷ ps); below = bands_in (p ∷ ps); cells = ring_row (p ∷ ps) })
+ring_near t h p ps f once local =
+    let n = length p.nest.near in
+    let size : n ≡ t.places = f.0.nest.near.0.size in
+    let at = λ (x : ℕ) (lx : x < t.places). at_row (ring_cell (p ∷ ps)) n x (omega (arith, lx, size)) in
+    let other = λ (x : ℕ) (none : count x (members_in (p ∷ ps)) ≡ 0) (lx : x < t.places). at x lx ∙ ring_other (p ∷ ps) x none in
+    record {
+      size = length-map-range_with_len (ring_cell (p ∷ ps)) 0 n ∙ size;
+      own = λ x here lx. at x lx ∙ ring_own (p ∷ ps) x here;
+      short = λ x none lx. omega (
+        arith,
+        other x none lx,
+        least_short p ps x
+            (f.0.nest.near.0.short x (omega (arith, none, count-append x p.nest.members (members_in ps))) lx),
+      );
+      least = λ a x ha none lx. omega (arith, other x none lx, local a ha, least_low t h (p ∷ ps) a x f (once a) ha none lx);
+      is = λ x none lx.
+          let r = least_is t h p ps x f once none lx in
+          record { a = r.a; here = r.here; exact = omega (arith, other x none lx, local r.a r.here, r.exact) };
+    }
+
+-- the parts so far and the next one
+pub least_push : (ps : List Part) (p : Part) (x : ℕ)
+    → least_of (ps ++ p ∷ []) x ≡ min (lowered p.nest.width (get_or p.nest.near x 0)) (least_of ps x)
+least_push [] p x = refl
+least_push (q ∷ ps) p x = omega (arith, least_push ps p x)
+
+-- so it is with the merged cells
+pub merge_next : (n : ℕ) (parts : List Part) (i : ℕ) (p : Part) (near : List ℕ) (width : ℕ) (cells new : List ℕ) → i < length parts
+    → p ≡ get_or parts i p → near ≡ p.nest.near → width ≡ p.nest.width → Merges near width cells new → length near ≡ n
+    → ((x : ℕ) → x < n → get_or cells x 0 ≡ least_of (take i parts) x) → (x : ℕ) → x < n
+    → get_or new x 0 ≡ least_of (take (i + 1) parts) x
+merge_next n parts i p near width cells new low is e f merged size so_far x lx =
+    omega (
+      arith,
+      merged x (omega (arith, lx, size)),
+      ap (λ (k : List ℕ). lowered width (get_or k x 0)) e,
+      ap (λ (w : ℕ). lowered w (get_or p.nest.near x 0)) f,
+      so_far x lx,
+      least_push (take i parts) p x,
+      ap (λ (ks : List Part). least_of ks x) (take_here parts i p low is),
+    )
+
+-- no part so far
+pub merge_none : (n : ℕ) (first : List ℕ) → ((x : ℕ) → x < n → get_or first x 0 ≡ FAR) → (x : ℕ) → x < n → get_or first x 0 ≡ least_of [] x
+merge_none n first far x lx = far x lx
+
+row_case : (n : ℕ) (ps : List Part) (x v w : ℕ) → count x (members_in ps) ≡ n → v ≡ least_of ps x → (1 ≤ n → w ≡ FAR)
+    → (n ≡ 0 → w ≡ v) → w ≡ ring_cell ps x
+row_case zero ps x v w e is on off = off refl ∙ is ∙ sym (ring_other ps x e)
+row_case (suc n) ps x v w e is on off = on (omega arith) ∙ sym (ring_own ps x (omega (arith, e)))
+
+-- merged cells that are cleared at the members are the row
+pub row_is : (n : ℕ) (ps : List Part) (members mid new : List ℕ) → members ≡ members_in ps → length new ≡ n
+    → ((x : ℕ) → x < n → get_or mid x 0 ≡ least_of ps x) → ((x : ℕ) → 1 ≤ count x members → get_or new x 0 ≡ FAR)
+    → ((x : ℕ) → count x members ≡ 0 → get_or new x 0 ≡ get_or mid x 0) → new ≡ row_for n ps
+row_is n ps members mid new e same merged on off =
+    let all = length-map-range_with_len (ring_cell ps) 0 n in
+    let c = λ (x : ℕ). ap (λ (xs : List ℕ). count x xs) e in
+    same_number_lists new (row_for n ps) (same ∙ sym all) (λ x lx.
+    let low : x < n = omega (arith, lx, same) in
+    row_case (count x (members_in ps)) ps x (get_or mid x 0) (get_or new x 0) refl (merged x low)
+    (λ here. on x (omega (arith, here, c x))) (λ none. off x (omega (arith, none, c x)))
+    ∙ sym (at_row (ring_cell ps) n x low))
+
+take_case : (t : TableValue) (hs xs : List ℕ) (x one old now : ℕ) → now ≡ min one old → IsRoom t (λ (a : ℕ). get_or hs a 0) xs x one
+    → (one < old) ⊎ (old ≤ one) → (now ≡ old) ⊎ IsLeft t hs xs x now
+take_case t hs xs x one old now is k (inl less) = inr (record { a = k.a; here = k.here; exact = omega (arith, is, less, k.exact) })
+take_case t hs xs x one old now is k (inr more) = inl (omega (arith, is, more))
+
+-- a merged row takes the set in
+pub takes_near : (t : TableValue) (hs : List ℕ) (s : NestValue) (old new : List ℕ) → IsSound t (λ (a : ℕ). get_or hs a 0) s
+    → ((x : ℕ) → count x s.members ≤ 1) → length new ≡ length old → ((x : ℕ) → x < t.places → get_or old x 0 ≤ FAR)
+    → Merges s.near s.width old new → TakesSet t hs s.members old new
+takes_near t hs s old new k once size short merged =
+    let h = λ (a : ℕ). get_or hs a 0 in
+    let at = λ (x : ℕ) (lx : x < t.places). merged x (omega (arith, lx, k.near.0.size)) in
+    record {
+      size = size;
+      kept = λ x lx here.
+          omega (arith, at x lx, lowered_far s.width (get_or s.near x 0) (k.near.0.own x here lx), short x lx);
+      less = λ x lx. omega (arith, at x lx);
+      least = λ a x ha lx none. omega (arith, at x lx, near_least t h s a x k (omega (arith, ha, once a)) none lx);
+      is = λ x lx none. take_case t hs s.members x (lowered s.width (get_or s.near x 0)) (get_or old x 0) (get_or new x 0) (at x lx)
+          (near_is t h s x k once none lx) (cases_lt (lowered s.width (get_or s.near x 0)) (get_or old x 0));
+    }

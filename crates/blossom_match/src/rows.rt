@@ -1,0 +1,73 @@
+ghost use Rattle.std.specs.Prelude.{◌≡◌, ◌≤◌, ◌<◌, ℕ, length, slice_index, IfOk};
+ghost use Rattle.blossom_match.specs.Bands.{count};
+ghost use Rattle.blossom_match.specs.Rows.{lowered, single_cell, single_row as the_row, Merges};
+ghost use Rattle.blossom_match.specs.Tables.{IsTable};
+ghost use Rattle.blossom_match.specs.declared.table.TheConstants.{FAR};
+
+use crate::table::{DistTable, FAR};
+use design_model::Memory;
+use std::alloc::Global;
+
+/// The room that is left once the width is taken.
+pub fn lesser_by(by: u32, room: u32) -> u32
+    ensures { result ≡ lowered by room }
+{
+    if room < FAR {
+        room.saturating_sub(by)
+    } else {
+        room
+    }
+}
+
+/// Cells from which nothing is near.
+pub fn far_cells(alloc: Global, n: usize) -> Result<Vec<u32>, Memory>
+    ensures size { IfOk result (λ cells. length cells.items ≡ n) }
+    ensures far { IfOk result (λ cells. (x : ℕ) → x < n → slice_index cells.items x ≡ FAR) }
+{
+    let cells = vec![in alloc; FAR; n]?;
+    Ok(cells)
+}
+
+/// The lesser of each cell and what the row leaves over the width.
+pub fn merge(near: &[u32], width: u32, cells: &mut [u32])
+    requires len { length cells.old ≡ length near.now }
+    ensures { Merges near.now width cells.old cells.new }
+{
+    for x in 0..near.len() {
+        cells[x] = lesser_by(width, near[x]).min(cells[x]);
+    }
+}
+
+/// Leaves nothing for the places.
+pub fn clear(places: &[u32], cells: &mut [u32])
+    requires within { (x : ℕ) → 1 ≤ count x places.now → x < length cells.old }
+    ensures on { (x : ℕ) → 1 ≤ count x places.now → slice_index cells.new x ≡ FAR }
+    ensures off { (x : ℕ) → count x places.now ≡ 0
+        → slice_index cells.new x ≡ slice_index cells.old x }
+{
+    for a in places {
+        cells[*a as usize] = FAR;
+    }
+}
+
+/// The row of a single place.
+pub fn single_row(alloc: Global, t: &DistTable, place: u32) -> Result<Vec<u32>, Memory>
+    requires { place < t.now.places }
+    ensures row { IfOk result (λ row. row.items ≡ the_row t.now place) }
+    ensures table { IsTable t.now }
+{
+    let n = t.places();
+    let mut row = Vec::with_capacity(alloc, n as usize)?;
+    for x in 0..n {
+        row.push(single_room(t, place, x))?;
+    }
+    Ok(row)
+}
+
+fn single_room(t: &DistTable, place: u32, x: u32) -> u32
+    requires within { place < t.now.places }
+    requires there { x < t.now.places }
+    ensures { result ≡ single_cell t.now place x }
+{
+    if x == place { FAR } else { 2 * t.get(place, x) }
+}
