@@ -4,7 +4,8 @@ use Rattle.blossom_match.specs.TableValue.{TableValue}
 use Rattle.blossom_match.specs.Lists.{Each}
 use Rattle.blossom_match.specs.Bands.{bands, count, height, rows_of, IsPaid}
 use Rattle.blossom_match.specs.Rows.{IsNear}
-use Rattle.blossom_match.specs.Rings.{members_in, bands_in, tolls_in, Linked, ring_tolls, tolls_along, IsLinkedRing, IsRing, AllKept, ring_of, ring_row, rows_in}
+use Rattle.blossom_match.specs.Rings.{members_in, bands_in, tolls_in, Linked, ring_tolls, tolls_along, IsLinkedRing, IsRing, AllKept, rows_in}
+use Rattle.blossom_match.specs.RingRows.{ring_of, ring_row}
 use Rattle.blossom_match.specs.Sound.{IsFirm, IsFirmPart, IsSound, IsTight}
 use Rattle.blossom_match.specs.Shrinks.{Leads}
 use Rattle.blossom_match.specs.Trees.{outer_members, inner_members, IsGrown}

@@ -58,7 +58,8 @@ begins t place couples free heights s st some b =
     (subst (λ (cs : List Couple). IsStanding t (high heights) cs (s.free.items ++ place ∷ [])) (sym b.rest)
     (subst (λ (xs : List ℕ). IsStanding t (high heights) couples (xs ++ place ∷ [])) (sym b.free) st.standing)) in
     record {
-      search = begun t (height_at s) place s b.table at (subst (λ (hs : List ℕ). s.root ≡ single_of t place (high hs place)) (sym b.heights) b.root)
+      search = begun t (height_at s) place s b.table at
+          (subst (λ (hs : List ℕ). s.root ≡ single_of t place (high hs place)) (sym b.heights) b.root)
           b.tree;
       size = ap (λ (hs : List ℕ). length hs) b.heights ∙ st.size;
       some = omega (arith, some, ap (λ (xs : List ℕ). length xs) b.free);

@@ -125,8 +125,9 @@ tall_case true x f w top old left was e n none tall same =
 tall_case false x f w top old left was e n none tall same = omega (arith, tall (omega (arith, n, none)))
 
 -- the height with the set of one place more
-single_tall : (t : TableValue) (x f w top old left was : ℕ) → left + hit x f ≡ was → left ≡ 0 → (was ≡ 0 → top ≡ old) → (x ≡ f → (top ≡ w) × (old ≡ 0)) → top
-    ≡ old + height x (bands (single_of t f w))
+single_tall : (t : TableValue) (x f w top old left was : ℕ) → left + hit x f ≡ was → left ≡ 0 → (was ≡ 0 → top ≡ old)
+    → (x ≡ f → (top ≡ w) × (old ≡ 0))
+    → top ≡ old + height x (bands (single_of t f w))
 single_tall t x f w top old left was n none tall same = omega (arith, tall_case (eqb x f) x f w top old left was refl n none tall same)
 
 -- a free place and any other have room in a search
@@ -153,7 +154,8 @@ met_standing t h link s r m aug is e counts i here tight =
       room = λ a g la hg ne. i.room a g la (omega (arith, hg, counts g)) ne;
       places = λ x. omega (arith, i.places x, aug.places x, ap (λ (v : NestValue). count x v.members) e, counts x);
       joined = aug.joined i.joined;
-      firm = aug.firm t h tight i.root (subst (λ (v : NestValue). IsSound t h v) (sym e) (single_sound t h f is (place_in t f (omega (arith, i.places f, here)))))
+      firm = aug.firm t h tight i.root (subst (λ (v : NestValue). IsSound t h v) (sym e)
+          (single_sound t h f is (place_in t f (omega (arith, i.places f, here)))))
           i.tree i.rest;
       loads = λ a b la lb ne. omega (
         arith,
@@ -229,7 +231,8 @@ begun t h place s is i e f =
       );
       grown = subst (λ (bs : List Branch). IsGrown s.root.members bs) (sym f) tt;
       joined = i.joined;
-      root = subst (λ (v : NestValue). IsSound t h v) (sym e) (single_sound t h place is (place_in t place (omega (arith, i.places place, here))));
+      root = subst (λ (v : NestValue). IsSound t h v) (sym e)
+          (single_sound t h place is (place_in t place (omega (arith, i.places place, here))));
       tree = subst (λ (bs : List Branch). Each (IsFirm t h) bs) (sym f) tt;
       rest = i.firm;
       loads = λ a b la lb ne. omega (

@@ -239,7 +239,8 @@ none_of : (left w : ℕ) (ms near : List ℕ) (ps : List Part) → length ps ≡
 none_of left w ms near [] none made there = opens_single left w ms near made there
 none_of left w ms near (p ∷ ps) none made there = absurd (omega arith)
 
-pub opens_place : (left w : ℕ) (s : NestValue) (ms near : List ℕ) (ps : List Part) (cs : List Couple) → s ≡ nest_of ms w near ps → IsMade ms ps
+pub opens_place : (left w : ℕ) (s : NestValue) (ms near : List ℕ) (ps : List Part) (cs : List Couple)
+    → s ≡ nest_of ms w near ps → IsMade ms ps
     → count left s.members ≡ 1 →
     length ps ≡ 0 → cs ≡ [] → OpensAt left s ms w None cs
 opens_place left w s ms near ps cs is made there none f =

@@ -186,7 +186,8 @@ reaches_newest s at c reach new last is size merged t before b can e r =
 pub has_root_row : (s : Search) (cells : List ℕ) → IsReachable s cells → HasRow (length cells) s.root
 has_root_row s cells r = r.can.sound.near.0.size ∙ sym r.size
 
-pub have_outer_rows : (s : Search) (cells : List ℕ) → IsReachable s cells → Each (λ (b : Branch). HasRow (length cells) b.outer) s.tree.items
+pub have_outer_rows : (s : Search) (cells : List ℕ) → IsReachable s cells
+    → Each (λ (b : Branch). HasRow (length cells) b.outer) s.tree.items
 have_outer_rows s cells r =
     each-map (IsFirm r.t (λ (a : ℕ). get_or s.heights.items a 0)) (λ (b : Branch). HasRow (length cells) b.outer)
     (λ b k. k.outer.near.0.size ∙ sym r.size) s.tree.items r.can.firm

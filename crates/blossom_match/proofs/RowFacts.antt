@@ -1,6 +1,7 @@
 -- Worked rows.
 use Rattle.std.proofs.Common.{◌≡◌, ℕ, List, [], ◌∷◌, refl}
-use Rattle.blossom_match.specs.Rings.{ring_row, single_of}
+use Rattle.blossom_match.specs.Rings.{single_of}
+use Rattle.blossom_match.specs.RingRows.{ring_row}
 use Rattle.blossom_match.specs.Rows.{single_row}
 use Rattle.blossom_match.specs.TableValue.{TableValue}
 use Rattle.blossom_match.specs.declared.nest.Part.{Part}

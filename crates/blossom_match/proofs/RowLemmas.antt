@@ -8,7 +8,8 @@ use Rattle.blossom_match.proofs.ListLemmas.{number_here, take_here}
 use Rattle.blossom_match.specs.Lists.{Each}
 use Rattle.blossom_match.specs.Bands.{NestValue, Row, bands, count, height, hit}
 use Rattle.blossom_match.specs.Rows.{lowered, single_cell, single_row, IsNear, IsRoomOf, Merges}
-use Rattle.blossom_match.specs.Rings.{bands_in, least_of, members_in, ring_cell, ring_row, row_for, HaveRows}
+use Rattle.blossom_match.specs.Rings.{bands_in, members_in}
+use Rattle.blossom_match.specs.RingRows.{least_of, ring_cell, ring_row, row_for, HaveRows}
 use Rattle.blossom_match.specs.Sound.{IsFirmPart, IsSound}
 use Rattle.blossom_match.specs.Reaches.{left_by, IsLeft, TakesSet}
 use Rattle.blossom_match.specs.TableValue.{TableValue}
@@ -183,7 +184,8 @@ least_with t h p ps x k once none lx later =
     let c = λ (y : ℕ). count-append y p.nest.members (members_in ps) in
     let out : count x p.nest.members ≡ 0 = omega (arith, none, c x) in
     let one = lowered p.nest.width (get_or p.nest.near x 0) in
-    min_case t h p.nest.members (members_in ps) x one (least_of ps x) (near_is t h p.nest x k (λ y. omega (arith, once y, c y)) out lx) later
+    min_case t h p.nest.members (members_in ps) x one (least_of ps x)
+    (near_is t h p.nest x k (λ y. omega (arith, once y, c y)) out lx) later
     (omega (arith, lowered_less p.nest.width (get_or p.nest.near x 0), k.near.0.short x out lx)) (cases_lt one (least_of ps x))
 
 least_rest : (t : TableValue) (h : ℕ → ℕ) (ps : List Part) (x : ℕ) → Each (IsFirmPart t h) ps

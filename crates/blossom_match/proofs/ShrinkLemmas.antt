@@ -4,7 +4,8 @@ use Rattle.std.proofs.lemmas.List.{append-nil}
 use Rattle.blossom_match.specs.TableValue.{TableValue}
 use Rattle.blossom_match.specs.Lists.{Each}
 use Rattle.blossom_match.specs.Bands.{Adds, Band, NestValue, Kept, bands, count}
-use Rattle.blossom_match.specs.Rings.{members_in, bands_in, IsRing, HaveRows}
+use Rattle.blossom_match.specs.Rings.{members_in, bands_in, IsRing}
+use Rattle.blossom_match.specs.RingRows.{HaveRows}
 use Rattle.blossom_match.specs.Sound.{IsFirm, IsSound, IsFirmPart}
 use Rattle.blossom_match.specs.Trees.{around, both, outer_members, inner_members, IsGrown}
 use Rattle.blossom_match.specs.Shrinks.{part_of, ring_value, Closable, Shrinking, Shrinks, Chaining}
@@ -292,7 +293,8 @@ pub closed_root : (link : Link) (root ring : NestValue) (tree left rest none : L
     Shrinking link root tree → Chaining link root tree left chain aside way to → length left ≡ 0 → ring ≡ ring_value top way chain →
     left ≡ rest ++ none → new ≡ rest ++ reverse aside → Shrinks link root ring tree new
 closed_root link root ring tree [] rest none new chain aside way to top e sh c zero_left closes m n =
-    at_the_root link root ring tree new chain aside way to sh c (closable_root link root tree [] chain aside way to sh c zero_left) sh.sound.kept
+    at_the_root link root ring tree new chain aside way to sh c
+    (closable_root link root tree [] chain aside way to sh c zero_left) sh.sound.kept
     (closes ∙ ap (λ (s : NestValue). ring_value s way chain) e)
     (n ∙ ap (λ (ks : List Branch). ks ++ reverse aside) (empty_left [] rest none zero_left m))
 closed_root link root ring tree (b ∷ bs) rest none new chain aside way to top e sh c zero_left closes m n = absurd (omega arith)

@@ -8,6 +8,7 @@ pub mod Lists
 pub mod Bands
 pub mod Rows
 pub mod Rings
+pub mod RingRows
 pub mod Sizes
 pub mod Couples
 pub mod Opens

@@ -1,11 +1,9 @@
 -- Rings of parts.
-use Rattle.std.specs.Prelude.{◌≡◌, ℕ, ◌+◌, ◌%◌, ◌<◌, ◌≤◌, List, [], ◌∷◌, ◌++◌, length, map, min, nat_lt, slice_index, take, drop, if◌then◌else◌}
-use Rattle.std.specs.List.{range_with_len}
+use Rattle.std.specs.Prelude.{◌≡◌, ℕ, ◌+◌, ◌%◌, ◌<◌, ◌≤◌, List, [], ◌∷◌, ◌++◌, length, take, drop}
 use Rattle.blossom_match.specs.Lists.{Each}
 use Rattle.blossom_match.specs.Bands.{Band, Row, Toll, NestValue, bands, count, height, rows_of, Kept}
-use Rattle.blossom_match.specs.Rows.{lowered, single_row}
+use Rattle.blossom_match.specs.Rows.{single_row}
 use Rattle.blossom_match.specs.TableValue.{TableValue}
-use Rattle.blossom_match.specs.declared.table.TheConstants.{FAR}
 use Rattle.blossom_match.specs.declared.nest.Link.{Link}
 use Rattle.blossom_match.specs.declared.nest.Part.{Part}
 use Rattle.blossom_match.specs.declared.nest.Nest.TheInside.{Inside}
@@ -33,34 +31,6 @@ tolls_in (p ∷ ps) = p.nest.tolls ++ tolls_in ps
 abbrev pub rows_in : List Part → List Row
 rows_in [] = []
 rows_in (p ∷ ps) = rows_of p.nest ++ rows_in ps
-
--- the least that the parts leave for x over their widths, FAR where there is none
-abbrev pub least_of : List Part → ℕ → ℕ
-least_of [] x = FAR
-least_of (p ∷ ps) x = min (lowered p.nest.width (slice_index p.nest.near x)) (least_of ps x)
-
--- the cell of a ring for x: its parts leave nothing for their own places
-abbrev pub ring_cell : List Part → ℕ → ℕ
-ring_cell ps x = if nat_lt 0 (count x (members_in ps)) then FAR else least_of ps x
-
--- the row of n cells of a ring, from those of its parts
-abbrev pub row_for : ℕ → List Part → List ℕ
-row_for n ps = map (ring_cell ps) (range_with_len 0 n)
-
--- the row of a ring, as long as that of its first part
-abbrev pub ring_row : List Part → List ℕ
-ring_row [] = []
-ring_row (p ∷ ps) = row_for (length p.nest.near) (p ∷ ps)
-
--- rows of n cells, and members below n
-pub record HaveRows (n : ℕ) (parts : List Part) : Type 0 where
-  pub rows : Each (λ (p : Part). length p.nest.near ≡ n) parts
-  pub within : (x : ℕ) → 1 ≤ count x (members_in parts) → x < n
-
--- all rows are as long as the first
-abbrev pub RowsAgree : List Part → Type 0
-RowsAgree [] = ⊥
-RowsAgree (p ∷ ps) = HaveRows (length p.nest.near) (p ∷ ps)
 
 -- what the link from p to q uses up
 abbrev pub toll_of : Part → Part → Toll
@@ -130,10 +100,6 @@ single_of t x w = nest_of (x ∷ []) w (single_row t x) []
 pub record PartsAre (s : NestValue) (parts : List Part) : Type 0 where
   pub below : s.below ≡ bands_in parts
   pub members : (x : ℕ) → count x (members_in parts) ≤ count x s.members
-
--- the ring of the parts, without a width
-abbrev pub ring_of : List Part → NestValue
-ring_of parts = nest_of (members_in parts) 0 (ring_row parts) parts
 
 -- what the fields mean
 abbrev pub nest_value : Inside → NestValue

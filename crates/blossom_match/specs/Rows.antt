@@ -1,5 +1,5 @@
--- What a set leaves for each place outside it, in halves of a step. A row has a cell for each place of
--- the table; it is made with its set and never changes, whatever widths do.
+-- What a set leaves for each place outside it, in halves of a step. A row has a cell for each place
+-- of the table; it is made with its set and never changes, whatever widths do.
 use Rattle.std.specs.Prelude.{◌≡◌, ℕ, ◌-◌, ◌*◌, ◌==◌, ◌<◌, ◌≤◌, List, length, map, min, nat_lt, slice_index, if◌then◌else◌}
 use Rattle.std.specs.List.{range_with_len}
 use Rattle.blossom_match.specs.Bands.{Row, count, height}

@@ -3,7 +3,8 @@ use Rattle.std.specs.Prelude.{◌≡◌, ℕ, ◌+◌, ◌*◌, ◌%◌, ◌<◌
 use Rattle.blossom_match.specs.TableValue.{TableValue}
 use Rattle.blossom_match.specs.Lists.{Each}
 use Rattle.blossom_match.specs.Bands.{Adds, Band, NestValue, Kept, bands, count}
-use Rattle.blossom_match.specs.Rings.{back_of, members_in, bands_in, ring_of, AllKept, HaveRows}
+use Rattle.blossom_match.specs.Rings.{back_of, members_in, bands_in, AllKept}
+use Rattle.blossom_match.specs.RingRows.{ring_of, HaveRows}
 use Rattle.blossom_match.specs.Sound.{IsFirm, IsFirmPart, IsSound, IsSymmetric, IsTight}
 use Rattle.blossom_match.specs.Trees.{around, both, branch_bands, inner_bands, outer_members, inner_members, IsGrown}
 use Rattle.blossom_match.specs.declared.nest.Link.{Link}
@@ -106,7 +107,7 @@ pub record Chaining (link : Link) (root : NestValue) (tree left : List Branch) (
       + F (branch_bands (reverse aside)) ≡ F (branch_bands tree)
   pub fewer : 2 * (length (inner_bands left) + length (inner_bands (reverse aside))) + length chain
       ≤ 2 * length (inner_bands tree)
-  pub firm : (d : TableValue) (h : ℕ → ℕ) → IsSymmetric d → IsTight d h link → Each (IsFirm d h) tree
-      →
+  pub firm : (d : TableValue) (h : ℕ → ℕ) → IsSymmetric d → IsTight d h link
+      → Each (IsFirm d h) tree →
       Each (IsFirm d h) left × Each (IsFirm d h) (reverse aside) × Each (IsFirmPart d h) chain
       × IsTight d h way

@@ -1,6 +1,7 @@
 ghost use Rattle.std.specs.Prelude.{◌≡◌, ◌≤◌, ◌+◌, ◌<◌, ◌^◌, IsTrue, false, length, nat_lt, slice_index, IfOk};
 ghost use Rattle.blossom_match.specs.Bands.{count, with_width, Kept};
-ghost use Rattle.blossom_match.specs.Rings.{back_of, members_in, nest_of, ring_of as the_ring, single_of, IsMade, IsRing, PartsAre, RowsAgree};
+ghost use Rattle.blossom_match.specs.Rings.{back_of, members_in, nest_of, single_of, IsMade, IsRing, PartsAre};
+ghost use Rattle.blossom_match.specs.RingRows.{ring_of as the_ring, RowsAgree};
 ghost use Rattle.blossom_match.specs.Tables.{IsTable};
 
 use crate::ring::row_of;

@@ -1,7 +1,8 @@
 ghost use Rattle.std.specs.Prelude.{◌≡◌, ◌≤◌, ◌<◌, ℕ, length, slice_index, IfOk};
 ghost use Rattle.blossom_match.specs.Lists.{Each};
 ghost use Rattle.blossom_match.specs.Bands.{count};
-ghost use Rattle.blossom_match.specs.Rings.{least_of, members_in, ring_row, row_for as the_row, FirstHolds, HaveRows, HoldsAt, IsTurned, RowsAgree};
+ghost use Rattle.blossom_match.specs.Rings.{members_in, FirstHolds, HoldsAt, IsTurned};
+ghost use Rattle.blossom_match.specs.RingRows.{least_of, ring_row, row_for as the_row, HaveRows, RowsAgree};
 ghost use Rattle.blossom_match.specs.declared.table.TheConstants.{FAR};
 
 use crate::nest::Part;

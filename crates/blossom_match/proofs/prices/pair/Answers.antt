@@ -2,7 +2,8 @@ use Rattle.blossom_match.proofs.PriceLemmas.{pair_step, paired}
 use Rattle.blossom_match.proofs.prices.pair.Goals as goal
 
 pub meet-requires : goal.meet-requires
-meet-requires c = pair_step c.args.t.now c.args.place c.args.other c.args.from c.take_place.new.places.items c.in_ok-search.search c.requires
+meet-requires c = pair_step c.args.t.now c.args.place c.args.other c.args.from c.take_place.new.places.items c.in_ok-search.search
+    c.requires
     c.take_place.ensures.counts c.in_ok-search.ensures
 
 pub returns : goal.returns

@@ -1,6 +1,6 @@
 use Rattle.std.proofs.Common.{arith, ap, length, List, ℕ, refl, ◌≡◌, ◌∙◌}
 use Rattle.std.proofs.lemmas.List.{take_all}
-use Rattle.blossom_match.specs.Rings.{least_of}
+use Rattle.blossom_match.specs.RingRows.{least_of}
 use Rattle.blossom_match.specs.declared.nest.Part.{Part}
 use Rattle.blossom_match.proofs.ListLemmas.{each_here}
 use Rattle.blossom_match.proofs.RowLemmas.{merge_next}

@@ -1,5 +1,5 @@
 use Rattle.std.proofs.Common.{◌≡◌, ◌<◌, ℕ, get_or, length, take}
-use Rattle.blossom_match.specs.Rings.{least_of}
+use Rattle.blossom_match.specs.RingRows.{least_of}
 use Rattle.blossom_match.proofs.ring.merge_all.Given as goal
 
 -- the parts so far

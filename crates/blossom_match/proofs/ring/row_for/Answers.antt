@@ -1,5 +1,5 @@
 use Rattle.std.proofs.Common.{arith, ap, get_or, length, List, ℕ, subst, sym, ◌∙◌}
-use Rattle.blossom_match.specs.Rings.{row_for, HaveRows}
+use Rattle.blossom_match.specs.RingRows.{row_for, HaveRows}
 use Rattle.blossom_match.proofs.ListLemmas.{written}
 use Rattle.blossom_match.proofs.ring.row_for.Goals as goal
 

@@ -12,7 +12,8 @@ loop-b-init c = record {
 
 pub close-requires : goal.close-requires
 close-requires c =
-    closable c.args.link _ _ c.loop-b.tree.items c.pop.new.self.items c.in-Some.b _ _ _ _ c.requires c.loop-b.invariant.goes c.in-Some.ensures.items
+    closable c.args.link _ _ c.loop-b.tree.items c.pop.new.self.items c.in-Some.b _ _ _ _ c.requires
+    c.loop-b.invariant.goes c.in-Some.ensures.items
     (c.holds-at_left.ensures.yes c.if-at_left.true) (c.holds-at_right.ensures.yes c.if-at_right.true)
 
 pub returns-then-at_right : goal.returns-then-at_right
@@ -20,7 +21,8 @@ returns-then-at_right c =
     let goes = c.loop-b.invariant.goes in
     let here = c.holds-at_left.ensures.yes c.if-at_left.true in
     let there = c.holds-at_right.ensures.yes c.if-at_right.true in
-    let closes = closable c.args.link _ _ c.loop-b.tree.items c.pop.new.self.items c.in-Some.b _ _ _ _ c.requires goes c.in-Some.ensures.items
+    let closes = closable c.args.link _ _ c.loop-b.tree.items c.pop.new.self.items c.in-Some.b _ _ _ _ c.requires
+    goes c.in-Some.ensures.items
     here there in
     rw c.loop-b.invariant.same (closed_inside c.args.link c.args.root c.in_ok-ring.ring c.args.tree.now.items c.loop-b.tree.items
     c.pop.new.self.items _ _ c.in-Some.b _ _ _ _
