@@ -17,6 +17,13 @@ pub record IsTable (t : TableValue) : Type 0 where
   pub filled : length t.cells ≡ t.places * t.places
   pub short : (a b : ℕ) → a < t.places → b < t.places → entry t a b ≤ MAX_DISTANCE
 
+-- how a table is stored: each entry both ways, and 0 between a place and itself
+pub record IsStored (t : TableValue) : Type 0 where
+  pub table : IsTable t
+  pub mirror : (a b : ℕ) → a < t.places → b < t.places
+      → slice_index t.cells (a * t.places + b) ≡ entry t a b
+  pub diagonal : (a : ℕ) → a < t.places → entry t a a ≡ 0
+
 -- the table's entries are those of d
 abbrev pub EntriesAre : TableValue → (ℕ → ℕ → ℕ) → Type 0
 EntriesAre t d = (a b : ℕ) → a < t.places → b < t.places → entry t a b ≡ d a b

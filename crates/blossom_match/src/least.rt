@@ -223,7 +223,7 @@ fn first_leaving(t: &DistTable, heights: &[u32], xs: &[u32], to: u32, room: u32)
     ensures { LeavesIn t.now heights.now xs.now to room result }
 {
     for a in xs {
-        if (2 * t.get(*a, to)).saturating_sub(heights[*a as usize]) == room {
+        if (2 * t.get(to, *a)).saturating_sub(heights[*a as usize]) == room {
             return Some(*a);
         }
     }

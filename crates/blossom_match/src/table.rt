@@ -1,4 +1,4 @@
-ghost use Rattle.std.specs.Prelude.{◌≡◌, ◌≢◌, ◌+◌, ◌*◌, ◌<◌, ◌≤◌, length, max, min, IfOk};
+ghost use Rattle.std.specs.Prelude.{◌≡◌, ◌≢◌, ◌+◌, ◌*◌, ◌<◌, ◌≤◌, length, IfOk};
 ghost use Rattle.blossom_match.specs.Tables.{after_set, entry, EntriesAre, IsTable};
 ghost use Rattle.blossom_match.specs.declared.table.TheConstants.{MAX_DISTANCE, MAX_PLACES};
 
@@ -25,11 +25,11 @@ impl Model for DistTable {
 
     ghost Value = { TableValue };
 
-    ghost use Rattle.blossom_match.specs.Tables.{IsTable};
+    ghost use Rattle.blossom_match.specs.Tables.{IsStored};
 
     ghost view = { λ t. record { places = t.places; cells = t.cells.items } };
 
-    ghost invariant = { λ t. IsTable (record { places = t.places; cells = t.cells.items }) };
+    ghost invariant = { λ t. IsStored (record { places = t.places; cells = t.cells.items }) };
 }
 
 impl DistTable {
@@ -61,7 +61,9 @@ impl DistTable {
         ensures entries { EntriesAre self.new (after_set self.old a b d) }
     {
         let at = self.cell(a, b);
+        let back = self.cell(b, a);
         self.cells[at] = d;
+        self.cells[back] = d;
     }
 
     /// The entry of two places.
@@ -74,13 +76,13 @@ impl DistTable {
         self.cells[self.cell(a, b)]
     }
 
-    /// Where the entry of two places stands: in the row of the lower one.
+    /// Where the entry of two places stands in the row of the first.
     fn cell(&self, a: u32, b: u32) -> usize
         requires a_in { a < self.now.places }
         requires b_in { b < self.now.places }
-        ensures value { result ≡ min a b * self.now.places + max a b }
+        ensures value { result ≡ a * self.now.places + b }
         ensures within { result < length self.now.cells }
     {
-        a.min(b) as usize * self.places as usize + a.max(b) as usize
+        a as usize * self.places as usize + b as usize
     }
 }
