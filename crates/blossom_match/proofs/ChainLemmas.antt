@@ -55,32 +55,6 @@ around_push a b (k ∷ bs) c = omega (arith, around_push a b bs c)
 pub tight_back : (d : TableValue) (h : ℕ → ℕ) (l : Link) → IsSymmetric d → IsTight d h l → IsTight d h (back_of l)
 tight_back d h l sy t = omega (arith, sy l.from l.to, t)
 
--- the chain with an inner and an outer set before it
-longer_left : (x : ℕ) (inner outer : NestValue) (chain : List Part)
-    → count x (inner.members ++ (outer.members ++ members_in chain))
-    ≡ count x inner.members + count x outer.members + count x (members_in chain)
-longer_left x inner outer chain =
-    omega (arith, count-append x inner.members (outer.members ++ members_in chain), count-append x outer.members (members_in chain))
-
-pub here_case : (link way : Link) (outer : NestValue) (n : ℕ) → 1 ≤ count way.from outer.members → (way.from ≡ link.from) ⊎ (1 ≤ n)
-    → 1 ≤ count link.from outer.members + n
-here_case link way outer n here (inl e) = omega (arith, here, ap (λ (x : ℕ). count x outer.members) e)
-here_case link way outer n here (inr some) = omega (arith, some)
-
-here_left : (link way : Link) (b : Branch) (chain : List Part) → 1 ≤ count way.from b.outer.members
-    → (way.from ≡ link.from) ⊎ (1 ≤ count link.from (members_in chain))
-    → 1 ≤ count link.from (b.inner.members ++ (b.outer.members ++ members_in chain))
-here_left link way b chain here was =
-    omega (
-      arith,
-      longer_left link.from b.inner b.outer chain,
-      here_case link way b.outer (count link.from (members_in chain)) here was,
-    )
-
-here_right : (link way : Link) (n m : ℕ) → n ≤ m → (way.from ≡ link.from) ⊎ (1 ≤ n) → (way.from ≡ link.from) ⊎ (1 ≤ m)
-here_right link way n m less (inl e) = inl e
-here_right link way n m less (inr some) = inr (omega (arith, some, less))
-
 pub chaining_left : (link : Link) (root : NestValue) (tree left bs : List Branch) (b : Branch) (chain next : List Part)
     (aside : List Branch) (way : Link) (to : ℕ) →
     Chaining link root tree left chain aside way to → left ≡ bs ++ b ∷ [] → 1 ≤ count way.from b.outer.members → count to b.outer.members
@@ -99,7 +73,6 @@ chaining_left link root tree left bs b chain next aside way to c e here away ci 
           root.members bs b,
     ) in
     let longer = part_of b.inner b.pair ∷ part_of b.outer way ∷ chain in
-    let in_left = λ (x : ℕ). longer_left x b.inner b.outer chain in
     subst (λ (ks : List Part). Chaining link root tree bs ks aside b.up to) (sym f) (record {
       grown = l.grown;
       leads = (l.up_to, l.pair_from, (l.pair_to, one, c.leads));
@@ -108,10 +81,6 @@ chaining_left link root tree left bs b chain next aside way to c e here away ci 
       even = omega (arith, c.even);
       begun = λ none. absurd (omega arith);
       apart = omega (arith, c.apart, around_push link.from link.to bs b);
-      here = inr (here_left link way b chain here c.here);
-      others = λ x none. omega (arith, none, c.others x (omega (arith, none, in_left x)), in_left x, outer_members_push x [] bs b);
-      holds = λ a x none. omega (arith, none, c.holds a x (omega (arith, none, in_left x)), in_left x, around_push a x bs b);
-      more = λ x. omega (arith, c.more x, in_left x, outer_members_push x [] bs b);
       kept = (ci, (co, c.kept));
       hung = grown_more (members_in chain ++ outer_members root.members (bs ++ b ∷ [])) (members_in longer ++ outer_members root.members bs)
           (reverse aside)
@@ -177,11 +146,6 @@ chaining_right link root tree left bs b chain next aside way to c e away here ci
       even = omega (arith, c.even, size);
       begun = λ none. absurd (omega (arith, size));
       apart = omega (arith, c.apart, around_push link.from link.to bs b);
-      here = here_right link way (count link.from (members_in chain)) (count link.from (members_in longer))
-          (omega (arith, more link.from)) c.here;
-      others = λ x none. omega (arith, none, more x, c.others x (omega (arith, none, more x)), outer_members_push x [] bs b);
-      holds = λ a x none. omega (arith, none, more x, c.holds a x (omega (arith, none, more x)), around_push a x bs b);
-      more = λ x. omega (arith, c.more x, more x, outer_members_push x [] bs b);
       kept = each-append (λ (k : Part). Kept k.nest) (chain ++ p ∷ []) (q ∷ [])
           (each-append (λ (k : Part). Kept k.nest) chain (p ∷ []) c.kept (co, tt)) (ci, tt);
       hung = grown_more (members_in chain ++ outer_members root.members (bs ++ b ∷ [])) (members_in longer ++ outer_members root.members bs)
@@ -227,20 +191,6 @@ chaining_aside link root tree left bs b chain aside next way to c e away off f =
       even = c.even;
       begun = c.begun;
       apart = omega (arith, c.apart, around_push link.from link.to bs b);
-      here = c.here;
-      others = λ x none. rw rev (omega (
-        arith,
-        c.others x none,
-        outer_members_push x [] bs b,
-        count-append x b.outer.members (outer_members [] (reverse aside)),
-      ));
-      holds = λ a x none. rw rev (omega (arith, c.holds a x none, around_push a x bs b));
-      more = λ x. rw rev (omega (
-        arith,
-        c.more x,
-        outer_members_push x [] bs b,
-        count-append x b.outer.members (outer_members [] (reverse aside)),
-      ));
       kept = c.kept;
       hung = subst (λ (ks : List Branch). IsGrown base ks) (sym rev) (
         omega (arith, l.above, count-append b.up.from (members_in chain) (outer_members root.members bs)),
@@ -307,10 +257,6 @@ chaining_start link root tree chain aside s e f =
       even = omega arith;
       begun = λ none. (refl, refl);
       apart = s.apart;
-      here = inl refl;
-      others = λ x none. omega arith;
-      holds = λ a x none. omega arith;
-      more = λ x. omega arith;
       kept = tt;
       hung = tt;
       once = s.once;

@@ -16,7 +16,7 @@ use Rattle.blossom_match.proofs.ListLemmas.{each-append, each-left, each-last, e
 use Rattle.blossom_match.proofs.SumLemmas.{adds_none, count-append, size-append, some_member}
 use Rattle.blossom_match.proofs.ClosingLemmas.{chain_closes, ring_sound, tree_even}
 use Rattle.blossom_match.proofs.TreeLemmas.{last_of, outer_members_push, inner_members_push, branch_bands_push, branch_bands-append, inner_bands_push, inner_bands-append, grown_more, grown-append, outer-append, inner-append}
-use Rattle.blossom_match.proofs.ChainLemmas.{around_append, around_push, here_case}
+use Rattle.blossom_match.proofs.ChainLemmas.{around_append, around_push}
 
 pub ring_from : (top : NestValue) (way : Link) (chain : List Part) (to : ℕ) → Closable top way chain to → Kept top
     → IsRing (part_of top way ∷ chain)
@@ -123,7 +123,6 @@ pub closed_inside : (link : Link) (root ring : NestValue) (tree left bs mid new 
     → Kept b.outer → ring ≡ ring_value b.outer way chain →
     mid ≡ bs ++ with_outer b ring ∷ [] → new ≡ mid ++ reverse aside → Shrinks link root root tree new
 closed_inside link root ring tree left bs mid new b chain aside way to sh c e cl kb closes m n =
-    let here_ : 1 ≤ count way.from b.outer.members = omega (arith, cl.from) in
     let c = subst (λ (ks : List Branch). Chaining link root tree ks chain aside way to) e c in
     let l = last_of root.members bs b c.grown in
     let parts = part_of b.outer way ∷ chain in
@@ -134,15 +133,6 @@ closed_inside link root ring tree left bs mid new b chain aside way to sh c e cl
     let o2 = λ (x : ℕ). outer_members_push x root.members bs b2 in
     let i = λ (x : ℕ). inner_members_push x bs b in
     let i2 = λ (x : ℕ). inner_members_push x bs b2 in
-    let far : (x : ℕ) → both link.from x root + around link.from x ((bs ++ b2 ∷ []) ++ reverse aside) ≡ 0 → count x ring.members ≡ 0 =
-    λ x none. omega (
-      arith,
-      none,
-      around_append link.from x (bs ++ b2 ∷ []) (reverse aside),
-      around_push link.from x bs b2,
-      r link.from,
-      here_case link way b.outer (count link.from (members_in chain)) here_ c.here,
-    ) in
     let sizes = λ (ks : List Band). length ks in
     let made : IsGrown root.members (bs ++ b2 ∷ []) = grown-append root.members bs (b2 ∷ []) l.grown
     (l.above, l.up_to, l.pair_from, omega (arith, l.pair_to, r b.pair.to, o b.pair.to, c.once b.pair.to, c.places b.pair.to), tt) in
@@ -163,42 +153,6 @@ closed_inside link root ring tree left bs mid new b chain aside way to sh c e cl
         i2 x,
         r x,
         c.places x,
-      );
-      others = λ x none.
-          let out = far x none in
-          omega (
-            arith,
-            out,
-            r x,
-            outer-append x root.members (bs ++ b2 ∷ []) (reverse aside),
-            o x,
-            o2 x,
-            outer_members_push x [] bs b,
-            outer-append x root.members [] bs,
-            outer-append x root.members [] tree,
-            c.others x (omega (arith, out, r x)),
-          );
-      holds = λ a x none.
-          let out = far x none in
-          omega (
-            arith,
-            out,
-            r x,
-            around_append a x (bs ++ b2 ∷ []) (reverse aside),
-            around_push a x bs b,
-            around_push a x bs b2,
-            c.holds a x (omega (arith, out, r x)),
-          );
-      more = λ x. omega (
-        arith,
-        r x,
-        outer-append x root.members (bs ++ b2 ∷ []) (reverse aside),
-        o x,
-        o2 x,
-        outer_members_push x [] bs b,
-        outer-append x root.members [] bs,
-        outer-append x root.members [] tree,
-        c.more x,
       );
       ring = members_in parts;
       sums = λ F add. omega (
@@ -243,35 +197,10 @@ at_the_root : (link : Link) (root ring : NestValue) (tree new : List Branch) (ch
 at_the_root link root ring tree new chain aside way to sh c cl kr closes n =
     let q = λ (x : ℕ). count-append x root.members (members_in chain) in
     let r = λ (x : ℕ). ap (λ (s : NestValue). count x s.members) closes ∙ q x in
-    let far : (x : ℕ) → both link.from x ring + around link.from x (reverse aside) ≡ 0 → count x ring.members ≡ 0 =
-    λ x none. omega (
-      arith,
-      none,
-      r link.from,
-      here_case link way root (count link.from (members_in chain)) (omega (arith, cl.from)) c.here,
-    ) in
     subst (λ (ks : List Branch). Shrinks link root ring tree ks) (sym n) (record {
       grown = grown_more (members_in chain ++ root.members) ring.members (reverse aside)
           (λ x. omega (arith, r x, count-append x (members_in chain) root.members)) c.hung;
       places = λ x. omega (arith, outer-append x ring.members [] (reverse aside), r x, c.places x);
-      others = λ x none.
-          let out = far x none in
-          omega (
-            arith,
-            out,
-            r x,
-            outer-append x ring.members [] (reverse aside),
-            outer-append x root.members [] tree,
-            c.others x (omega (arith, out, r x)),
-          );
-      holds = λ a x none. let out = far x none in omega (arith, out, r x, c.holds a x (omega (arith, out, r x)));
-      more = λ x. omega (
-        arith,
-        r x,
-        outer-append x ring.members [] (reverse aside),
-        outer-append x root.members [] tree,
-        c.more x,
-      );
       ring = members_in (part_of root way ∷ chain);
       sums = λ F add. omega (arith, c.sums F add, adds_none F add, ring_sums F add root way chain ring closes);
       fewer = omega (arith, c.fewer, cl.some);

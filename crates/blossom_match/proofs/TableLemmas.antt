@@ -84,11 +84,13 @@ by_tests : (t s : Bool) (cells : List ℕ) (n a b d u v x y : ℕ) → length ce
     get_or (set_both cells (a * n + b) (b * n + a) d) (u * n + v) 0 ≡ cond (t || s) d (get_or cells (u * n + v) 0)
 by_tests true s cells n a b d u v x y len la lb lu lv pair e f =
     let both = both_true (eqb x a) (eqb y b) e in
-    set_either cells (a * n + b) (b * n + a) (u * n + v) d (omega (arith, len, in_cells n a b la lb)) (omega (arith, len, in_cells n b a lb la))
+    set_either cells (a * n + b) (b * n + a) (u * n + v) d (omega (arith, len, in_cells n a b la lb))
+    (omega (arith, len, in_cells n b a lb la))
     (on_pair n u v x y a b pair (eqb-true x a both.0) (eqb-true y b both.1))
 by_tests false true cells n a b d u v x y len la lb lu lv pair e f =
     let both = both_true (eqb x b) (eqb y a) f in
-    set_either cells (a * n + b) (b * n + a) (u * n + v) d (omega (arith, len, in_cells n a b la lb)) (omega (arith, len, in_cells n b a lb la))
+    set_either cells (a * n + b) (b * n + a) (u * n + v) d (omega (arith, len, in_cells n a b la lb))
+    (omega (arith, len, in_cells n b a lb la))
     (swapped (on_pair n u v x y b a pair (eqb-true x b both.0) (eqb-true y a both.1)))
 by_tests false false cells n a b d u v x y len la lb lu lv pair e f =
     get_or-set_other (set cells (a * n + b) d) (b * n + a) (u * n + v) d 0
@@ -106,13 +108,14 @@ set_cells t a b d = record { places = t.places; cells = set_both t.cells (a * t.
 entry-set_cells : (t : TableValue) → IsTable t → (a b d x y : ℕ) → a < t.places → b < t.places → x < t.places → y < t.places →
     entry (set_cells t a b d) x y ≡ after_set t a b d x y
 entry-set_cells t is a b d x y la lb lx ly =
-    by_tests (eqb x a && eqb y b) (eqb x b && eqb y a) t.cells t.places a b d (min x y) (max x y) x y is.filled la lb (omega (arith, lx, ly))
-    (omega (arith, lx, ly)) (ordered x y (cases_lt x y)) refl refl
+    by_tests (eqb x a && eqb y b) (eqb x b && eqb y a) t.cells t.places a b d (min x y) (max x y) x y is.filled la lb
+    (omega (arith, lx, ly)) (omega (arith, lx, ly)) (ordered x y (cases_lt x y)) refl refl
 
 direct-set_cells : (t : TableValue) → IsStored t → (a b d x y : ℕ) → a < t.places → b < t.places → x < t.places → y < t.places →
     get_or (set_cells t a b d).cells (x * t.places + y) 0 ≡ after_set t a b d x y
 direct-set_cells t is a b d x y la lb lx ly =
-    by_tests (eqb x a && eqb y b) (eqb x b && eqb y a) t.cells t.places a b d x y x y is.table.filled la lb lx ly (inl (refl, refl)) refl refl
+    by_tests (eqb x a && eqb y b) (eqb x b && eqb y a) t.cells t.places a b d x y x y is.table.filled la lb lx ly
+    (inl (refl, refl)) refl refl
     ∙ ap (λ (k : ℕ). cond ((eqb x a && eqb y b) || (eqb x b && eqb y a)) d k) (is.mirror x y lx ly)
 
 short_either : (p : Bool) (d k m : ℕ) → d ≤ m → k ≤ m → cond p d k ≤ m

@@ -108,13 +108,6 @@ pub record HangsOn (s r : Search) : Type 0 where
   pub tree : r.tree.items ≡ s.tree.items ++ branch ∷ []
   pub root : r.root ≡ s.root
 
--- the set of the place is new, and all other outer sets are as before
-pub record ClosesAt (at : ℕ) (s r : Search) : Type 0 where
-  pub others : (x : ℕ) → holding_both at x r ≡ 0 → count x (outers r) ≡ count x (outers s)
-  pub holds : (a x : ℕ) → holding_both at x r ≡ 0 → holding_both a x r ≡ holding_both a x s
-  pub more : (x : ℕ) → count x (outers s) ≤ count x (outers r)
-  pub heights : r.heights.items ≡ s.heights.items
-
 -- the step ends the search
 pub record Ends (t : TableValue) (s : Search) (step : Step) (r : Standing) : Type 0 where
   pub standing : IsStanding t (height_at s) r.couples.items r.free.items

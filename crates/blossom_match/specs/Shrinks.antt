@@ -64,12 +64,6 @@ pub record Shrinks (link : Link) (root new_root : NestValue) (old new : List Bra
   pub grown : IsGrown new_root.members new
   pub places : (x : ℕ) → count x (outer_members new_root.members new) + count x (inner_members new)
       ≡ count x (outer_members root.members old) + count x (inner_members old)
-  pub others : (x : ℕ) → both link.from x new_root + around link.from x new ≡ 0
-      → count x (outer_members new_root.members new) ≡ count x (outer_members root.members old)
-  pub holds : (a x : ℕ) → both link.from x new_root + around link.from x new ≡ 0
-      → both a x new_root + around a x new ≡ both a x root + around a x old
-  pub more : (x : ℕ) → count x (outer_members root.members old)
-      ≤ count x (outer_members new_root.members new)
   pub ring : List ℕ
   pub sums : (F : List Band → ℕ) → Adds F →
       F (bands new_root) + F (branch_bands new)
@@ -89,13 +83,6 @@ pub record Chaining (link : Link) (root : NestValue) (tree left : List Branch) (
   pub even : length chain % 2 ≡ 0
   pub begun : length chain ≡ 0 → (way.from ≡ link.from) × (to ≡ link.to)
   pub apart : both link.from link.to root + around link.from link.to left ≡ 0
-  pub here : (way.from ≡ link.from) ⊎ (1 ≤ count link.from (members_in chain))
-  pub others : (x : ℕ) → count x (members_in chain) ≡ 0 → count x (outer_members [] left)
-      + count x (outer_members [] (reverse aside)) ≡ count x (outer_members [] tree)
-  pub holds : (a x : ℕ) → count x (members_in chain) ≡ 0
-      → around a x left + around a x (reverse aside) ≡ around a x tree
-  pub more : (x : ℕ) → count x (outer_members [] tree) ≤ count x (outer_members [] left)
-      + count x (outer_members [] (reverse aside)) + count x (members_in chain)
   pub kept : AllKept chain
   pub hung : IsGrown (members_in chain ++ outer_members root.members left) (reverse aside)
   pub once : (x : ℕ) → count x (outer_members root.members tree) + count x (inner_members tree) ≤ 1

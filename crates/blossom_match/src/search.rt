@@ -1,6 +1,6 @@
 ghost use Rattle.std.specs.Prelude.{◌≡◌, ◌≤◌, ◌<◌, ◌+◌, ℕ, length, slice_index, IfOk};
 ghost use Rattle.blossom_match.specs.Bands.{count, hit};
-ghost use Rattle.blossom_match.specs.Searches.{Advances, CanStep, CanStepAt, ClosesAt, Ends, HangsOn};
+ghost use Rattle.blossom_match.specs.Searches.{Advances, CanStep, CanStepAt, Ends, HangsOn};
 ghost use Rattle.blossom_match.specs.declared.search.Step.TheVariants as step;
 
 use crate::branches::{Branch, augment, grow};
@@ -71,8 +71,7 @@ pub fn grow_to(s: Search, link: Link) -> Result<Search, Memory>
 /// Makes the ring that the link closes one outer set.
 pub fn shrink_by(alloc: Global, s: Search, link: Link) -> Result<Search, Memory>
     requires { CanStep s (step.Shrink link) }
-    ensures advances { IfOk result (λ r. Advances s (step.Shrink link) r) }
-    ensures closes { IfOk result (λ r. ClosesAt link.from s r) }
+    ensures { IfOk result (λ r. Advances s (step.Shrink link) r) }
 {
     let Search {
         root,

@@ -23,10 +23,22 @@ bounds-heights-a c = omega (
 pub returns-then-saturating_sub-room : goal.returns-then-saturating_sub-room
 returns-then-saturating_sub-room c = record {
   here = count_at c.args.xs.now c.loop-a.a-index c.loop-a-test.true;
-  exact = omega (arith, c.if-saturating_sub-room.true, c.saturating_sub.ensures, c.get.ensures.value, same c.args.t.now c.args.to c.args.xs.now c.loop-a.a-index);
+  exact = omega (
+    arith,
+    c.if-saturating_sub-room.true,
+    c.saturating_sub.ensures,
+    c.get.ensures.value,
+    same c.args.t.now c.args.to c.args.xs.now c.loop-a.a-index,
+  );
 }
 
 pub loop-a-preserved : goal.loop-a-preserved
 loop-a-preserved c = λ l.
     left_more c.args.t.now c.args.heights.now c.args.xs.now c.loop-a.a-index c.args.to c.args.room c.loop-a-test.true
-    (λ e. c.if-saturating_sub-room.false (omega (arith, e, c.saturating_sub.ensures, c.get.ensures.value, same c.args.t.now c.args.to c.args.xs.now c.loop-a.a-index))) (c.loop-a.invariant l)
+    (λ e. c.if-saturating_sub-room.false (omega (
+      arith,
+      e,
+      c.saturating_sub.ensures,
+      c.get.ensures.value,
+      same c.args.t.now c.args.to c.args.xs.now c.loop-a.a-index,
+    ))) (c.loop-a.invariant l)

@@ -19,12 +19,12 @@ returns-in_ok-grown-in-Grow-clause-reaches c =
 pub reach_anew-requires : goal.reach_anew-requires
 reach_anew-requires c =
     is_reachable c.args.t.now c.args.s c.in_ok-shrunk-in-Shrink.shrunk c.args.step (step.Shrink c.in-Shrink.link) c.args.reach.now
-    c.in-Shrink.is c.requires.step c.in_ok-shrunk-in-Shrink.ensures.advances c.requires.reaches
+    c.in-Shrink.is c.requires.step c.in_ok-shrunk-in-Shrink.ensures c.requires.reaches
 
 pub returns-in_ok-shrunk-in-Shrink-clause-reaches : goal.returns-in_ok-shrunk-in-Shrink-clause-reaches
 returns-in_ok-shrunk-in-Shrink-clause-reaches c =
     anew c.args.t.now c.args.s c.in_ok-shrunk-in-Shrink.shrunk c.args.step (step.Shrink c.in-Shrink.link) c.args.reach.now
-    c.reach_anew.new.reach c.in-Shrink.is c.requires.step c.in_ok-shrunk-in-Shrink.ensures.advances c.requires.reaches
+    c.reach_anew.new.reach c.in-Shrink.is c.requires.step c.in_ok-shrunk-in-Shrink.ensures c.requires.reaches
     c.reach_anew.auto.reach c.reach_anew.ensures
 
 pub reach_anew-requires-in-Expand : goal.reach_anew-requires-in-Expand
