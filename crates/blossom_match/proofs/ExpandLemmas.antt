@@ -9,7 +9,7 @@ use Rattle.blossom_match.specs.Rings.{members_in, bands_in, tolls_in, nest_of, r
 use Rattle.blossom_match.specs.Couples.{IsJoined}
 use Rattle.blossom_match.specs.Sound.{IsFirm, IsFirmCouple, IsFirmPart, IsSound, IsTight}
 use Rattle.blossom_match.specs.Trees.{outer_members, inner_members, IsGrown}
-use Rattle.blossom_match.specs.Lays.{CanLay, Expanding, Expands, FirstComesApart, GoesEvenly, Lays, WayInto}
+use Rattle.blossom_match.specs.Lays.{CanLay, Expanding, Expands, FirstComesApart, GoesEvenly, Lays, WayInto, GrowsAt}
 use Rattle.blossom_match.specs.declared.nest.Link.{Link}
 use Rattle.blossom_match.specs.declared.nest.Part.{Part}
 use Rattle.blossom_match.specs.declared.couples.Couple.{Couple}
@@ -114,6 +114,18 @@ pub record SplitAt (root : NestValue) (old bs : List Branch) (b : Branch) (later
   pub after : IsGrown (outer_members root.members (bs ++ b ∷ [])) later
   pub once : (x : ℕ) → count x b.inner.members ≤ 1
 
+split_size : (root : NestValue) (old kept bs : List Branch) (b : Branch) (at : ℕ) → Expanding root old at → kept ≡ take (at + 1) old
+    → kept ≡ bs ++ b ∷ [] → length bs ≡ at
+split_size root old kept bs b at ex e g =
+    omega (
+      arith,
+      apart_within at old ex.apart,
+      length-take (at + 1) old,
+      ap (λ (ks : List Branch). length ks) e,
+      ap (λ (ks : List Branch). length ks) g,
+      length-append bs (b ∷ []),
+    )
+
 pub split_at : (root : NestValue) (old kept bs : List Branch) (b : Branch) (later : List Branch) (at : ℕ) → Expanding root old at → kept
     ≡ take (at + 1) old → later ≡ drop (at + 1) old →
     kept ≡ bs ++ b ∷ [] → SplitAt root old bs b later
@@ -121,16 +133,7 @@ split_at root old kept bs b later at ex e f g =
     let is : old ≡ (bs ++ b ∷ []) ++ later =
     sym (take-append-drop (at + 1) old) ∙ ap (λ (ks : List Branch). ks ++ drop (at + 1) old) (sym e ∙ g)
     ∙ ap (λ (ks : List Branch). (bs ++ b ∷ []) ++ ks) (sym f) in
-    let low = apart_within at old ex.apart in
-    let size : length bs ≡ at = omega (
-      arith,
-      low,
-      length-take (at + 1) old,
-      ap (λ (ks : List Branch). length ks) e,
-      ap
-          (λ (ks : List Branch). length ks) g,
-      length-append bs (b ∷ []),
-    ) in
+    let size = split_size root old kept bs b at ex e g in
     let rest : drop at old ≡ b ∷ later = ap (λ (ks : List Branch). drop at ks) (is ∙ append_assoc bs (b ∷ []) later)
     ∙ ap (λ (i : ℕ). drop i (bs ++ b ∷ later)) (sym size) ∙ drop_past bs (b ∷ later) in
     let apart = subst FirstComesApart rest ex.apart in
@@ -244,3 +247,21 @@ expanded root old bs b later mid new parts ring was cs now s is made g l e f =
           (g.firm d h sy (parts_firm d h b.inner.near parts is (λ x. omega (arith, inside x, s.once x)) sound)) k.outer in
           (each-append (IsFirm d h) mid later r.0 (each-right (IsFirm d h) tree later t), each-append (IsFirmCouple d h) was cs c r.1);
     })))
+
+pub grows_at : (root : NestValue) (old kept bs : List Branch) (b : Branch) (later mid new : List Branch) (ring : List Part)
+    (cs : List Couple) (at : ℕ) → Expanding root old at → kept ≡ take (at + 1) old → later ≡ drop (at + 1) old → kept ≡ bs ++ b ∷ []
+    → Lays root bs ring b.up b.pair b.outer mid cs → new ≡ mid ++ later → GrowsAt at old new
+grows_at root old kept bs b later mid new ring cs at ex e f g l m =
+    let s = split_at root old kept bs b later at ex e f g in
+    record {
+      before = bs;
+      branch = b;
+      added = l.added;
+      last = l.last;
+      later = later;
+      was = s.is ∙ append_assoc bs (b ∷ []) later;
+      now = m ∙ ap (λ (ks : List Branch). ks ++ later) l.is ∙ append_assoc bs (l.added ++ l.last ∷ []) later
+          ∙ ap (λ (ks : List Branch). bs ++ ks) (append_assoc l.added (l.last ∷ []) later);
+      same = l.same;
+      size = split_size root old kept bs b at ex e g;
+    }

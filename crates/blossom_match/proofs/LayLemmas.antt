@@ -1,5 +1,5 @@
 -- Laying a way of parts, two at a time.
-use Rattle.std.proofs.Common.{◌≡◌, ℕ, ◌%◌, ◌≤◌, inl, inr, List, [], ◌∷◌, ◌++◌, length, arith, sym, ap, subst, ◌∙◌}
+use Rattle.std.proofs.Common.{◌≡◌, ℕ, ◌%◌, ◌≤◌, inl, inr, List, [], ◌∷◌, ◌++◌, length, arith, sym, ap, subst, ◌∙◌, append_assoc, refl}
 use Rattle.blossom_match.specs.TableValue.{TableValue}
 use Rattle.blossom_match.specs.Lists.{Each}
 use Rattle.blossom_match.specs.Bands.{Band, NestValue, bands, count}
@@ -89,6 +89,10 @@ does_more root now p q ps way pair outer new cs l =
         count-append x q.nest.members (members_in ps),
       );
       more = λ x. omega (arith, l.more x, outer_members_push x root.members now b);
+      added = b ∷ l.added;
+      last = l.last;
+      is = l.is ∙ append_assoc now (b ∷ []) (l.added ++ l.last ∷ []);
+      same = l.same;
       sums = λ F add. omega (
         arith,
         l.sums F add,
@@ -153,6 +157,10 @@ lays_last root now p ps way pair outer c here =
         count-append x p.nest.members (members_in ps),
       );
       more = λ x. omega (arith, outer_members_push x root.members now b);
+      added = [];
+      last = b;
+      is = refl;
+      same = refl;
       sums = λ F add. omega (arith, branch_bands_push F add now b, bands_coupled F add ps even, add (bands p.nest) (bands_in ps));
       fewer = omega (
         arith,

@@ -1,13 +1,14 @@
 -- What the outer places leave after a change of widths.
-use Rattle.std.proofs.Common.{◌≡◌, ℕ, ◌+◌, ◌-◌, ◌*◌, ◌≤◌, ◌<◌, ◌⊎◌, inl, inr, List, length, get_or, Bool, true, false, cond, ltb, arith, refl, sym, ap, subst, ◌∙◌}
+use Rattle.std.proofs.Common.{◌≡◌, ℕ, ◌+◌, ◌-◌, ◌*◌, ◌≤◌, ◌<◌, ◌⊎◌, inl, inr, List, length, get_or, Bool, true, false, cond, ltb, arith, refl, sym, ap, subst, ◌∙◌, take, drop}
 use Rattle.std.proofs.lemmas.Bool.{ltb-true, ltb-false}
+use Rattle.blossom_match.proofs.ReachLemmas.{reaches_apart}
 use Rattle.blossom_match.specs.Bands.{NestValue, count}
 use Rattle.blossom_match.specs.Trees.{around, both, inner_members, outer_members}
-use Rattle.blossom_match.specs.Searches.{height_at, outers, Advances, CanStep, CanStepAt, HangsOn, IsSearch}
+use Rattle.blossom_match.specs.Searches.{height_at, outers, Advances, CanStep, CanStepAt, ComesApart, HangsOn, IsSearch}
 use Rattle.blossom_match.specs.Bounds.{holding}
 use Rattle.blossom_match.specs.Widths.{Changes}
 use Rattle.blossom_match.specs.Rows.{lowered}
-use Rattle.blossom_match.specs.Reaches.{left_by, CanTakeAll, IsReachable, IsReached, Reaches, ReachesMore, ReachesOuters, SearchReaches}
+use Rattle.blossom_match.specs.Reaches.{left_by, CanTakeAll, IsReachable, IsReached, Reaches, ReachesMore, ReachesOn, ReachesOuters, SearchReaches}
 use Rattle.blossom_match.specs.TableValue.{TableValue}
 use Rattle.blossom_match.specs.Tables.{IsTable}
 use Rattle.blossom_match.specs.declared.table.TheConstants.{MAX_DISTANCE}
@@ -15,6 +16,7 @@ use Rattle.blossom_match.specs.declared.table.TheConstants.{FAR}
 use Rattle.blossom_match.specs.declared.branches.Branch.{Branch}
 use Rattle.blossom_match.specs.declared.search.Search.{Search}
 use Rattle.blossom_match.specs.declared.search.Step.{Step}
+use Rattle.blossom_match.specs.declared.search.Step.TheVariants.{Expand}
 use Rattle.blossom_match.proofs.SearchLemmas.{is_one, place_in}
 use Rattle.blossom_match.proofs.WidthLemmas.{around_same_all, outer_same}
 use Rattle.blossom_match.proofs.RowLemmas.{far_is, lowered_far, lowered_less, lowered_near}
@@ -136,6 +138,16 @@ one_more t s r st now old new e k adv hangs reaches more =
     more t s.tree.items hangs.branch (can_take_at t s r st now e k adv) hangs.tree
     (subst (λ (v : NestValue). Reaches t r.heights.items v s.tree.items old) (sym hangs.root)
     (subst (λ (hs : List ℕ). Reaches t hs s.root s.tree.items old) (sym adv.heights) reaches))
+
+-- the outer parts of a set that has come apart are taken in
+pub apart_more : (t : TableValue) (s r : Search) (st : Step) (at more : ℕ) (old new : List ℕ) → st ≡ Expand at → CanStepAt t s st
+    → Advances s (Expand at) r → ComesApart at s r → more + length s.tree.items ≡ length r.tree.items → SearchReaches t s old
+    → ReachesOn (take more (drop at r.tree.items)) old new → SearchReaches t r new
+apart_more t s r st at more old new e k adv apart size reaches on =
+    reaches_apart t r.heights.items r.root at more s.tree.items r.tree.items old new apart.grows size
+    (can_take_at t s r st (Expand at) e k adv)
+    (subst (λ (v : NestValue). Reaches t r.heights.items v s.tree.items old) (sym apart.root)
+    (subst (λ (hs : List ℕ). Reaches t hs s.root s.tree.items old) (sym adv.heights) reaches)) on
 
 -- the step can be taken
 pub steps_at : (t : TableValue) (s : Search) (st now : Step) → st ≡ now → CanStepAt t s st → CanStep s now

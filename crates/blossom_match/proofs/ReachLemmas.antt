@@ -1,18 +1,20 @@
 -- What the outer places leave for each place.
-use Rattle.std.proofs.Common.{◌≡◌, ◌≢◌, ℕ, ◌+◌, ◌-◌, ◌*◌, ◌≤◌, ◌<◌, ◌⊎◌, inl, inr, suc, zero, List, [], ◌∷◌, ◌++◌, length, take, drop, get_or, arith, refl, sym, ap, subst, ◌∙◌, length-append}
+use Rattle.std.proofs.Common.{◌≡◌, ◌≢◌, ℕ, ◌+◌, ◌-◌, ◌*◌, ◌≤◌, ◌<◌, ◌⊎◌, inl, inr, suc, zero, List, [], ◌∷◌, ◌++◌, length, take, drop, get_or, arith, refl, sym, ap, subst, ◌∙◌, length-append, append_assoc}
 use Rattle.std.proofs.lemmas.List.{take-append-drop}
+use Rattle.std.proofs.Math.Seq.{drop-append_seam, take-append_seam}
+use Rattle.blossom_match.specs.Lays.{GrowsAt}
 use Rattle.blossom_match.specs.Lists.{Each}
 use Rattle.blossom_match.specs.Bands.{NestValue, count, hit}
 use Rattle.blossom_match.specs.Rows.{Merges}
 use Rattle.blossom_match.specs.Sound.{IsFirm}
 use Rattle.blossom_match.specs.Trees.{around, both, outer_members}
 use Rattle.blossom_match.specs.Bounds.{holding}
-use Rattle.blossom_match.specs.Reaches.{left_by, CanTake, HasRow, IsLeft, IsReachable, IsReached, Reaches, ReachesMore, TakesSet}
+use Rattle.blossom_match.specs.Reaches.{left_by, CanTake, HasRow, IsLeft, IsReachable, IsReached, Reaches, ReachesMore, ReachesOn, TakesSet}
 use Rattle.blossom_match.specs.TableValue.{TableValue}
 use Rattle.blossom_match.specs.declared.table.TheConstants.{FAR}
 use Rattle.blossom_match.specs.declared.branches.Branch.{Branch}
 use Rattle.blossom_match.specs.declared.search.Search.{Search}
-use Rattle.blossom_match.proofs.ListLemmas.{drop_here, each-drop, each-last, each-map, each_here, take_here}
+use Rattle.blossom_match.proofs.ListLemmas.{drop_here, each-drop, each-last, each-map, each_here, take_here, each-left, each-right}
 use Rattle.blossom_match.proofs.SumLemmas.{count-append}
 use Rattle.blossom_match.proofs.RaisedLemmas.{at_drop, outer_places}
 use Rattle.blossom_match.proofs.RowLemmas.{not_hit, takes_near}
@@ -137,16 +139,122 @@ once_here root tree i b once low is y =
       count-append y b.outer.members (outer_members [] (drop (i + 1) tree)),
     )
 
--- the branches so far and the next one
-pub reaches_next : (t : TableValue) (hs : List ℕ) (root : NestValue) (tree : List Branch) (i : ℕ) (b : Branch) (reach new : List ℕ)
-    → CanTake t hs root tree → i < length tree → b ≡ get_or tree i b → Reaches t hs root (take i tree) reach
-    → length new ≡ length reach → Merges b.outer.near b.outer.width reach new → Reaches t hs root (take (i + 1) tree) new
-reaches_next t hs root tree i b reach new can low is r size merged =
-    let once = once_here root tree i b can.once low is in
-    let firm = each_here (IsFirm t (λ (a : ℕ). get_or hs a 0)) tree i b can.firm low is in
-    subst (λ (ks : List Branch). Reaches t hs root ks new) (sym (take_here tree i b low is))
-    (set_reached t hs root (take i tree) b reach new once r
-    (takes_near t hs b.outer reach new firm.outer (λ y. omega (arith, once y)) size r.short merged))
+-- the row of the next branch has a cell for each place
+pub fits_row : (tree : List Branch) (i : ℕ) (b : Branch) (first cells : List ℕ)
+    → Each (λ (k : Branch). HasRow (length first) k.outer) tree → i < length tree → b ≡ get_or tree i b → length cells ≡ length first
+    → HasRow (length cells) b.outer
+fits_row tree i b first cells rows low is size =
+    each_here (λ (k : Branch). HasRow (length first) k.outer) tree i b rows low is ∙ sym size
+
+-- the branches so far and the next one, beside others
+pub reaches_next : (t : TableValue) (hs : List ℕ) (root : NestValue) (before tree : List Branch) (i : ℕ) (b : Branch) (reach new : List ℕ)
+    → ((x : ℕ) → count x (outer_members root.members (before ++ tree)) ≤ 1) → Each (IsFirm t (λ (a : ℕ). get_or hs a 0)) tree
+    → i < length tree → b ≡ get_or tree i b → Reaches t hs root (before ++ take i tree) reach → length new ≡ length reach
+    → Merges b.outer.near b.outer.width reach new → Reaches t hs root (before ++ take (i + 1) tree) new
+reaches_next t hs root before tree i b reach new once firm low is r size merged =
+    let base = root.members in
+    let few : (y : ℕ) → count y (outer_members base (before ++ take i tree)) + count y b.outer.members ≤ 1 = λ y. omega (
+      arith,
+      once y,
+      outer-append y base before tree,
+      outer-append y base before (take i tree),
+      ap (λ (ks : List Branch). count y (outer_members [] ks)) (split_here tree i b low is),
+      outer-append y [] (take i tree) (b ∷ drop (i + 1) tree),
+      count-append y b.outer.members (outer_members [] (drop (i + 1) tree)),
+    ) in
+    let is_next : (before ++ take i tree) ++ b ∷ [] ≡ before ++ take (i + 1) tree =
+    append_assoc before (take i tree) (b ∷ []) ∙ ap (λ (ks : List Branch). before ++ ks) (sym (take_here tree i b low is)) in
+    subst (λ (ks : List Branch). Reaches t hs root ks new) is_next
+    (set_reached t hs root (before ++ take i tree) b reach new few r
+    (takes_near t hs b.outer reach new (each_here (IsFirm t (λ (a : ℕ). get_or hs a 0)) tree i b firm low is).outer
+    (λ y. omega (arith, few y)) size r.short merged))
+
+same_case : (t : TableValue) (hs : List ℕ) (root : NestValue) (xs ys : List Branch) (x room : ℕ)
+    → ((y : ℕ) → count y (outer_members root.members ys) ≡ count y (outer_members root.members xs))
+    → ((a x : ℕ) → around a x ys ≡ around a x xs) → (room ≡ FAR) ⊎ IsReached t hs root xs x room
+    → (room ≡ FAR) ⊎ IsReached t hs root ys x room
+same_case t hs root xs ys x room outs holds (inl far) = inl far
+same_case t hs root xs ys x room outs holds (inr l) =
+    inr (record { a = l.a; here = omega (arith, outs l.a, l.here); apart = omega (arith, holds l.a x, l.apart); exact = l.exact })
+
+-- the order of the outer sets is nothing to what they leave
+reaches_same : (t : TableValue) (hs : List ℕ) (root : NestValue) (xs ys : List Branch) (reach : List ℕ)
+    → ((y : ℕ) → count y (outer_members root.members ys) ≡ count y (outer_members root.members xs))
+    → ((a x : ℕ) → around a x ys ≡ around a x xs) → Reaches t hs root xs reach → Reaches t hs root ys reach
+reaches_same t hs root xs ys reach outs holds r = record {
+  size = r.size;
+  short = r.short;
+  least = λ a x ha lx apart. r.least a x (omega (arith, outs a, ha)) lx (omega (arith, holds a x, apart));
+  is = λ x lx. same_case t hs root xs ys x (get_or reach x 0) outs holds (r.is x lx);
+}
+
+drop_before : (xs ys : List Branch) (n : ℕ) → length xs ≡ n → drop n (xs ++ ys) ≡ ys
+drop_before xs ys n e = subst (λ (k : ℕ). drop k (xs ++ ys) ≡ ys) e (drop-append_seam xs ys)
+
+take_before : (xs ys : List Branch) (n : ℕ) → n ≡ length xs → take n (xs ++ ys) ≡ xs
+take_before xs ys n e = subst (λ (k : ℕ). take k (xs ++ ys) ≡ xs) (sym e) (take-append_seam xs ys)
+
+-- the branches that come out of a set are those from the index on
+added_is : (at more : ℕ) (old new : List Branch) → (g : GrowsAt at old new) → more + length old ≡ length new
+    → take more (drop at new) ≡ g.added
+added_is at more old new g size =
+    let rest = ap (λ (ks : List Branch). drop at ks) g.now ∙ drop_before g.before (g.added ++ g.last ∷ g.later) at g.size in
+    let n : more ≡ length g.added = omega (
+      arith,
+      size,
+      ap (λ (ks : List Branch). length ks) g.was,
+      ap (λ (ks : List Branch). length ks) g.now,
+      length-append g.before (g.branch ∷ g.later),
+      length-append g.before (g.added ++ g.last ∷ g.later),
+      length-append g.added (g.last ∷ g.later),
+    ) in
+    ap (λ (ks : List Branch). take more ks) rest ∙ take_before g.added (g.last ∷ g.later) more n
+
+pub grown_size : (at : ℕ) (old new : List Branch) → GrowsAt at old new → length old ≤ length new
+grown_size at old new g =
+    omega (
+      arith,
+      ap (λ (ks : List Branch). length ks) g.was,
+      ap (λ (ks : List Branch). length ks) g.now,
+      length-append g.before (g.branch ∷ g.later),
+      length-append g.before (g.added ++ g.last ∷ g.later),
+      length-append g.added (g.last ∷ g.later),
+    )
+
+-- once an inner set has come apart and its outer parts are taken in
+pub reaches_apart : (t : TableValue) (hs : List ℕ) (root : NestValue) (at more : ℕ) (old new : List Branch) (reach next : List ℕ)
+    → (g : GrowsAt at old new) → more + length old ≡ length new → CanTake t hs root new → Reaches t hs root old reach
+    → ReachesOn (take more (drop at new)) reach next → Reaches t hs root new next
+reaches_apart t hs root at more old new reach next g size can r on =
+    let base = root.members in
+    let on = subst (λ (ks : List Branch). ReachesOn ks reach next) (added_is at more old new g size) on in
+    let outs : (y : ℕ) → count y (outer_members base new) ≡ count y (outer_members base (old ++ g.added)) = λ y. omega (
+      arith,
+      ap (λ (ks : List Branch). count y (outer_members base ks)) g.now,
+      outer-append y base g.before (g.added ++ g.last ∷ g.later),
+      outer-append y [] g.added (g.last ∷ g.later),
+      count-append y g.last.outer.members (outer_members [] g.later),
+      ap (λ (v : NestValue). count y v.members) g.same,
+      outer-append y base old g.added,
+      ap (λ (ks : List Branch). count y (outer_members base ks)) g.was,
+      outer-append y base g.before (g.branch ∷ g.later),
+      count-append y g.branch.outer.members (outer_members [] g.later),
+    ) in
+    let holds : (a x : ℕ) → around a x new ≡ around a x (old ++ g.added) = λ a x. omega (
+      arith,
+      ap (λ (ks : List Branch). around a x ks) g.now,
+      around_append a x g.before (g.added ++ g.last ∷ g.later),
+      around_append a x g.added (g.last ∷ g.later),
+      ap (λ (v : NestValue). both a x v) g.same,
+      around_append a x old g.added,
+      ap (λ (ks : List Branch). around a x ks) g.was,
+      around_append a x g.before (g.branch ∷ g.later),
+    ) in
+    let firm = subst (λ (ks : List Branch). Each (IsFirm t (λ (a : ℕ). get_or hs a 0)) ks) g.now can.firm in
+    reaches_same t hs root (old ++ g.added) new next outs holds
+    (on t hs root old (λ y. omega (arith, outs y, can.once y))
+    (each-left (IsFirm t (λ (a : ℕ). get_or hs a 0)) g.added (g.last ∷ g.later)
+    (each-right (IsFirm t (λ (a : ℕ). get_or hs a 0)) g.before (g.added ++ g.last ∷ g.later) firm)) r)
 
 -- the root alone
 pub reaches_root : (t : TableValue) (hs : List ℕ) (root : NestValue) (tree : List Branch) (reach new : List ℕ) → CanTake t hs root tree

@@ -1,5 +1,5 @@
 -- An inner set that comes apart: a way of parts is laid into the tree.
-use Rattle.std.specs.Prelude.{◌≡◌, ℕ, ◌+◌, ◌%◌, ◌<◌, ◌≤◌, ◌⊎◌, List, [], ◌∷◌, length, drop}
+use Rattle.std.specs.Prelude.{◌≡◌, ℕ, ◌+◌, ◌%◌, ◌<◌, ◌≤◌, ◌⊎◌, List, [], ◌∷◌, ◌++◌, length, drop}
 use Rattle.blossom_match.specs.TableValue.{TableValue}
 use Rattle.blossom_match.specs.Lists.{Each}
 use Rattle.blossom_match.specs.Bands.{Adds, Band, NestValue, bands, count}
@@ -72,6 +72,10 @@ pub record Lays (root : NestValue) (old : List Branch) (ring : List Part) (way p
       + count x (members_in ring) + count x outer.members
   pub more : (x : ℕ) → count x (outer_members root.members old) + count x outer.members
       ≤ count x (outer_members root.members new)
+  pub added : List Branch
+  pub last : Branch
+  pub is : new ≡ old ++ (added ++ last ∷ [])
+  pub same : last.outer ≡ outer
   pub sums : (F : List Band → ℕ) → Adds F → F (branch_bands new) + F (couple_bands cs)
       ≡ F (branch_bands old) + F (bands_in ring) + F (bands outer)
   pub fewer : length (inner_bands new) + length (couple_bands cs)
@@ -90,6 +94,18 @@ pub record Expanding (root : NestValue) (tree : List Branch) (at : ℕ) : Type 0
   pub grown : IsGrown root.members tree
   pub once : (x : ℕ) → count x (outer_members root.members tree) + count x (inner_members tree) ≤ 1
   pub apart : FirstComesApart (drop at tree)
+
+-- branches are added before that at the index, whose outer set stays
+pub record GrowsAt (at : ℕ) (old new : List Branch) : Type 0 where
+  pub before : List Branch
+  pub branch : Branch
+  pub added : List Branch
+  pub last : Branch
+  pub later : List Branch
+  pub was : old ≡ before ++ branch ∷ later
+  pub now : new ≡ before ++ (added ++ last ∷ later)
+  pub same : last.outer ≡ branch.outer
+  pub size : length before ≡ at
 
 -- the parts of the inner set are branches and couples
 pub record Expands (root : NestValue) (old new : List Branch) (was now : List Couple) : Type 0 where

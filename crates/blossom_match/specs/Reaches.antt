@@ -87,6 +87,13 @@ abbrev pub ReachesOuters : NestValue → List Branch → List ℕ → Type 0
 ReachesOuters root tree new = (t : TableValue) (hs : List ℕ) → CanTake t hs root tree
     → length new ≡ t.places → Reaches t hs root tree new
 
+-- the outer sets of the branches are taken in beside those of others
+abbrev pub ReachesOn : List Branch → List ℕ → List ℕ → Type 0
+ReachesOn added old new = (t : TableValue) (hs : List ℕ) (root : NestValue) (tree : List Branch)
+    → ((x : ℕ) → count x (outer_members root.members (tree ++ added)) ≤ 1)
+    → Each (IsFirm t (λ x. slice_index hs x)) added → Reaches t hs root tree old
+    → Reaches t hs root (tree ++ added) new
+
 -- the newest branch's outer set is taken in
 abbrev pub ReachesMore : Search → List ℕ → List ℕ → Type 0
 ReachesMore s old new = (t : TableValue) (before : List Branch) (b : Branch) → CanTakeAll t s

@@ -5,7 +5,7 @@ use Rattle.blossom_match.specs.Bands.{bands, count, height, load}
 use Rattle.blossom_match.specs.Couples.{couple_members, couple_bands, IsJoined}
 use Rattle.blossom_match.specs.Sound.{IsFirm, IsFirmCouple, IsSound, IsTight}
 use Rattle.blossom_match.specs.Trees.{around, both, branch_bands, inner_bands, inner_members, outer_members, IsGrown}
-use Rattle.blossom_match.specs.Lays.{FirstComesApart}
+use Rattle.blossom_match.specs.Lays.{FirstComesApart, GrowsAt}
 use Rattle.blossom_match.specs.TableValue.{TableValue}
 use Rattle.blossom_match.specs.Tables.{entry}
 use Rattle.blossom_match.specs.declared.couples.Couple.{Couple}
@@ -101,6 +101,11 @@ pub record Advances (s : Search) (step : Step) (r : Search) : Type 0 where
   pub fewer : size_of r < size_of s
   pub free : r.free.items ≡ s.free.items
   pub heights : r.heights.items ≡ s.heights.items
+
+-- branches more before that at the index, below the same root
+pub record ComesApart (at : ℕ) (s r : Search) : Type 0 where
+  pub grows : GrowsAt at s.tree.items r.tree.items
+  pub root : r.root ≡ s.root
 
 -- a branch more, below the same root
 pub record HangsOn (s r : Search) : Type 0 where

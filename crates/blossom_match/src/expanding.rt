@@ -1,7 +1,7 @@
 ghost use Rattle.std.specs.Prelude.{◌≡◌, ◌≤◌, IfOk, OnOk};
 ghost use Rattle.blossom_match.specs.Bands.{count};
 ghost use Rattle.blossom_match.specs.Rings.{members_in, IsRing};
-ghost use Rattle.blossom_match.specs.Lays.{mirror_of, CanLay, Expanding, Expands, GoesEvenly, Lays};
+ghost use Rattle.blossom_match.specs.Lays.{mirror_of, CanLay, Expanding, Expands, GoesEvenly, GrowsAt, Lays};
 
 use crate::branches::Branch;
 use crate::couples::{Couple, pair_off};
@@ -20,8 +20,9 @@ pub fn expand(
     rest: &mut Vec<Couple>,
 ) -> Result<(), Memory>
     requires { Expanding root.now tree.old.items at }
-    ensures { OnOk result (Expands root.now tree.old.items tree.new.items rest.old.items
+    ensures expands { OnOk result (Expands root.now tree.old.items tree.new.items rest.old.items
         rest.new.items) }
+    ensures grows { OnOk result (GrowsAt at tree.old.items tree.new.items) }
 {
     let mut later = tree.split_off(at + 1)?;
     match tree.pop() {

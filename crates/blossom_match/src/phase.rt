@@ -7,7 +7,7 @@ ghost use Rattle.blossom_match.specs.Phases.{Begins, Goes, Leads, Stands, StepRe
 
 use crate::least::least;
 use crate::nest::{Link, single};
-use crate::reach::{lower_reach, reach_anew, reach_more};
+use crate::reach::{lower_reach, reach_anew, reach_from, reach_more};
 use crate::search::{Search, Standing, Step, expand_at, grow_to, meet, shrink_by};
 use crate::table::DistTable;
 use crate::widening::widen;
@@ -112,8 +112,9 @@ fn take_step(
             Ok(Stepped::More(shrunk))
         }
         Step::Expand(at) => {
+            let before = s.tree.len();
             let expanded = expand_at(alloc, s, at)?;
-            reach_anew(&expanded, reach);
+            reach_from(&expanded, at, expanded.tree.len() - before, reach);
             Ok(Stepped::More(expanded))
         }
     }

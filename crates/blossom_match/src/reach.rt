@@ -1,7 +1,7 @@
-ghost use Rattle.std.specs.Prelude.{◌≡◌, ◌≤◌, ◌<◌, ◌+◌, ℕ, length, slice_index};
+ghost use Rattle.std.specs.Prelude.{◌≡◌, ◌≤◌, ◌<◌, ◌+◌, ℕ, drop, length, slice_index, take};
 ghost use Rattle.blossom_match.specs.Lists.{Each};
 ghost use Rattle.blossom_match.specs.Rows.{lowered, Merges};
-ghost use Rattle.blossom_match.specs.Reaches.{HasRow, IsReachable, ReachesMore, ReachesOuters};
+ghost use Rattle.blossom_match.specs.Reaches.{HasRow, IsReachable, ReachesMore, ReachesOn, ReachesOuters};
 ghost use Rattle.blossom_match.specs.declared.table.TheConstants.{FAR};
 
 use crate::branches::Branch;
@@ -34,9 +34,26 @@ fn reach_all(root: &Nest, tree: &[Branch], reach: &mut [u32])
 {
     reset(reach);
     take_set(root, reach);
+    reach_branches(tree, reach);
+}
+
+/// Takes the outer sets of the branches in.
+fn reach_branches(tree: &[Branch], reach: &mut [u32])
+    requires { Each (λ b. HasRow (length reach.old) b.outer) tree.now }
+    ensures { ReachesOn tree.now reach.old reach.new }
+{
     for b in tree {
         take_set(&b.outer, reach);
     }
+}
+
+/// Takes the outer sets of so many branches in, from the index on.
+pub fn reach_from(s: &Search, at: usize, more: usize, reach: &mut [u32])
+    requires can { IsReachable s.now reach.old }
+    requires within { at + more ≤ length s.now.tree.items }
+    ensures { ReachesOn (take more (drop at s.now.tree.items)) reach.old reach.new }
+{
+    reach_branches(&s.tree[at..at + more], reach);
 }
 
 /// The least that the outer places of a search leave, anew.

@@ -1,6 +1,6 @@
 ghost use Rattle.std.specs.Prelude.{◌≡◌, ◌≤◌, ◌<◌, ◌+◌, ℕ, length, slice_index, IfOk};
 ghost use Rattle.blossom_match.specs.Bands.{count, hit};
-ghost use Rattle.blossom_match.specs.Searches.{Advances, CanStep, CanStepAt, Ends, HangsOn};
+ghost use Rattle.blossom_match.specs.Searches.{Advances, CanStep, CanStepAt, ComesApart, Ends, HangsOn};
 ghost use Rattle.blossom_match.specs.declared.search.Step.TheVariants as step;
 
 use crate::branches::{Branch, augment, grow};
@@ -94,7 +94,8 @@ pub fn shrink_by(alloc: Global, s: Search, link: Link) -> Result<Search, Memory>
 /// Takes the inner set of the branch at the index apart.
 pub fn expand_at(alloc: Global, s: Search, at: usize) -> Result<Search, Memory>
     requires { CanStep s (step.Expand at) }
-    ensures { IfOk result (λ r. Advances s (step.Expand at) r) }
+    ensures advances { IfOk result (λ r. Advances s (step.Expand at) r) }
+    ensures apart { IfOk result (λ r. ComesApart at s r) }
 {
     let Search {
         root,

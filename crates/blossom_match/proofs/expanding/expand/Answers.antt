@@ -1,6 +1,6 @@
 use Rattle.std.proofs.Common.{arith, ap}
 use Rattle.blossom_match.specs.Bands.{NestValue, count}
-use Rattle.blossom_match.proofs.ExpandLemmas.{can_lay, expanded, split_at}
+use Rattle.blossom_match.proofs.ExpandLemmas.{can_lay, expanded, grows_at, split_at}
 use Rattle.blossom_match.proofs.expanding.expand.Goals as goal
 
 pub into_parts-requires : goal.into_parts-requires
@@ -27,10 +27,15 @@ lay-requires c =
     can_lay c.args.root.now c.args.tree.now.items _ c.in-Some.b _ c.into_parts.result.items _ s c.into_parts.ensures.made
     c.in_ok-ring-in-Some.ensures
 
-pub returns : goal.returns
-returns c =
+pub returns-clause-expands : goal.returns-clause-expands
+returns-clause-expands c =
     let s = split_at c.args.root.now c.args.tree.now.items _ _ c.in-Some.b _ c.args.at c.requires c.in_ok-later.ensures.items
     c.in_ok-later.ensures.tail c.in-Some.ensures.items in
     expanded c.args.root.now c.args.tree.now.items _ c.in-Some.b _ _ _ c.into_parts.result.items _ c.args.rest.now.items _ _ s
     c.into_parts.ensures.ring c.into_parts.ensures.made c.in_ok-ring-in-Some.ensures
     c.in_ok-couples-in-Some.ensures c.in_ok-append-in-Some.ensures.items c.in_ok-append-in-Some-2.ensures.items
+
+pub returns-clause-grows : goal.returns-clause-grows
+returns-clause-grows c =
+    grows_at c.args.root.now c.args.tree.now.items _ _ c.in-Some.b _ _ _ _ _ c.args.at c.requires c.in_ok-later.ensures.items
+    c.in_ok-later.ensures.tail c.in-Some.ensures.items c.in_ok-couples-in-Some.ensures c.in_ok-append-in-Some-2.ensures.items

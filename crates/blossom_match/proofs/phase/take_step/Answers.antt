@@ -1,5 +1,9 @@
 use Rattle.blossom_match.specs.declared.search.Step.TheVariants as step
-use Rattle.blossom_match.proofs.LoweredLemmas.{anew, is_reachable, one_more, steps_at}
+use Rattle.std.proofs.Common.{arith, ◌-◌, subst, sym}
+use Rattle.blossom_match.specs.Searches.{Advances}
+use Rattle.blossom_match.specs.declared.search.Step.{Step}
+use Rattle.blossom_match.proofs.ReachLemmas.{grown_size}
+use Rattle.blossom_match.proofs.LoweredLemmas.{anew, apart_more, is_reachable, one_more, steps_at}
 use Rattle.blossom_match.proofs.phase.take_step.Goals as goal
 
 pub grow_to-requires : goal.grow_to-requires
@@ -27,13 +31,26 @@ returns-in_ok-shrunk-in-Shrink-clause-reaches c =
     c.reach_anew.new.reach c.in-Shrink.is c.requires.step c.in_ok-shrunk-in-Shrink.ensures c.requires.reaches
     c.reach_anew.auto.reach c.reach_anew.ensures
 
-pub reach_anew-requires-in-Expand : goal.reach_anew-requires-in-Expand
-reach_anew-requires-in-Expand c =
+pub reach_from-requires-clause-can : goal.reach_from-requires-clause-can
+reach_from-requires-clause-can c =
     is_reachable c.args.t.now c.args.s c.in_ok-expanded-in-Expand.expanded c.args.step (step.Expand c.in-Expand.at) c.args.reach.now
-    c.in-Expand.is c.requires.step c.in_ok-expanded-in-Expand.ensures c.requires.reaches
+    c.in-Expand.is c.requires.step c.in_ok-expanded-in-Expand.ensures.advances c.requires.reaches
 
 pub returns-in_ok-expanded-in-Expand-clause-reaches : goal.returns-in_ok-expanded-in-Expand-clause-reaches
 returns-in_ok-expanded-in-Expand-clause-reaches c =
-    anew c.args.t.now c.args.s c.in_ok-expanded-in-Expand.expanded c.args.step (step.Expand c.in-Expand.at) c.args.reach.now
-    c.reach_anew-in-Expand.new.reach c.in-Expand.is c.requires.step c.in_ok-expanded-in-Expand.ensures c.requires.reaches
-    c.reach_anew-in-Expand.auto.reach c.reach_anew-in-Expand.ensures
+    let apart = c.in_ok-expanded-in-Expand.ensures.apart in
+    apart_more c.args.t.now c.args.s c.in_ok-expanded-in-Expand.expanded c.args.step c.in-Expand.at
+    (c.len.result - c.len-before.result) c.args.reach.now c.reach_from.new.reach c.in-Expand.is c.requires.step
+    c.in_ok-expanded-in-Expand.ensures.advances apart
+    (omega (
+      arith,
+      c.len.ensures,
+      c.len-before.ensures,
+      grown_size c.in-Expand.at c.args.s.tree.items
+          c.in_ok-expanded-in-Expand.expanded.tree.items apart.grows,
+    )) c.requires.reaches c.reach_from.ensures
+
+pub returns-in_ok-expanded-in-Expand-clause-leads : goal.returns-in_ok-expanded-in-Expand-clause-leads
+returns-in_ok-expanded-in-Expand-clause-leads c =
+    subst (λ (st : Step). Advances c.args.s st c.in_ok-expanded-in-Expand.expanded) (sym c.in-Expand.is)
+    c.in_ok-expanded-in-Expand.ensures.advances
