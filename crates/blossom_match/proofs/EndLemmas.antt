@@ -8,7 +8,7 @@ use Rattle.blossom_match.specs.Lists.{Each, EachPair}
 use Rattle.blossom_match.specs.Bands.{Band, apart, count, hit, load}
 use Rattle.blossom_match.specs.Couples.{couple_members, couple_bands, IsJoined, IsSettled}
 use Rattle.blossom_match.specs.Sound.{IsFirmCouple}
-use Rattle.blossom_match.specs.Searches.{height_at, CanStep, IsSearch, IsStanding, CanStepAt}
+use Rattle.blossom_match.specs.Searches.{height_at, IsSearch, IsStanding, CanStepAt}
 use Rattle.blossom_match.specs.Bounds.{Bounds, CanSearch}
 use Rattle.blossom_match.specs.Rings.{single_of}
 use Rattle.blossom_match.specs.Widths.{CanWiden, Widens}

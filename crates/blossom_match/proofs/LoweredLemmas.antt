@@ -1,6 +1,5 @@
 -- What the outer places leave after a change of widths.
-use Rattle.std.proofs.Common.{◌≡◌, ℕ, ◌+◌, ◌-◌, ◌*◌, ◌≤◌, ◌<◌, ◌⊎◌, inl, inr, List, length, get_or, Bool, true, false, cond, ltb, arith, refl, sym, ap, subst, ◌∙◌, take, drop}
-use Rattle.std.proofs.lemmas.Bool.{ltb-true, ltb-false}
+use Rattle.std.proofs.Common.{◌≡◌, ℕ, ◌+◌, ◌-◌, ◌*◌, ◌≤◌, ◌<◌, ◌⊎◌, inl, inr, List, length, get_or, arith, sym, ap, subst, ◌∙◌, take, drop}
 use Rattle.blossom_match.proofs.ReachLemmas.{reaches_apart}
 use Rattle.blossom_match.specs.Bands.{NestValue, count}
 use Rattle.blossom_match.specs.Trees.{around, both, inner_members, outer_members}
@@ -11,7 +10,6 @@ use Rattle.blossom_match.specs.Rows.{lowered}
 use Rattle.blossom_match.specs.Reaches.{left_by, CanTakeAll, IsReachable, IsReached, Reaches, ReachesMore, ReachesOn, ReachesOuters, SearchReaches}
 use Rattle.blossom_match.specs.TableValue.{TableValue}
 use Rattle.blossom_match.specs.Tables.{IsTable}
-use Rattle.blossom_match.specs.declared.table.TheConstants.{MAX_DISTANCE}
 use Rattle.blossom_match.specs.declared.table.TheConstants.{FAR}
 use Rattle.blossom_match.specs.declared.branches.Branch.{Branch}
 use Rattle.blossom_match.specs.declared.search.Search.{Search}

@@ -5,7 +5,7 @@ use Rattle.std.proofs.lemmas.Bool.{eqb-true, eqb-false, ltb-false}
 use Rattle.std.proofs.lemmas.List.{get_or-set_other, get_or-set_same}
 use Rattle.blossom_match.specs.Bands.{count, hit}
 use Rattle.blossom_match.specs.Trees.{outer_members}
-use Rattle.blossom_match.specs.Searches.{height_at, is_place, CanStep, Ends, IsReady, IsSearch, IsStanding, CanStepAt}
+use Rattle.blossom_match.specs.Searches.{height_at, is_place, Ends, IsReady, IsSearch, IsStanding, CanStepAt}
 use Rattle.blossom_match.specs.Phases.{Begins, Stands}
 use Rattle.blossom_match.specs.Prices.{AreHalves, CanPair, FindsTight, LeavesRoom, Lies, Pairs}
 use Rattle.blossom_match.specs.TableValue.{TableValue}

@@ -1,5 +1,5 @@
 -- What the outer places leave for each place.
-use Rattle.std.proofs.Common.{◌≡◌, ◌≢◌, ℕ, ◌+◌, ◌-◌, ◌*◌, ◌≤◌, ◌<◌, ◌⊎◌, inl, inr, suc, zero, List, [], ◌∷◌, ◌++◌, length, take, drop, get_or, arith, refl, sym, ap, subst, ◌∙◌, length-append, append_assoc}
+use Rattle.std.proofs.Common.{◌≡◌, ◌≢◌, ℕ, ◌+◌, ◌≤◌, ◌<◌, ◌⊎◌, inl, inr, suc, zero, List, [], ◌∷◌, ◌++◌, length, take, drop, get_or, arith, refl, sym, ap, subst, ◌∙◌, length-append, append_assoc}
 use Rattle.std.proofs.lemmas.List.{take-append-drop}
 use Rattle.std.proofs.Math.Seq.{drop-append_seam, take-append_seam}
 use Rattle.blossom_match.specs.Lays.{GrowsAt}
@@ -14,7 +14,7 @@ use Rattle.blossom_match.specs.TableValue.{TableValue}
 use Rattle.blossom_match.specs.declared.table.TheConstants.{FAR}
 use Rattle.blossom_match.specs.declared.branches.Branch.{Branch}
 use Rattle.blossom_match.specs.declared.search.Search.{Search}
-use Rattle.blossom_match.proofs.ListLemmas.{drop_here, each-drop, each-last, each-map, each_here, take_here, each-left, each-right}
+use Rattle.blossom_match.proofs.ListLemmas.{each-last, each-map, each_here, take_here, each-left, each-right}
 use Rattle.blossom_match.proofs.SumLemmas.{count-append}
 use Rattle.blossom_match.proofs.RaisedLemmas.{at_drop, outer_places}
 use Rattle.blossom_match.proofs.RowLemmas.{not_hit, takes_near}

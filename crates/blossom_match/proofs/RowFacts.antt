@@ -1,5 +1,5 @@
 -- Worked rows.
-use Rattle.std.proofs.Common.{◌≡◌, ℕ, List, [], ◌∷◌, refl}
+use Rattle.std.proofs.Common.{◌≡◌, ℕ, [], ◌∷◌, refl}
 use Rattle.blossom_match.specs.Rings.{single_of}
 use Rattle.blossom_match.specs.RingRows.{ring_row}
 use Rattle.blossom_match.specs.Rows.{single_row}

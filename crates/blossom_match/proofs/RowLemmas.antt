@@ -1,17 +1,17 @@
 -- What sets leave for the places outside them.
-use Rattle.std.proofs.Common.{◌≡◌, ◌≢◌, ℕ, ◌+◌, ◌-◌, ◌*◌, ◌≤◌, ◌<◌, ◌⊎◌, inl, inr, suc, zero, List, [], ◌∷◌, ◌++◌, length, take, drop, get_or, set, map, min, Bool, true, false, cond, eqb, ltb, arith, refl, sym, ap, subst, ◌∙◌, get_or-set_other, get_or-set_same}
+use Rattle.std.proofs.Common.{◌≡◌, ◌≢◌, ℕ, ◌+◌, ◌-◌, ◌*◌, ◌≤◌, ◌<◌, ◌⊎◌, inl, inr, suc, zero, List, [], ◌∷◌, ◌++◌, length, take, get_or, set, map, min, Bool, true, false, cond, eqb, ltb, arith, refl, sym, ap, subst, ◌∙◌, get_or-set_other, get_or-set_same}
 use Rattle.std.proofs.lemmas.Bool.{cases_lt, eqb-false, eqb-true, ltb-true, ltb-false}
 use Rattle.std.proofs.lemmas.Grind.{same_number_lists}
 use Rattle.std.proofs.lemmas.List.FromFn.{get_or-map-range_with_len, length-map-range_with_len}
 use Rattle.std.specs.List.{range_with_len}
 use Rattle.blossom_match.proofs.ListLemmas.{number_here, take_here}
 use Rattle.blossom_match.specs.Lists.{Each}
-use Rattle.blossom_match.specs.Bands.{NestValue, Row, bands, count, height, hit}
-use Rattle.blossom_match.specs.Rows.{lowered, single_cell, single_row, IsNear, IsRoomOf, Merges}
+use Rattle.blossom_match.specs.Bands.{NestValue, count, height, hit}
+use Rattle.blossom_match.specs.Rows.{lowered, single_cell, single_row, IsNear, Merges}
 use Rattle.blossom_match.specs.Rings.{bands_in, members_in}
-use Rattle.blossom_match.specs.RingRows.{least_of, ring_cell, ring_row, row_for, HaveRows}
+use Rattle.blossom_match.specs.RingRows.{least_of, ring_cell, ring_row, row_for}
 use Rattle.blossom_match.specs.Sound.{IsFirmPart, IsSound}
-use Rattle.blossom_match.specs.Reaches.{left_by, IsLeft, TakesSet}
+use Rattle.blossom_match.specs.Reaches.{IsLeft, TakesSet}
 use Rattle.blossom_match.specs.TableValue.{TableValue}
 use Rattle.blossom_match.specs.Tables.{entry, IsTable}
 use Rattle.blossom_match.specs.declared.table.TheConstants.{FAR, MAX_DISTANCE}

@@ -7,7 +7,7 @@ use Rattle.blossom_match.specs.Bands.{Adds, Band, NestValue, Kept, bands, count}
 use Rattle.blossom_match.specs.Rings.{members_in, bands_in, IsRing}
 use Rattle.blossom_match.specs.RingRows.{HaveRows}
 use Rattle.blossom_match.specs.Sound.{IsFirm, IsSound, IsFirmPart}
-use Rattle.blossom_match.specs.Trees.{around, both, outer_members, inner_members, IsGrown}
+use Rattle.blossom_match.specs.Trees.{both, outer_members, inner_members, IsGrown}
 use Rattle.blossom_match.specs.Shrinks.{part_of, ring_value, Closable, Shrinking, Shrinks, Chaining}
 use Rattle.blossom_match.specs.declared.nest.Link.{Link}
 use Rattle.blossom_match.specs.declared.nest.Part.{Part}
@@ -16,7 +16,7 @@ use Rattle.blossom_match.proofs.ListLemmas.{each-append, each-left, each-last, e
 use Rattle.blossom_match.proofs.SumLemmas.{adds_none, count-append, size-append, some_member}
 use Rattle.blossom_match.proofs.ClosingLemmas.{chain_closes, ring_sound, tree_even}
 use Rattle.blossom_match.proofs.TreeLemmas.{last_of, outer_members_push, inner_members_push, branch_bands_push, branch_bands-append, inner_bands_push, inner_bands-append, grown_more, grown-append, outer-append, inner-append}
-use Rattle.blossom_match.proofs.ChainLemmas.{around_append, around_push}
+use Rattle.blossom_match.proofs.ChainLemmas.{around_push}
 
 pub ring_from : (top : NestValue) (way : Link) (chain : List Part) (to : ℕ) → Closable top way chain to → Kept top
     → IsRing (part_of top way ∷ chain)

@@ -5,7 +5,6 @@ use Rattle.blossom_match.specs.Lists.{Each}
 use Rattle.blossom_match.specs.Bands.{NestValue, Band, bands, count, load, total}
 use Rattle.blossom_match.specs.Couples.{couple_members, couple_bands, IsJoined}
 use Rattle.blossom_match.specs.Opens.{OpensAt}
-use Rattle.blossom_match.specs.Tables.{entry}
 use Rattle.blossom_match.specs.Matchings.{load_on, width_of}
 use Rattle.blossom_match.specs.Taken.{own_moat, TakesNest, TakesCouples, Taking}
 use Rattle.blossom_match.specs.declared.couples.Couple.{Couple}

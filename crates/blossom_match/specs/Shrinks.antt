@@ -1,8 +1,8 @@
 -- A link between two outer sets closes a ring.
-use Rattle.std.specs.Prelude.{◌≡◌, ℕ, ◌+◌, ◌*◌, ◌%◌, ◌<◌, ◌≤◌, ◌⊎◌, List, [], ◌∷◌, ◌++◌, length, reverse}
+use Rattle.std.specs.Prelude.{◌≡◌, ℕ, ◌+◌, ◌*◌, ◌%◌, ◌<◌, ◌≤◌, List, [], ◌∷◌, ◌++◌, length, reverse}
 use Rattle.blossom_match.specs.TableValue.{TableValue}
 use Rattle.blossom_match.specs.Lists.{Each}
-use Rattle.blossom_match.specs.Bands.{Adds, Band, NestValue, Kept, bands, count}
+use Rattle.blossom_match.specs.Bands.{Adds, Band, NestValue, bands, count}
 use Rattle.blossom_match.specs.Rings.{back_of, members_in, bands_in, AllKept}
 use Rattle.blossom_match.specs.RingRows.{ring_of, HaveRows}
 use Rattle.blossom_match.specs.Sound.{IsFirm, IsFirmPart, IsSound, IsSymmetric, IsTight}

@@ -4,7 +4,6 @@ use Rattle.blossom_match.specs.Lists.{Each, EachPair}
 use Rattle.blossom_match.specs.Bands.{NestValue, bands, count, height, hit, load, total, IsPaid}
 use Rattle.blossom_match.specs.Couples.{couple_members, couple_bands, IsJoined, IsSettled}
 use Rattle.blossom_match.specs.TableValue.{TableValue}
-use Rattle.blossom_match.specs.Tables.{entry}
 use Rattle.blossom_match.specs.Matchings.{cost_of, ends_at, load_on, width_of, AreLaminar}
 use Rattle.blossom_match.specs.declared.matching.Moat.{Moat}
 use Rattle.blossom_match.specs.declared.matching.Pair.{Pair}

@@ -1,8 +1,7 @@
-use Rattle.std.proofs.Common.{arith, refl, sym, List, [], ◌++◌, subst}
+use Rattle.std.proofs.Common.{arith, refl, sym, List, ◌++◌, subst}
 use Rattle.std.proofs.lemmas.List.{append-nil, take_all}
-use Rattle.blossom_match.specs.Reaches.{HasRow, Reaches}
+use Rattle.blossom_match.specs.Reaches.{Reaches}
 use Rattle.blossom_match.specs.declared.branches.Branch.{Branch}
-use Rattle.blossom_match.proofs.ListLemmas.{each_here}
 use Rattle.blossom_match.proofs.ReachLemmas.{fits_row, reaches_next}
 use Rattle.blossom_match.proofs.reach.reach_branches.Goals as goal
 
