@@ -1,8 +1,8 @@
 -- The first record of the bytes that are left.
 use Rattle.std.proofs.Common.{◌≡◌, ℕ, ◌+◌, ◌≤◌, List, [], ◌∷◌, ◌++◌, length, get_or, drop, ap, sym, ◌∙◌, arith}
 use Rattle.design_model.specs.declared.point.Point.{Point}
-use Rattle.format_traits.specs.declared.record_reader.Cut.{Cut}
-use Rattle.format_traits.specs.declared.record_reader.Cut.TheVariants as cut
+use Rattle.format_traits.specs.declared.record_reader.NextRecord.{NextRecord}
+use Rattle.format_traits.specs.declared.record_reader.NextRecord.TheVariants as cut
 use Rattle.format_traits.specs.Cutting.{Cuts}
 use Rattle.format_traits.specs.Records.{Records, next}
 use Rattle.dst_codec.specs.declared.record_kind.RecordKind.{RecordKind}
@@ -18,7 +18,7 @@ record_reads run at a b c rest k m of_kind of_move =
     ∙ ap (λ m. record_as k at run m (records_from (run_after k run) (at + 3) rest)) of_move
 
 -- the cut of three bytes is that of their kind and their move
-pub cut_three : (run after at : ℕ) (bytes : List ℕ) (k : RecordKind) (m : Point) (result : Cut) → 3 ≤ length bytes
+pub cut_three : (run after at : ℕ) (bytes : List ℕ) (k : RecordKind) (m : Point) (result : NextRecord) → 3 ≤ length bytes
     → kind_of (get_or bytes 2 0) ≡ k → move_of (get_or bytes 0 0) (get_or bytes 1 0) (get_or bytes 2 0) ≡ m
     → after ≡ run_after k run → CutsAs k at run m result → Cuts (records_from run) (records_from after) at bytes result
 cut_three run after at [] k m result long of_kind of_move of_run cuts = absurd (let no : ⊥ = omega (arith, long) in no)
@@ -29,7 +29,7 @@ cut_three run after at (a ∷ b ∷ c ∷ rest) k m result long of_kind of_move 
     behind : List ℕ → Records
     behind more = records_from (run_after k run) (at + 3) (rest ++ more)
 
-    by_cut : (result : Cut) → CutsAs k at run m result
+    by_cut : (result : NextRecord) → CutsAs k at run m result
         → Cuts (records_from run) (records_from after) at (a ∷ b ∷ c ∷ rest) result
     by_cut cut.End cuts = λ more. record_reads run at a b c (rest ++ more) k m of_kind of_move ∙ cuts (behind more)
     by_cut (cut.Wants ended) cuts = absurd cuts

@@ -3,8 +3,8 @@ use Rattle.std.specs.Prelude.{◌≡◌, ℕ, Bool, true, false, IsTrue}
 use Rattle.std.specs.List.{list_all}
 use Rattle.design_model.specs.declared.point.Point.{Point}
 use Rattle.design_model.specs.Points.{is_within}
-use Rattle.format_traits.specs.declared.record_reader.Cut.{Cut}
-use Rattle.format_traits.specs.declared.record_reader.Cut.TheVariants as cut
+use Rattle.format_traits.specs.declared.record_reader.NextRecord.{NextRecord}
+use Rattle.format_traits.specs.declared.record_reader.NextRecord.TheVariants as cut
 use Rattle.format_traits.specs.declared.record_reader.TheConstants.{GREATEST_STEP}
 use Rattle.format_traits.specs.Records.{Records, over, refused, next, moves_in}
 use Rattle.dst_codec.specs.declared.record_kind.RecordKind.{RecordKind}
@@ -20,7 +20,7 @@ is_other kind.Sequin = true
 is_other kind.End = true
 
 -- what the cut of a record of that kind means, whatever stands behind it
-abbrev pub CutsAs : RecordKind → ℕ → ℕ → Point → Cut → Type 0
+abbrev pub CutsAs : RecordKind → ℕ → ℕ → Point → NextRecord → Type 0
 CutsAs k at run m cut.End = (rest : Records) → record_as k at run m rest ≡ over true
 CutsAs k at run m (cut.Wants ended) = ⊥
 CutsAs k at run m (cut.Refused f) = (rest : Records) → record_as k at run m rest ≡ refused f

@@ -9,7 +9,7 @@ use crate::header::HEADER_LENGTH;
 use crate::reading::read_header;
 use crate::record_kind::RecordKind;
 use design_model::{Design, Point};
-use format_traits::{Cut, Event, ReadFault, RecordReader};
+use format_traits::{Event, NextRecord, ReadFault, RecordReader};
 
 /// The jump records in the unbroken run before the next record, counted up to three.
 #[derive(Clone, Copy, Debug, PartialEq, Eq)]
@@ -37,9 +37,9 @@ impl RecordReader for Run {
         false
     }
 
-    fn next(&mut self, at: u64, bytes: &[u8]) -> Cut {
+    fn next(&mut self, at: u64, bytes: &[u8]) -> NextRecord {
         let [first, second, third, ..] = bytes else {
-            return Cut::Wants { ended: false };
+            return NextRecord::Wants { ended: false };
         };
         let step = decode_move([*first, *second, *third]);
         let kind = record_kind(*third);
@@ -50,16 +50,16 @@ impl RecordReader for Run {
 }
 
 /// The cut of a record of that kind, after a run of so many jump records, with its move.
-fn cut_record(kind: RecordKind, at: u64, jumps: u8, step: Point) -> Cut
+fn cut_record(kind: RecordKind, at: u64, jumps: u8, step: Point) -> NextRecord
     requires { IsTrue (is_within LIMIT step) }
     ensures { CutsAs kind at jumps step result }
 {
     match kind {
-        RecordKind::Stitch => Cut::Record {
+        RecordKind::Stitch => NextRecord::Record {
             event: Event::Stitch(step),
             size: 3,
         },
-        RecordKind::Jump => Cut::Record {
+        RecordKind::Jump => NextRecord::Record {
             event: jump_after(jumps, step),
             size: 3,
         },
@@ -81,15 +81,15 @@ fn jump_after(jumps: u8, step: Point) -> Event
 /// reader's loop.
 #[cold]
 #[inline(never)]
-fn cut_other(kind: RecordKind, at: u64, step: Point) -> Cut
+fn cut_other(kind: RecordKind, at: u64, step: Point) -> NextRecord
     requires kind { is_other kind ≡ true }
     requires step { IsTrue (is_within LIMIT step) }
     ensures { (run : ℕ) → CutsAs kind at run step result }
 {
     match kind {
-        RecordKind::Sequin => Cut::Refused(ReadFault::Sequin { at }),
-        RecordKind::End => Cut::End,
-        _ => Cut::Record {
+        RecordKind::Sequin => NextRecord::Refused(ReadFault::Sequin { at }),
+        RecordKind::End => NextRecord::End,
+        _ => NextRecord::Record {
             event: Event::StopBy(step),
             size: 3,
         },

@@ -6,7 +6,7 @@ ghost use Rattle.format_traits.specs.Records.{moves_in};
 ghost use Rattle.exp_codec.specs.Units.{control_event as event_of_control, signed as signed_of, move_of as move_of_bytes};
 
 use design_model::{Design, Point};
-use format_traits::{Cut, Event, ReadFault, RecordReader};
+use format_traits::{Event, NextRecord, ReadFault, RecordReader};
 
 /// The first byte of a unit of four bytes.
 pub const CONTROL: u8 = 0x80;
@@ -45,24 +45,24 @@ impl RecordReader for Units {
         true
     }
 
-    fn next(&mut self, at: u64, bytes: &[u8]) -> Cut {
+    fn next(&mut self, at: u64, bytes: &[u8]) -> NextRecord {
         let [first, second, behind @ ..] = bytes else {
-            return Cut::Wants {
+            return NextRecord::Wants {
                 ended: bytes.is_empty(),
             };
         };
         if *first != CONTROL {
-            return Cut::Record {
+            return NextRecord::Record {
                 event: Event::Stitch(move_of(*first, *second)),
                 size: 2,
             };
         }
         let [x, y, ..] = behind else {
-            return Cut::Wants { ended: false };
+            return NextRecord::Wants { ended: false };
         };
         match control_event(*second, move_of(*x, *y)) {
-            Some(event) => Cut::Record { event, size: 4 },
-            None => Cut::Refused(ReadFault::Control { at }),
+            Some(event) => NextRecord::Record { event, size: 4 },
+            None => NextRecord::Refused(ReadFault::Control { at }),
         }
     }
 }

@@ -6,8 +6,8 @@ use Rattle.design_model.specs.Points.{is_within}
 use Rattle.format_traits.specs.declared.event.Event.{Event}
 use Rattle.format_traits.specs.declared.fault.ReadFault.{ReadFault}
 use Rattle.format_traits.specs.declared.fault.ReadFault.TheVariants as fault
-use Rattle.format_traits.specs.declared.record_reader.Cut.{Cut}
-use Rattle.format_traits.specs.declared.record_reader.Cut.TheVariants as cut
+use Rattle.format_traits.specs.declared.record_reader.NextRecord.{NextRecord}
+use Rattle.format_traits.specs.declared.record_reader.NextRecord.TheVariants as cut
 use Rattle.format_traits.specs.declared.record_reader.TheConstants.{GREATEST_STEP, MOST_RECORD}
 use Rattle.format_traits.specs.Records.{Records, over, refused, next, moves_in}
 
@@ -30,7 +30,7 @@ pub record IsWanting (before after : ℕ → List ℕ → Records) (at : ℕ) (b
   pub is : before at bytes ≡ over ended
 
 -- what an answer of cutting a record means
-abbrev pub Cuts : (before after : ℕ → List ℕ → Records) → ℕ → List ℕ → Cut → Type 0
+abbrev pub Cuts : (before after : ℕ → List ℕ → Records) → ℕ → List ℕ → NextRecord → Type 0
 Cuts before after at bytes cut.End = (more : List ℕ) → before at (bytes ++ more) ≡ over true
 Cuts before after at bytes (cut.Wants ended) = IsWanting before after at bytes ended
 Cuts before after at bytes (cut.Refused f) =

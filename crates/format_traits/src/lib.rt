@@ -47,7 +47,7 @@ pub use lookup::find;
 pub use passing::decode_whole;
 pub use placing::{GREATEST_MOVE, MOST_HOPS, hops, move_between, moved, part_move, size_of};
 pub use record_decoder::RecordDecoder;
-pub use record_reader::{Cut, GREATEST_STEP, MOST_RECORD, RecordReader};
+pub use record_reader::{GREATEST_STEP, MOST_RECORD, NextRecord, RecordReader};
 pub use record_writer::RecordWriter;
 pub use stage::Stage;
 pub use standing::{Reach, Standing};

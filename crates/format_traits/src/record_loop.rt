@@ -7,7 +7,7 @@ ghost use Rattle.format_traits.specs.Streams.{Takes};
 
 use crate::event_keeping::keep_event;
 use crate::fault::ReadFault;
-use crate::record_reader::{Cut, RecordReader};
+use crate::record_reader::{NextRecord, RecordReader};
 use crate::stage::Stage;
 use design_model::{Design, Memory, Point};
 
@@ -40,7 +40,7 @@ pub fn read_records<R: RecordReader>(
     let mut rest = bytes;
     loop {
         match reader.next(at, rest) {
-            Cut::Record { event, size } => match keep_event(design, at, place, event) {
+            NextRecord::Record { event, size } => match keep_event(design, at, place, event) {
                 Ok(there) => {
                     place = there;
                     at += size as u64;
@@ -49,15 +49,15 @@ pub fn read_records<R: RecordReader>(
                 Err(ReadFault::Memory) => return Err(Memory),
                 Err(fault) => return Ok(stopped(bytes, place, Stage::Refused(fault))),
             },
-            Cut::Wants { ended } => {
+            NextRecord::Wants { ended } => {
                 return Ok(Reached {
                     size: bytes.len() - rest.len(),
                     place,
                     stage: Stage::Records(ended),
                 });
             }
-            Cut::End => return Ok(stopped(bytes, place, Stage::Over)),
-            Cut::Refused(fault) => return Ok(stopped(bytes, place, Stage::Refused(fault))),
+            NextRecord::End => return Ok(stopped(bytes, place, Stage::Over)),
+            NextRecord::Refused(fault) => return Ok(stopped(bytes, place, Stage::Refused(fault))),
         }
     }
 }

@@ -10,7 +10,7 @@ pub const MOST_RECORD: usize = 5;
 
 /// What stands first in the bytes that are left of a file.
 #[derive(Clone, Copy, Debug, PartialEq, Eq)]
-pub enum Cut {
+pub enum NextRecord {
     /// The file has its end here.
     End,
     /// Too few bytes for a record. A file that stops with them has an end, or has none.
@@ -59,6 +59,6 @@ pub trait RecordReader {
         ensures none { (at : ℕ) → layout.records at [] ≡ over result };
 
     /// Cuts off the record at that offset, where the bytes begin.
-    fn next(&mut self, at: u64, bytes: &[u8]) -> Cut
+    fn next(&mut self, at: u64, bytes: &[u8]) -> NextRecord
         ensures { Cuts (records self.old) (records self.new) at bytes.now result };
 }

@@ -3,8 +3,8 @@ use Rattle.std.proofs.Common.{◌≡◌, ℕ, zero, suc, ◌+◌, ◌-◌, ◌<�
 use Rattle.std.proofs.lemmas.Bool.{false≢true}
 use Rattle.std.proofs.lemmas.List.{drop-append-le}
 use Rattle.format_traits.specs.declared.event.Event.{Event}
-use Rattle.format_traits.specs.declared.record_reader.Cut.{Cut}
-use Rattle.format_traits.specs.declared.record_reader.Cut.TheVariants as cut
+use Rattle.format_traits.specs.declared.record_reader.NextRecord.{NextRecord}
+use Rattle.format_traits.specs.declared.record_reader.NextRecord.TheVariants as cut
 use Rattle.format_traits.specs.Cutting.{Cuts}
 use Rattle.format_traits.specs.Records.{next, over}
 use Rattle.pec_codec.specs.Steps.{FitsIn}
@@ -21,7 +21,7 @@ skipped (suc behind) at (byte ∷ rest) there =
     skipped behind (at + 1) rest (omega arith)
     ∙ ap (λ n. pec_records n (drop behind rest)) (omega arith)
 
-cut_first : (at : ℕ) (byte : ℕ) (rest : List ℕ) (c : Cut) → c ≡ cut_of (byte ∷ rest)
+cut_first : (at : ℕ) (byte : ℕ) (rest : List ℕ) (c : NextRecord) → c ≡ cut_of (byte ∷ rest)
     → pec_records at (byte ∷ rest) ≡ cut_before c at (records_behind (length_behind c) (at + 1) rest)
 cut_first at byte rest c is = ap (λ c. cut_before c at (records_behind (length_behind c) (at + 1) rest)) (sym is)
 
@@ -66,21 +66,21 @@ coordinate_stays [] more x is = absurd (let gone : None ≡ Some x = is in let n
 coordinate_stays (first ∷ rest) more x is = first_stays (nat_lt first 128) first rest more x is
 
 -- a cut that tells something
-abbrev is_whole : Cut → Bool
+abbrev is_whole : NextRecord → Bool
 is_whole cut.End = true
 is_whole (cut.Wants ended) = false
 is_whole (cut.Refused f) = true
 is_whole (cut.Record event size) = true
 
 -- the same of a pair of coordinates
-pair_stays : (bytes more : List ℕ) (x : Coordinate) (y : Option Coordinate) (c : Cut) → x.size ≤ length bytes
+pair_stays : (bytes more : List ℕ) (x : Coordinate) (y : Option Coordinate) (c : NextRecord) → x.size ≤ length bytes
     → coordinate_in (drop x.size bytes) ≡ y → c ≡ cut_pair x y → is_whole c ≡ true
     → c ≡ cut_pair x (coordinate_in (drop x.size (bytes ++ more)))
 pair_stays bytes more x None c there same is whole = absurd (false≢true (sym (ap is_whole is) ∙ whole))
 pair_stays bytes more x (Some y) c there same is whole = is
     ∙ ap (cut_pair x) (sym (ap coordinate_in (drop-append-le x.size bytes more there) ∙ coordinate_stays (drop x.size bytes) more y same))
 
-move_stays : (bytes more : List ℕ) (x : Option Coordinate) (c : Cut) → coordinate_in bytes ≡ x → c ≡ cut_move x bytes
+move_stays : (bytes more : List ℕ) (x : Option Coordinate) (c : NextRecord) → coordinate_in bytes ≡ x → c ≡ cut_move x bytes
     → is_whole c ≡ true → c ≡ cut_move (coordinate_in (bytes ++ more)) (bytes ++ more)
 move_stays bytes more None c same is whole = absurd (false≢true (sym (ap is_whole is) ∙ whole))
 move_stays bytes more (Some x) c same is whole =
@@ -94,14 +94,14 @@ lone_byte : (short : Bool) (first : ℕ)
 lone_byte true first = refl
 lone_byte false first = refl
 
-one_stays : (ends : Bool) (first : ℕ) (c other : Cut)
+one_stays : (ends : Bool) (first : ℕ) (c other : NextRecord)
     → c ≡ (if ends then cut.End else cut_move (coordinate_in (first ∷ [])) (first ∷ [])) → is_whole c ≡ true
     → c ≡ (if ends then cut.End else other)
 one_stays true first c other is whole = is
 one_stays false first c other is whole =
     absurd (false≢true (sym (ap is_whole is ∙ lone_byte (nat_lt first 128) first) ∙ whole))
 
-two_stay : (ends stops : Bool) (first second : ℕ) (rest more : List ℕ) (c : Cut) → let bytes = first ∷ second ∷ rest in
+two_stay : (ends stops : Bool) (first second : ℕ) (rest more : List ℕ) (c : NextRecord) → let bytes = first ∷ second ∷ rest in
     c ≡ (if ends then cut.End else (if stops then cut_stop bytes else cut_move (coordinate_in bytes) bytes)) → is_whole c ≡ true
     → c ≡ (if ends then cut.End else (if stops then cut_stop (bytes ++ more)
     else cut_move (coordinate_in (bytes ++ more)) (bytes ++ more)))
@@ -111,7 +111,7 @@ two_stay false true first second (third ∷ rest) more c is whole = is
 two_stay false false first second rest more c is whole = move_stays (first ∷ second ∷ rest) more _ c refl is whole
 
 -- what is cut stays as it is, whatever bytes follow
-cut_stays : (bytes more : List ℕ) (c : Cut) → c ≡ cut_of bytes → is_whole c ≡ true → c ≡ cut_of (bytes ++ more)
+cut_stays : (bytes more : List ℕ) (c : NextRecord) → c ≡ cut_of bytes → is_whole c ≡ true → c ≡ cut_of (bytes ++ more)
 cut_stays [] more c is whole = absurd (false≢true (sym (ap is_whole is) ∙ whole))
 cut_stays (first ∷ []) more c is whole = one_stays (first == 255) first c
     (if begins_stop (first ∷ more) then cut_stop (first ∷ more) else cut_move (coordinate_in (first ∷ more)) (first ∷ more)) is whole
@@ -119,11 +119,11 @@ cut_stays (first ∷ second ∷ rest) more c is whole =
     two_stay (first == 255) (first == 254 && second == 176) first second rest more c is whole
 
 -- what is cut is told of no bytes
-none_cut : (c : Cut) → c ≡ cut_of [] → is_whole c ≡ true → ⊥
+none_cut : (c : NextRecord) → c ≡ cut_of [] → is_whole c ≡ true → ⊥
 none_cut c is whole = false≢true (sym (ap is_whole is) ∙ whole)
 
 -- what is cut
-pub cuts_record : (at : ℕ) (bytes : List ℕ) (c : Cut) → c ≡ cut_of bytes → FitsIn bytes c
+pub cuts_record : (at : ℕ) (bytes : List ℕ) (c : NextRecord) → c ≡ cut_of bytes → FitsIn bytes c
     → Cuts pec_records pec_records at bytes c
 cuts_record at [] cut.End is fits = absurd (none_cut cut.End is refl)
 cuts_record at (byte ∷ rest) cut.End is fits =

@@ -4,7 +4,7 @@ use Rattle.std.proofs.lemmas.Bool.{and_parts, leb-true, ne_eqb}
 use Rattle.design_model.specs.declared.point.Point.{Point}
 use Rattle.design_model.specs.Points.{is_within, origin}
 use Rattle.format_traits.specs.declared.event.Event.TheVariants as event
-use Rattle.format_traits.specs.declared.record_reader.Cut.TheVariants as cut
+use Rattle.format_traits.specs.declared.record_reader.NextRecord.TheVariants as cut
 use Rattle.format_traits.specs.Records.{next}
 use Rattle.format_traits.specs.Rereading.{RereadsSpelling, Taken}
 use Rattle.pec_codec.specs.declared.block.TheConstants.{LIMIT}

@@ -4,8 +4,8 @@ use Rattle.std.specs.Prelude.{ℕ, zero, suc, ◌+◌, ◌-◌, Bool, true, fals
 use Rattle.design_model.specs.declared.point.Point.{Point}
 use Rattle.format_traits.specs.declared.event.Event.{Event}
 use Rattle.format_traits.specs.declared.event.Event.TheVariants as event
-use Rattle.format_traits.specs.declared.record_reader.Cut.{Cut}
-use Rattle.format_traits.specs.declared.record_reader.Cut.TheVariants as cut
+use Rattle.format_traits.specs.declared.record_reader.NextRecord.{NextRecord}
+use Rattle.format_traits.specs.declared.record_reader.NextRecord.TheVariants as cut
 use Rattle.format_traits.specs.Records.{Records, over, refused, next}
 use Rattle.pec_codec.specs.declared.coordinate.Coordinate.{Coordinate}
 use Rattle.pec_codec.specs.Coordinates.{coordinate_in}
@@ -22,16 +22,16 @@ event_of x y =
     else event.Stitch (move_of x y))
 
 -- a record of two coordinates, where both are there
-abbrev pub cut_pair : Coordinate → Option Coordinate → Cut
+abbrev pub cut_pair : Coordinate → Option Coordinate → NextRecord
 cut_pair x None = cut.Wants false
 cut_pair x (Some y) = cut.Record (event_of x y) (x.size + y.size)
 
-abbrev pub cut_move : Option Coordinate → List ℕ → Cut
+abbrev pub cut_move : Option Coordinate → List ℕ → NextRecord
 cut_move None bytes = cut.Wants false
 cut_move (Some x) bytes = cut_pair x (coordinate_in (drop x.size bytes))
 
 -- a stop takes a third byte, whatever it is
-abbrev pub cut_stop : List ℕ → Cut
+abbrev pub cut_stop : List ℕ → NextRecord
 cut_stop (first ∷ second ∷ third ∷ rest) = cut.Record event.Stop 3
 cut_stop _ = cut.Wants false
 
@@ -46,21 +46,21 @@ begins_end [] = false
 begins_end (first ∷ rest) = first == 255
 
 -- what stands first in bytes
-abbrev pub cut_of : List ℕ → Cut
+abbrev pub cut_of : List ℕ → NextRecord
 cut_of bytes =
     if begins_end bytes then cut.End
     else (if begins_stop bytes then cut_stop bytes
     else cut_move (coordinate_in bytes) bytes)
 
 -- the bytes of a record behind its first
-abbrev pub length_behind : Cut → ℕ
+abbrev pub length_behind : NextRecord → ℕ
 length_behind cut.End = 0
 length_behind (cut.Wants ended) = 0
 length_behind (cut.Refused f) = 0
 length_behind (cut.Record event size) = size - 1
 
 -- what was cut, and the records behind it
-abbrev pub cut_before : Cut → ℕ → Records → Records
+abbrev pub cut_before : NextRecord → ℕ → Records → Records
 cut_before cut.End at rest = over true
 cut_before (cut.Wants ended) at rest = over ended
 cut_before (cut.Refused f) at rest = refused f

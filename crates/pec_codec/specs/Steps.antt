@@ -5,8 +5,8 @@ use Rattle.design_model.specs.Acts.{acts_of}
 use Rattle.design_model.specs.Designs.{DesignValue}
 use Rattle.design_model.specs.Points.{is_within}
 use Rattle.format_traits.specs.declared.fault.WriteFault.{WriteFault}
-use Rattle.format_traits.specs.declared.record_reader.Cut.{Cut}
-use Rattle.format_traits.specs.declared.record_reader.Cut.TheVariants as cut
+use Rattle.format_traits.specs.declared.record_reader.NextRecord.{NextRecord}
+use Rattle.format_traits.specs.declared.record_reader.NextRecord.TheVariants as cut
 use Rattle.format_traits.specs.declared.record_reader.TheConstants.{GREATEST_STEP, MOST_RECORD}
 use Rattle.format_traits.specs.Records.{moves_in}
 use Rattle.format_traits.specs.Refusals.{first_refusal, stops_of}
@@ -15,7 +15,7 @@ use Rattle.pec_codec.specs.Writing.{body_of, reach}
 
 -- a record that was cut has some of the bytes, and moves no further than any format's may; where
 -- none was, the bytes are few
-abbrev pub FitsIn : List ℕ → Cut → Type 0
+abbrev pub FitsIn : List ℕ → NextRecord → Type 0
 FitsIn bytes cut.End = Unit {0}
 FitsIn bytes (cut.Wants ended) = length bytes < MOST_RECORD
 FitsIn bytes (cut.Refused f) = Unit {0}

@@ -3,7 +3,7 @@ use crate::header::read_header;
 use crate::record_cuts::cut;
 use crate::spelling::{put_jump, put_stitch, put_stop, put_trim};
 use design_model::{Bytes, Design, Memory, Point};
-use format_traits::{Cut, Reach, RecordReader, RecordWriter};
+use format_traits::{NextRecord, Reach, RecordReader, RecordWriter};
 
 /// The records of a block.
 #[derive(Clone, Copy, Debug, PartialEq, Eq)]
@@ -30,7 +30,7 @@ impl RecordReader for PecRecords {
     }
 
     #[tactic(auto, using(crate::proofs::RecordLemmas::cuts_record))]
-    fn next(&mut self, _at: u64, bytes: &[u8]) -> Cut {
+    fn next(&mut self, _at: u64, bytes: &[u8]) -> NextRecord {
         cut(bytes)
     }
 }

@@ -9,44 +9,44 @@ ghost use Rattle.pec_codec.specs.Steps.{FitsIn};
 
 use crate::coordinate::{Coordinate, coordinate_in};
 use design_model::Point;
-use format_traits::{Cut, Event};
+use format_traits::{Event, NextRecord};
 
 /// What stands first in bytes.
-pub fn cut(bytes: &[u8]) -> Cut
+pub fn cut(bytes: &[u8]) -> NextRecord
     ensures value { result ≡ cut_of bytes.now }
     ensures fits { FitsIn bytes.now result }
 {
     match bytes {
-        [0xFF, ..] => Cut::End,
+        [0xFF, ..] => NextRecord::End,
         [0xFE, 0xB0, ..] => cut_stop(bytes),
         _ => cut_move(bytes),
     }
 }
 
-fn cut_stop(bytes: &[u8]) -> Cut
+fn cut_stop(bytes: &[u8]) -> NextRecord
     ensures value { result ≡ cut_stop_of bytes.now }
     ensures fits { FitsIn bytes.now result }
 {
     if bytes.len() < 3 {
-        return Cut::Wants { ended: false };
+        return NextRecord::Wants { ended: false };
     }
-    Cut::Record {
+    NextRecord::Record {
         event: Event::Stop,
         size: 3,
     }
 }
 
-fn cut_move(bytes: &[u8]) -> Cut
+fn cut_move(bytes: &[u8]) -> NextRecord
     ensures value { result ≡ cut_move_of (coordinate_of bytes.now) bytes.now }
     ensures fits { FitsIn bytes.now result }
 {
     let Some(x) = coordinate_in(bytes) else {
-        return Cut::Wants { ended: false };
+        return NextRecord::Wants { ended: false };
     };
     let Some(y) = coordinate_in(&bytes[x.size..]) else {
-        return Cut::Wants { ended: false };
+        return NextRecord::Wants { ended: false };
     };
-    Cut::Record {
+    NextRecord::Record {
         event: event_of(x, y),
         size: x.size + y.size,
     }
