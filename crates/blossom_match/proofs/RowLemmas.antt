@@ -271,10 +271,6 @@ merge_next n parts i p near width cells new low is e f merged size so_far x lx =
       ap (λ (ks : List Part). least_of ks x) (take_here parts i p low is),
     )
 
--- no part so far
-pub merge_none : (n : ℕ) (first : List ℕ) → ((x : ℕ) → x < n → get_or first x 0 ≡ FAR) → (x : ℕ) → x < n → get_or first x 0 ≡ least_of [] x
-merge_none n first far x lx = far x lx
-
 row_case : (n : ℕ) (ps : List Part) (x v w : ℕ) → count x (members_in ps) ≡ n → v ≡ least_of ps x → (1 ≤ n → w ≡ FAR)
     → (n ≡ 0 → w ≡ v) → w ≡ ring_cell ps x
 row_case zero ps x v w e is on off = off refl ∙ is ∙ sym (ring_other ps x e)
