@@ -21,8 +21,6 @@ mod search;
 mod shrinking;
 mod table;
 mod taking;
-#[cfg(test)]
-mod tests;
 mod widening;
 
 pub use laws::none_costs_less;

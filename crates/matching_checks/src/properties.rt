@@ -1,62 +1,12 @@
-//! The five properties by plain programs, and the test of a table's triangles.
-ghost use Rattle.std.specs.Prelude.{◌<◌, ℕ, IsTrue};
-ghost use Rattle.blossom_match.specs.Tables.{IsNoShorterBy, KeepsTriangles};
-
-use crate::{DistTable, Matching, Moat, match_all};
-use std::alloc::Global;
-use std::test::Fail;
-
-/// The matching of a table with an even number of places that has no shorter way round.
-pub fn matched(alloc: Global, t: &DistTable) -> Result<Matching, Fail> {
-    if t.places() % 2 == 0 && keeps_triangles(t) {
-        return Ok(match_all(alloc, t).ok().ok_or("no memory")?);
-    }
-    Err("not a table to match".into())
-}
-
-fn keeps_triangles(t: &DistTable) -> bool
-    ensures { IsTrue result → KeepsTriangles t.now }
-{
-    for a in 0..t.places() {
-        if !keeps_from(t, a) {
-            return false;
-        }
-    }
-    true
-}
-
-fn keeps_from(t: &DistTable, a: u32) -> bool
-    requires { a < t.now.places }
-    ensures { IsTrue result → (b : ℕ) → b < t.now.places → IsNoShorterBy t.now a b }
-{
-    for b in 0..t.places() {
-        if !keeps_by(t, a, b) {
-            return false;
-        }
-    }
-    true
-}
-
-fn keeps_by(t: &DistTable, a: u32, b: u32) -> bool
-    requires a_in { a < t.now.places }
-    requires b_in { b < t.now.places }
-    ensures { IsTrue result → IsNoShorterBy t.now a b }
-{
-    for c in 0..t.places() {
-        if t.get(a, c) > t.get(a, b) + t.get(b, c) {
-            return false;
-        }
-    }
-    true
-}
+use blossom_match::{DistTable, Matching, Moat};
 
 /// The entry of two places, and 0 where there is none.
-pub fn distance(t: &DistTable, a: u32, b: u32) -> u32 {
+pub(crate) fn distance(t: &DistTable, a: u32, b: u32) -> u32 {
     let n = t.places();
     if a < n && b < n { t.get(a, b) } else { 0 }
 }
 
-/// The distances of all pairs.
+/// The distances of all pairs, in steps.
 pub fn cost(t: &DistTable, m: &Matching) -> u64 {
     let mut sum: u64 = 0;
     for p in m.pairs.as_slice() {
@@ -65,7 +15,7 @@ pub fn cost(t: &DistTable, m: &Matching) -> u64 {
     sum
 }
 
-/// The property that does not hold, or nothing.
+/// The property that does not hold, in words, or nothing.
 pub fn fault(t: &DistTable, m: &Matching) -> &'static str {
     if !pairs_each(t.places(), m) {
         return "a place is not in exactly one pair";

@@ -1,6 +1,6 @@
 use Rattle.std.proofs.Common.{ℕ, ◌+◌, ◌<◌, ◌≤◌}
 use Rattle.blossom_match.specs.Tables.{entry}
-use Rattle.blossom_match.proofs.tests.plain.keeps_by.Given as goal
+use Rattle.matching_checks.proofs.triangles.keeps_by.Given as goal
 
 -- no shorter way so far
 abbrev pub invariant-loop-c : goal.invariant-loop-c
