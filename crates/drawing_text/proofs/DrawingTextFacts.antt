@@ -7,7 +7,7 @@ use Rattle.line_graph.specs.declared.draw_kind.DrawKind.{DrawKind}
 use Rattle.line_graph.specs.declared.draw_kind.DrawKind.TheVariants as kind
 use Rattle.line_graph.specs.Drawings.{DrawingValue}
 use Rattle.drawing_text.specs.declared.limits.TheConstants.{MAX_TEXT}
-use Rattle.drawing_text.specs.DrawingText.{drawing_as2, drawing_of}
+use Rattle.drawing_text.specs.DrawingText.{drawing_as2, drawing_of, told_at}
 use Rattle.drawing_text.specs.Words.{text_lines, without_return, words_in}
 use Rattle.drawing_text.proofs.SpellingFacts.{place}
 
@@ -58,6 +58,32 @@ pub known_drawing : drawing_of (text (codes "# squares" ∷ [] ∷ codes " redwo
     ≡ Ok two_squares
 known_drawing = refl
 
+-- the least and the greatest numbers, and the step 25 where none is said; a comment's hash sign may have letters behind it
+pub known_widest : drawing_of (text (codes "redwork 1" ∷ codes "color 255" ∷ codes "#wide" ∷ codes "line -30000 30000 0 0" ∷ codes "color 0"
+    ∷ codes "line 0 0 30000 -30000" ∷ []))
+    ≡ Ok (record {
+      label = [];
+      step = 25;
+      threads = 255 ∷ 0 ∷ [];
+      lines = record { block = 0; points = place (negsuc 29999) (pos 30000) ∷ place (pos 0) (pos 0) ∷ [] }
+          ∷ record { block = 1; points = place (pos 0) (pos 0) ∷ place (pos 30000) (negsuc 29999) ∷ [] } ∷ [];
+      starts = [];
+      ends = [];
+    })
+known_widest = refl
+
+-- the longest step, and a name behind it
+pub known_named : drawing_of (text (codes "redwork 1" ∷ codes "step 2047" ∷ codes "name ab" ∷ codes "color 1" ∷ codes "line 0 0 3 4" ∷ []))
+    ≡ Ok (record {
+      label = codes "ab";
+      step = 2047;
+      threads = 1 ∷ [];
+      lines = record { block = 0; points = place (pos 0) (pos 0) ∷ place (pos 3) (pos 4) ∷ [] } ∷ [];
+      starts = [];
+      ends = [];
+    })
+known_named = refl
+
 -- lines through one point, and their sections
 abbrev crossing : List (List ℕ)
 crossing = codes "step 10" ∷ codes "color 1" ∷ codes "line 0 0 10 0 20 0" ∷ codes "line 10 -10 10 0 10 10" ∷ []
@@ -93,7 +119,8 @@ pub known_headers : Tells [] 1 kind.BadHeader
     × Tells (codes "redwork 4" ∷ []) 1 kind.BadHeader
     × Tells ([] ∷ codes "redwork 1 2" ∷ []) 2 kind.BadHeader
     × Tells (codes "redwork" ∷ []) 1 kind.BadHeader
-known_headers = (refl, refl, refl, refl, refl, refl)
+    × Tells (codes "redworks 1" ∷ []) 1 kind.BadHeader
+known_headers = (refl, refl, refl, refl, refl, refl, refl)
 
 -- behind the header
 abbrev Faults : List (List ℕ) → ℕ → DrawKind → Type 0
@@ -139,13 +166,18 @@ pub known_strokes : Faults (codes "line 0 0 x" ∷ []) 2 kind.NoBlock
     × Faults (codes "color 1" ∷ codes "line 0 0 0 0 1" ∷ []) 3 kind.FewPoints
     × Faults (codes "color 1" ∷ codes "line 30001 x" ∷ []) 3 kind.OutOfRange
     × Faults (codes "color 1" ∷ codes "line x -30001" ∷ []) 3 kind.BadNumber
+    × Faults (codes "color 1" ∷ codes "line -30001 x" ∷ []) 3 kind.OutOfRange
     × Faults (codes "color 1" ∷ codes "line 0 0 0 0 0 x" ∷ []) 3 kind.BadNumber
     × Faults (codes "color 1" ∷ codes "line 1 2 01 2" ∷ []) 3 kind.RepeatedPoint
     × Faults (codes "color 1" ∷ codes "line 0 0 1 1 #" ∷ []) 3 kind.BadNumber
-known_strokes = (refl, refl, refl, refl, refl, refl, refl, refl, refl)
+known_strokes = (refl, refl, refl, refl, refl, refl, refl, refl, refl, refl)
 
 -- seven lines of 30000 steps each; the last is one too many
 pub known_cost : Faults (codes "step 1" ∷ codes "color 1" ∷ codes "line 0 0 30000 0" ∷ codes "line 0 0 30000 0"
     ∷ codes "line 0 0 30000 0" ∷ codes "line 0 0 30000 0" ∷ codes "line 0 0 30000 0" ∷ codes "line 0 0 30000 0"
     ∷ codes "line 0 0 30000 0" ∷ []) 10 kind.TooMuchCost
 known_cost = refl
+
+-- want of memory has no line
+pub known_memory : told_at 7 3 kind.Memory ≡ record { number = 0; kind = kind.Memory }
+known_memory = refl
