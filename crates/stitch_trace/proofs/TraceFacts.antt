@@ -7,6 +7,10 @@ use Rattle.design_model.specs.Designs.{DesignValue}
 use Rattle.line_sections.specs.Lines.{LineValue}
 use Rattle.line_graph.specs.Drawings.{DrawingValue}
 use Rattle.stitch_trace.specs.declared.trace_fault.TraceFault.TheVariants as fault
+use Rattle.design_model.specs.Acts.{acts_of}
+use Rattle.design_model.specs.Blocks.{blocks_of}
+use Rattle.stitch_trace.specs.declared.links.Link.{Link}
+use Rattle.stitch_trace.specs.Laws.{BlockLink, are_distinct, drawn_links, is_one_step, sewn_links}
 use Rattle.stitch_trace.specs.Traces.{first_word, traced}
 
 -- a place on the cloth
@@ -37,6 +41,11 @@ known_square = refl
 pub known_return : traced (sewing (stitch 0 0 ∷ stitch 10 0 ∷ stitch 20 0 ∷ stitch 10 0 ∷ stitch 0 0 ∷ command.Trim ∷ []))
     ≡ Ok (drawn 10 (9 ∷ []) (line 0 (at 0 0 ∷ at 10 0 ∷ at 20 0 ∷ []) ∷ []))
 known_return = refl
+
+-- so has one that is sewn twice the same way, behind a trim
+pub known_again : traced (sewing (stitch 0 0 ∷ stitch 10 0 ∷ command.Trim ∷ stitch 0 0 ∷ stitch 10 0 ∷ stitch 20 0 ∷ []))
+    ≡ Ok (drawn 10 (9 ∷ []) (line 0 (at 0 0 ∷ at 10 0 ∷ []) ∷ line 0 (at 10 0 ∷ at 20 0 ∷ []) ∷ []))
+known_again = refl
 
 -- a needle at the same point breaks no chain, and a link that was sewn before does; a chain is cut where its block has a
 -- needle point again
@@ -74,3 +83,31 @@ known_long = (refl, refl)
 -- a label up to its first space
 pub known_words : (first_word (codes "rose") ≡ codes "rose") × (first_word (codes " rose") ≡ []) × (first_word [] ≡ [])
 known_words = (refl, refl, refl)
+
+abbrev link : Point → Point → Link
+link p q = record { from = p; to = q }
+
+abbrev link_in : ℕ → Point → Point → BlockLink
+link_in block p q = record { block = block; link = link p q }
+
+-- the links along lines, from the first point of each
+pub known_drawn_links : drawn_links (line 0 (at 0 0 ∷ at 7 0 ∷ at 7 5 ∷ []) ∷ line 2 (at 7 5 ∷ at 0 0 ∷ []) ∷ [])
+    ≡ link_in 0 (at 0 0) (at 7 0) ∷ link_in 0 (at 7 0) (at 7 5) ∷ link_in 2 (at 7 5) (at 0 0) ∷ []
+known_drawn_links = refl
+
+-- the middle one of three blocks has no link, and the last one is the second that has
+pub known_sewn_links : sewn_links 0 (blocks_of (acts_of (sewing (stitch 0 0 ∷ stitch 7 0 ∷ command.Stop ∷ stitch 3 3 ∷ command.Stop
+    ∷ stitch 7 0 ∷ stitch 0 0 ∷ []))))
+    ≡ link_in 0 (at 0 0) (at 7 0) ∷ link_in 1 (at 7 0) (at 0 0) ∷ []
+known_sewn_links = refl
+
+-- a link of ten is one step of ten; one of eleven isn't, and neither is a place
+pub known_one_step : (is_one_step 10 (link_in 0 (at 0 0) (at 3 10)) ≡ true) × (is_one_step 10 (link_in 0 (at 0 0) (at 3 11)) ≡ false)
+    × (is_one_step 10 (link_in 0 (at 3 3) (at 3 3)) ≡ false)
+known_one_step = (refl, refl, refl)
+
+-- two links between the same points are the same link, either way
+pub known_distinct : (are_distinct (link (at 0 0) (at 7 0) ∷ link (at 7 0) (at 7 5) ∷ link (at 7 5) (at 0 0) ∷ []) ≡ true)
+    × (are_distinct (link (at 0 0) (at 7 0) ∷ link (at 7 0) (at 7 5) ∷ link (at 0 0) (at 7 0) ∷ []) ≡ false)
+    × (are_distinct (link (at 0 0) (at 7 0) ∷ link (at 7 0) (at 7 5) ∷ link (at 7 5) (at 7 0) ∷ []) ≡ false)
+known_distinct = (refl, refl, refl)
