@@ -1,10 +1,12 @@
 """Counts what a program does, the same on every machine: its instructions, and the jumps through a table that it
 takes."""
 
+import os
 import re
 import shutil
 import subprocess
 import tempfile
+from concurrent.futures import ThreadPoolExecutor
 from dataclasses import dataclass
 from pathlib import Path
 from typing import Optional
@@ -54,12 +56,15 @@ def executed(profile):
 
 
 def count_of(program, words, jumps):
-    """What one run among the inputs takes, by valgrind's callgrind."""
-    with tempfile.TemporaryDirectory() as folder:
+    """What one run takes, by valgrind's callgrind, in a folder of its own among the inputs under their names."""
+    with tempfile.TemporaryDirectory(dir=INPUTS.parent) as folder:
+        for file in INPUTS.iterdir():
+            if not file.name.startswith("written."):
+                os.link(file, Path(folder) / file.name)
         kept = Path(folder) / "profile"
         tool = ["valgrind", "--tool=callgrind", "--dump-instr=yes", "--compress-pos=no", "--compress-strings=no"]
         run = [*tool, f"--callgrind-out-file={kept}", program, *words]
-        subprocess.run(run, cwd=INPUTS, stdout=subprocess.DEVNULL, stderr=subprocess.DEVNULL)
+        subprocess.run(run, cwd=folder, stdout=subprocess.DEVNULL, stderr=subprocess.DEVNULL)
         with open(kept) as profile:
             rows = list(executed(profile))
     total = sum(count for _, _, count in rows)
@@ -74,13 +79,15 @@ def count_of(program, words, jumps):
 
 
 def count_all(cases, programs):
-    """The counts of each case for each program; of none where there is no valgrind."""
+    """The counts of each case for each program, on all processors; of none where there is no valgrind."""
     if not shutil.which("valgrind"):
         say("valgrind is not on the PATH: no instructions are counted")
         return {}
     say("counting instructions, and jumps through a table")
     jumps = [table_jumps(program) for program in programs]
-    return {
-        case: [count_of(program, case.words, of_it) for program, of_it in zip(programs, jumps)]
-        for case in cases
-    }
+    with ThreadPoolExecutor(os.cpu_count()) as pool:
+        begun = {
+            case: [pool.submit(count_of, program, case.words, of_it) for program, of_it in zip(programs, jumps)]
+            for case in cases
+        }
+        return {case: [row.result() for row in rows] for case, rows in begun.items()}
