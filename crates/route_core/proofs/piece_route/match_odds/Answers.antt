@@ -19,5 +19,5 @@ returns c =
     is_matched (graph_of c.args.p.now) c.args.rows.now c.in_ok-table.table c.requires.rows
     (table_is (graph_of c.args.p.now) c.args.rows.now c.args.odds.now c.in_ok-table.table c.requires.rows c.requires.odds
     c.in_ok-table.ensures.places c.in_ok-table.ensures.entries)
-    (subst IsTable c.table.view_is c.table.invariant) c.in_ok-matching.matching.pairs c.in_ok-matching.matching.moats
+    (subst IsTable c.table.view_is c.table.invariant.table) c.in_ok-matching.matching.pairs c.in_ok-matching.matching.moats
     c.in_ok-matching.ensures
