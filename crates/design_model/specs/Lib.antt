@@ -3,6 +3,7 @@ pub mod Labels
 pub mod Commands
 -- read this one first: what a design is, and its limits
 pub mod Designs
+pub mod LongerDesigns
 pub mod Acts
 pub mod ActKinds
 pub mod ActPlaces

@@ -5,6 +5,7 @@ use Rattle.design_model.specs.declared.command.Command.{Command}
 use Rattle.design_model.specs.declared.design.TheConstants.{MAX_COMMANDS}
 use Rattle.design_model.specs.Commands.{is_in_range}
 use Rattle.design_model.specs.Designs.{DesignValue}
+use Rattle.design_model.specs.LongerDesigns.{with_commands}
 use Rattle.format_traits.specs.declared.fault.ReadFault.{ReadFault}
 use Rattle.format_traits.specs.declared.fault.ReadFault.TheVariants as fault
 use Rattle.format_traits.specs.Readings.{Course, tries}
@@ -14,10 +15,6 @@ use Rattle.format_traits.specs.Records.{taken_of}
 pub record SameButCommands (old new : DesignValue) : Type 0 where
   pub label : new.label ≡ old.label
   pub threads : new.threads ≡ old.threads
-
--- the design with further commands
-abbrev pub with_commands : DesignValue → List Command → DesignValue
-with_commands d more = record d { commands = d.commands ++ more }
 
 -- the commands are in range, and the design has room for them
 abbrev pub Fit : List Command → DesignValue → Type 0

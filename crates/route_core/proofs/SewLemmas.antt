@@ -16,7 +16,8 @@ use Rattle.line_graph.specs.Runs.{block_of_walk, commands_after, runs_of}
 use Rattle.line_graph.specs.Laws.{NeedlesLeadAlong}
 use Rattle.line_graph.specs.Walks.{needles_of, needles_of_pass, needles_of_walk}
 use Rattle.route_core.specs.Routes.{walks_of}
-use Rattle.route_core.specs.SewingSteps.{AllDrawn, AreDrawn, later_needles, run_commands, with_commands}
+use Rattle.design_model.specs.LongerDesigns.{with_commands}
+use Rattle.route_core.specs.SewingSteps.{AllDrawn, AreDrawn, later_needles, run_commands}
 
 -- the needles of further passes, one pass on
 pub later_more : (d : DrawingValue) (old points : List Point) (left after : List Pass) (pass : Pass) → left ≡ pass ∷ after

@@ -5,14 +5,9 @@ use Rattle.cut_certificate.specs.declared.certificate.PieceCert.{PieceCert}
 use Rattle.design_model.specs.declared.command.Command.{Command}
 use Rattle.design_model.specs.declared.command.Command.TheVariants as command
 use Rattle.design_model.specs.declared.point.Point.{Point}
-use Rattle.design_model.specs.Designs.{DesignValue}
 use Rattle.line_graph.specs.declared.pass.Pass.{Pass}
 use Rattle.line_graph.specs.Drawings.{DrawingValue}
 use Rattle.line_graph.specs.Walks.{needles_of_pass}
-
--- the design with further commands
-abbrev pub with_commands : DesignValue → List Command → DesignValue
-with_commands d more = record d { commands = d.commands ++ more }
 
 -- the commands of a run after one in the block before: as many stops as its block is above that, a
 -- stitch at each needle, and a trim

@@ -6,7 +6,8 @@ ghost use Rattle.design_model.specs.Designs.{with_command};
 ghost use Rattle.line_graph.specs.Runs.{block_of_walk as block_of_a_walk, commands_after, runs_of, sewn_design};
 ghost use Rattle.line_graph.specs.Walks.{needles_of_walk};
 ghost use Rattle.route_core.specs.Routes.{walks_of};
-ghost use Rattle.route_core.specs.SewingSteps.{AllDrawn, AreDrawn, run_commands, with_commands};
+ghost use Rattle.design_model.specs.LongerDesigns.{with_commands};
+ghost use Rattle.route_core.specs.SewingSteps.{AllDrawn, AreDrawn, run_commands};
 ghost use Rattle.line_graph.specs.Chains.{IsNeedlePoint};
 
 use crate::slices::first_of;

@@ -6,14 +6,11 @@ use Rattle.design_model.specs.declared.design.TheConstants.{MAX_COMMANDS}
 use Rattle.design_model.specs.declared.point.Point.{Point}
 use Rattle.design_model.specs.Acts.{bare}
 use Rattle.design_model.specs.Designs.{DesignValue}
+use Rattle.design_model.specs.LongerDesigns.{with_commands}
 use Rattle.step_splitter.specs.declared.refitting.RefitFault.{RefitFault}
 use Rattle.step_splitter.specs.declared.refitting.RefitFault.TheVariants as fault
 use Rattle.step_splitter.specs.declared.refitting.RefitMode.{RefitMode}
 use Rattle.step_splitter.specs.Refits.{refitted_acts, refitted_commands, refitted_from, IsFirstPast}
-
--- the design with further commands
-abbrev pub with_commands : DesignValue → List Command → DesignValue
-with_commands d more = record d { commands = d.commands ++ more }
 
 -- what each answer means where commands of the act with that number are added
 abbrev pub Adds : {T : Type 0} → ℕ → List Command → DesignValue → Result T RefitFault → DesignValue

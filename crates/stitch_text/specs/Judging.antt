@@ -14,7 +14,7 @@ use Rattle.format_traits.specs.declared.fault.ReadFault.TheVariants as read
 use Rattle.format_traits.specs.declared.fault.WriteFault.{WriteFault}
 use Rattle.format_traits.specs.declared.fault.WriteFault.TheVariants as write
 use Rattle.format_traits.specs.declared.standing.Standing.{Standing}
-use Rattle.format_traits.specs.Keeping.{with_commands}
+use Rattle.design_model.specs.LongerDesigns.{with_commands}
 use Rattle.format_traits.specs.Refusals.{refusal_at, standing_after}
 use Rattle.stitch_text.specs.declared.draft.Draft.{Draft}
 use Rattle.stitch_text.specs.declared.list_line.ListLine.{ListLine}

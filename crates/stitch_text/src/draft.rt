@@ -5,7 +5,7 @@ ghost use Rattle.design_model.specs.ActPlaces.{is_act_in_range};
 ghost use Rattle.design_model.specs.Commands.{is_in_range};
 ghost use Rattle.design_model.specs.Designs.{with_command};
 ghost use Rattle.design_model.specs.Points.{is_within};
-ghost use Rattle.format_traits.specs.Keeping.{with_commands};
+ghost use Rattle.design_model.specs.LongerDesigns.{with_commands};
 ghost use Rattle.stitch_text.specs.Drafts.{IsSound, IsSoundBut, JudgesAct, bare_behind};
 ghost use Rattle.stitch_text.specs.declared.list_line.ListLine.TheVariants as line;
 ghost use Rattle.stitch_text.specs.Judging.{Judges, act_fault as fault_of_act, commands_of, wants_thread as wants_a_thread};

@@ -1,6 +1,6 @@
 use Rattle.std.proofs.Common.{◌≡◌, map, take}
 use Rattle.design_model.specs.declared.command.Command.TheVariants.{Stitch}
-use Rattle.route_core.specs.SewingSteps.{with_commands}
+use Rattle.design_model.specs.LongerDesigns.{with_commands}
 use Rattle.route_core.proofs.sewing.add_stitches.Given as goal
 
 -- the stitches so far

@@ -1,6 +1,6 @@
 use Rattle.std.proofs.Common.{◌≡◌, ◌≤◌, ◌-◌, replicate}
 use Rattle.design_model.specs.declared.command.Command.TheVariants.{Stop}
-use Rattle.route_core.specs.SewingSteps.{with_commands}
+use Rattle.design_model.specs.LongerDesigns.{with_commands}
 use Rattle.route_core.proofs.sewing.add_stops.Given as goal
 
 -- the stops so far, and there are no more than wanted

@@ -3,7 +3,8 @@ use Rattle.line_graph.specs.declared.pass.Pass.{Pass}
 use Rattle.line_graph.specs.Runs.{block_of_walk}
 use Rattle.line_graph.specs.Walks.{needles_of_walk}
 use Rattle.route_core.proofs.SewLemmas.{drawn_piece, room_for, sews_on}
-use Rattle.route_core.specs.SewingSteps.{AreDrawn, run_commands, with_commands}
+use Rattle.design_model.specs.LongerDesigns.{with_commands}
+use Rattle.route_core.specs.SewingSteps.{AreDrawn, run_commands}
 use Rattle.route_core.proofs.sewing.sew_walks.Goals as goal
 
 pub sew_walk-requires-clause-there : goal.sew_walk-requires-clause-there

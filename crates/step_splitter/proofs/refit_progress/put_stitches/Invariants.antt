@@ -1,7 +1,7 @@
 use Rattle.std.proofs.Common.{◌≡◌, ◌≤◌, ◌+◌, drop, length, map}
 use Rattle.design_model.specs.declared.command.Command.TheVariants as command
 use Rattle.design_model.specs.declared.design.TheConstants.{MAX_COMMANDS}
-use Rattle.step_splitter.specs.RefitSteps.{with_commands}
+use Rattle.design_model.specs.LongerDesigns.{with_commands}
 use Rattle.step_splitter.proofs.refit_progress.put_stitches.Given as goal
 
 -- the stitches so far, and those at the points that are left
