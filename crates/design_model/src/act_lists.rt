@@ -12,14 +12,16 @@ use std::alloc::Global;
 
 /// The acts of a design, each with the number of its command.
 pub fn acts(alloc: Global, design: &Design) -> Result<Acts, Memory>
-    ensures { IfOk result (λ acts. acts ≡ acts_of design.now) }
+    ensures value { IfOk result (λ acts. acts ≡ acts_of design.now) }
+    ensures few { IfOk result (λ acts. length acts ≤ MAX_COMMANDS) }
 {
     acts_in(alloc, design.commands())
 }
 
 fn acts_in(alloc: Global, commands: &[Command]) -> Result<Acts, Memory>
     requires { length commands.now ≤ MAX_COMMANDS }
-    ensures { IfOk result (λ acts. acts ≡ acts_along commands.now) }
+    ensures value { IfOk result (λ acts. acts ≡ acts_along commands.now) }
+    ensures few { IfOk result (λ acts. length acts ≤ MAX_COMMANDS) }
 {
     let mut acts = Acts::new(alloc);
     let mut number: u32 = 0;

@@ -168,6 +168,13 @@ impl Design {
         self.commands.as_slice()
     }
 
+    /// A design keeps its limits. The body of a function that rests on them calls this law.
+    pub fn keeps_limits(&self)
+        ensures { KeepsLimits self.now }
+    {
+        self.commands();
+    }
+
     /// Moves the stitch or the jump at `index` to a point in its range.
     pub fn put_point(&mut self, index: usize, point: Point)
         requires { IsSomeAnd (slice_get self.old.commands index)

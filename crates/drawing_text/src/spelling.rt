@@ -16,8 +16,7 @@ pub fn print_drawing(alloc: Global, d: &Drawing) -> Result<Bytes, Memory>
     ensures value { IfOk result (λ text. text ≡ plain_spelling d.now) }
     ensures again { IfOk result (λ text. drawing_of text ≡ Ok d.now) }
 {
-    // The clauses of `step` bring the drawing's limits.
-    let _step = d.step();
+    d.keeps_limits();
     the_plain_spelling_says();
     let text = spelled(alloc, Version::One, d)?;
     Ok(text)
@@ -30,8 +29,7 @@ pub fn print_drawing2(alloc: Global, d: &Drawing) -> Result<Bytes, Memory>
     ensures value { IfOk result (λ text. text ≡ plain_spelling2 d.now) }
     ensures again { IfOk result (λ text. drawing_of text ≡ Ok d.now) }
 {
-    // The clauses of `step` bring the drawing's limits.
-    let _step = d.step();
+    d.keeps_limits();
     the_plain_spelling2_says();
     let text = spelled(alloc, Version::Two, d)?;
     Ok(text)

@@ -21,6 +21,7 @@ mod TreeLemmas
 mod TipLemmas
 mod KeptLemmas
 mod PartLemmas
+mod BlockLemmas
 mod OneLemmas
 mod PieceGraphFacts
 mod JoinedFacts

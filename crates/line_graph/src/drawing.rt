@@ -120,7 +120,7 @@ impl Drawing {
     }
 
     /// A drawing keeps its limits. The body of a function that rests on them calls this law.
-    pub(crate) fn keeps_limits(&self)
+    pub fn keeps_limits(&self)
         ensures limits { KeepsDrawing self.now }
         ensures ends { KeepsEnds self.now }
     {

@@ -1,4 +1,5 @@
-ghost use Rattle.std.specs.Prelude.{◌≡◌, ◌<◌, IfOk, get_or, length};
+ghost use Rattle.std.specs.Prelude.{◌≡◌, ◌<◌, All, IfOk, get_or, length};
+ghost use Rattle.line_graph.specs.declared.limits.TheConstants.{MAX_BLOCKS};
 ghost use Rattle.line_graph.specs.CutPieces.{AreCutFrom, graph_of};
 ghost use Rattle.line_graph.specs.PieceGraphs.{piece_of as the_piece_of};
 ghost use Rattle.line_graph.specs.PieceParts.{AreLabels, labelled};
@@ -13,8 +14,10 @@ use std::alloc::Global;
 
 /// All pieces of a drawing, in the order of their first lines.
 pub fn pieces(alloc: Global, d: &Drawing) -> Result<Pieces, Memory>
-    ensures { IfOk result (AreCutFrom d.now) }
+    ensures cut { IfOk result (AreCutFrom d.now) }
+    ensures blocks { IfOk result (All (λ piece. piece.block < MAX_BLOCKS)) }
 {
+    d.keeps_limits();
     let links = links(alloc, d)?;
     let labels = labels(alloc, links.as_slice(), d.line_count())?;
     let pieces = labelled_pieces(alloc, d, labels.as_slice())?;

@@ -33,8 +33,7 @@ fn tracing_line(alloc: Global, blocks: u32, lines: u32, links: usize) -> Result<
 fn segments(drawing: &Drawing) -> usize
     ensures { result ≡ segment_count drawing.now }
 {
-    // The clauses of `step` bring the drawing's limits.
-    let _step = drawing.step();
+    drawing.keeps_limits();
     let mut count = 0;
     for line in drawing.lines() {
         count += segments_in(line.points());

@@ -14,9 +14,7 @@ use Rattle.cut_certificate.specs.FaultLaws.{CutFaultsAreExact, WalkFaultsAreExac
 use Rattle.cut_certificate.specs.Faults.{first_fault}
 use Rattle.cut_certificate.specs.Packings.{IsOddCut}
 use Rattle.cut_certificate.specs.WalkFaults.{walk_fault}
-use Rattle.design_model.specs.declared.command.Command.{Command}
-use Rattle.design_model.specs.declared.command.Command.TheVariants.{Jump, Stitch, Stop, Trim}
-use Rattle.design_model.specs.Acts.{acts_from, acts_of, bare}
+use Rattle.design_model.specs.Acts.{acts_of, bare}
 use Rattle.design_model.specs.Designs.{DesignValue}
 use Rattle.line_graph.specs.declared.pass.Pass.{Pass}
 use Rattle.line_graph.specs.declared.piece.Piece.{Piece}
@@ -35,15 +33,6 @@ use Rattle.route_core.proofs.SameActs.{no_difference, none_with_itself}
 use Rattle.route_core.specs.Routes.{walks_of}
 use Rattle.route_core.specs.SewingSteps.{AllDrawn, AreDrawn}
 use Rattle.route_core.specs.Verdicts.{AreRight, IsRight, IsShort, IsVerdictOver, SewsLeast, acts_reason, cost_above, count_reason, cuts_reason, difference_of, piece_reason, pieces_reason, reason_of, retraced_reason, verdict_by, walk_reason}
-
--- a design has no more acts than commands
-pub acts_few : (n : ℕ) (loose jumped : Bool) (commands : List Command) → length (acts_from n loose jumped commands) ≤ length commands
-acts_few n loose jumped [] = omega arith
-acts_few n loose jumped (Stitch p ∷ rest) = omega (arith, acts_few (n + 1) false false rest)
-acts_few n loose jumped (Jump p ∷ rest) = omega (arith, acts_few (n + 1) loose true rest)
-acts_few n true jumped (Trim ∷ rest) = omega (arith, acts_few (n + 1) true jumped rest)
-acts_few n false jumped (Trim ∷ rest) = omega (arith, acts_few (n + 1) true false rest)
-acts_few n loose jumped (Stop ∷ rest) = omega (arith, acts_few (n + 1) true false rest)
 
 -- one piece on
 pub reasons_next : (pieces rest : List Piece) (certs more : List PieceCert) (p : Piece) (cert : PieceCert) (number : ℕ)

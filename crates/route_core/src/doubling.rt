@@ -16,8 +16,7 @@ pub fn double_pieces(alloc: Global, d: &Drawing, pieces: &[Piece]) -> Result<Rou
     requires { AreCutFrom d.now pieces.now }
     ensures { IfOk result (IsDoubleOver d.now (lines_of_pieces pieces.now)) }
 {
-    // The clauses of `step` bring the drawing's limits.
-    let _step = d.step();
+    d.keeps_limits();
     fitting_walks_are_sewable();
     pieces_keep_limits();
     let cert = Cert {

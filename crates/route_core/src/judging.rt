@@ -75,8 +75,7 @@ fn first_reason(
     ensures { IfOk result (λ reason. reason
         ≡ reason_of d.now (map graph_of pieces.now) design.now certs.now) }
 {
-    // The clauses of `step` bring the drawing's limits.
-    let _step = d.step();
+    d.keeps_limits();
     walk_faults_are_exact();
     fitting_walks_are_sewable();
     pieces_keep_limits();
@@ -101,8 +100,6 @@ fn wrong_act(
     ensures { IfOk result (λ reason. reason
         ≡ acts_reason (difference_of d.now design.now certs.now)) }
 {
-    // The clauses of `commands` bring the design's limits.
-    let _commands = design.commands();
     let acts = acts(alloc, design)?;
     match first_difference(alloc, d, acts.as_slice(), certs)? {
         Some(number) => Ok(Some(Reason::Acts { number })),

@@ -25,8 +25,7 @@ pub fn route_pieces(alloc: Global, d: &Drawing, pieces: &[Piece]) -> Result<Rout
     requires { AreCutFrom d.now pieces.now }
     ensures { IfOk result (IsRouteOver d.now (lines_of_pieces pieces.now)) }
 {
-    // The clauses of `step` bring the drawing's limits.
-    let _step = d.step();
+    d.keeps_limits();
     fitting_walks_are_sewable();
     pieces_keep_limits();
     packings_keep_their_total();

@@ -84,8 +84,7 @@ fn sew_walk(
     ensures sewn { OnOk result (design.new ≡ with_commands design.old
         (run_commands before (block_of_a_walk d.now walk.now) (needles_of_walk d.now walk.now))) }
 {
-    // The clauses of `step` bring the drawing's limits.
-    let _step = d.step();
+    d.keeps_limits();
     needles_lead_along();
     let block = block_of_walk(d, walk);
     let points = walk_needles(alloc, d, walk)?;

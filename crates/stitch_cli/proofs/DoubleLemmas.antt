@@ -27,12 +27,11 @@ use Rattle.stitch_cli.proofs.RouteLemmas.{lines_count}
 use Rattle.stitch_cli.proofs.SewnDesigns.{runs_are_plain}
 
 -- the design of a double run is plain for a format whose limit the drawing's step keeps
-pub doubled_plain : (d : DrawingValue) (lines : List (List ℕ)) (routed : Routed) (limit n : ℕ) → IsDoubleOver d lines routed
-    → n ≡ limit → 121 ≤ n → d.step ≤ limit → IsPlain limit routed.design
-doubled_plain d lines routed limit n over is least within =
-    let most : 121 ≤ limit = omega (arith, is, least) in
+pub doubled_plain : (d : DrawingValue) (lines : List (List ℕ)) (routed : Routed) (limit : ℕ) → IsDoubleOver d lines routed
+    → 121 ≤ limit → d.step ≤ limit → IsPlain limit routed.design
+doubled_plain d lines routed limit over least within =
     subst (IsPlain limit) (sym over.design)
-    (runs_are_plain d (runs_of d (walks_of routed.cert.pieces)) d.step limit over.writable most within)
+    (runs_are_plain d (runs_of d (walks_of routed.cert.pieces)) d.step limit over.writable least within)
 
 -- there are as many walks as pieces
 walks_count : (d : DrawingValue) (lines : List (List ℕ)) (certs : List PieceCert) → AllZip (IsDoubled d) lines certs

@@ -21,12 +21,11 @@ use Rattle.stitch_cli.proofs.ReportLemmas.{penetrations_are, reports_are}
 use Rattle.stitch_cli.proofs.SewnDesigns.{runs_are_plain}
 
 -- the design of a route is plain for a format whose limit the drawing's step keeps
-pub routed_plain : (d : DrawingValue) (lines : List (List ℕ)) (routed : Routed) (limit n : ℕ) → IsRouteOver d lines routed
-    → n ≡ limit → 121 ≤ n → d.step ≤ limit → IsPlain limit routed.design
-routed_plain d lines routed limit n route is least within =
-    let most : 121 ≤ limit = omega (arith, is, least) in
+pub routed_plain : (d : DrawingValue) (lines : List (List ℕ)) (routed : Routed) (limit : ℕ) → IsRouteOver d lines routed
+    → 121 ≤ limit → d.step ≤ limit → IsPlain limit routed.design
+routed_plain d lines routed limit route least within =
     subst (IsPlain limit) (sym route.design)
-    (runs_are_plain d (runs_of d (walks_of routed.cert.pieces)) d.step limit route.writable most within)
+    (runs_are_plain d (runs_of d (walks_of routed.cert.pieces)) d.step limit route.writable least within)
 
 -- there are as many walks as pieces
 walks_count : (d : DrawingValue) (lines : List (List ℕ)) (certs : List PieceCert) → AllZip (IsBest d) lines certs

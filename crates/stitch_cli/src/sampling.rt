@@ -50,8 +50,6 @@ fn told<'a>(
     ensures { IfOk result (λ product. TellsOf (sample_order number name.now) drawing.now
         (product_of product)) }
 {
-    // The clauses of `step` bring the drawing's limits.
-    let _step = drawing.step();
     let pieces = pieces(alloc, drawing)?;
     let routed = route_pieces(alloc, drawing, pieces.as_slice())?;
     let summary = summary_of(

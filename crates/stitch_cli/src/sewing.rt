@@ -1,5 +1,6 @@
 ghost use Rattle.std.specs.Prelude.{◌≡◌, ◌≢◌, ◌≤◌, IfOk};
 ghost use Rattle.command_words.specs.SoundRequests.{AreNames};
+ghost use Rattle.format_traits.specs.declared.format_object.TheConstants.{LEAST_LIMIT};
 ghost use Rattle.format_traits.specs.PlainDesigns.{IsPlain};
 ghost use Rattle.line_graph.specs.Runs.{AreWritable, runs_of, sewn_design};
 ghost use Rattle.route_core.specs.Routes.{walks_of};
@@ -85,7 +86,8 @@ fn sewn<'a>(
     format: &Box<dyn Format>,
     drawing: &Drawing,
 ) -> Result<Product<'a>, Memory>
-    requires { drawing.now.step ≤ (meaning format.now).limit }
+    requires limit { LEAST_LIMIT ≤ (meaning format.now).limit }
+    requires step { drawing.now.step ≤ (meaning format.now).limit }
     ensures { IfOk result (λ product. SewnMakes (IsSewnBy way)
         (route_order names.entry (meaning format.now)) drawing.now
         (product_of product)) }
@@ -103,14 +105,12 @@ fn routed<'a>(
     format: &Box<dyn Format>,
     drawing: &Drawing,
 ) -> Result<Product<'a>, Memory>
-    requires { drawing.now.step ≤ (meaning format.now).limit }
+    requires limit { LEAST_LIMIT ≤ (meaning format.now).limit }
+    requires step { drawing.now.step ≤ (meaning format.now).limit }
     ensures { IfOk result (λ product. SewnMakes IsRouted
         (route_order names.entry (meaning format.now)) drawing.now
         (product_of product)) }
 {
-    // The clauses of these calls bring the limits of the drawing and of the format.
-    let _step = drawing.step();
-    let _limit = limit_of(format);
     let pieces = pieces(alloc, drawing)?;
     let routed = route_pieces(alloc, drawing, pieces.as_slice())?;
     let design = encoded(alloc, format, drawing, &routed)?;
@@ -127,14 +127,12 @@ fn doubled<'a>(
     format: &Box<dyn Format>,
     drawing: &Drawing,
 ) -> Result<Product<'a>, Memory>
-    requires { drawing.now.step ≤ (meaning format.now).limit }
+    requires limit { LEAST_LIMIT ≤ (meaning format.now).limit }
+    requires step { drawing.now.step ≤ (meaning format.now).limit }
     ensures { IfOk result (λ product. SewnMakes IsDoubleRun
         (route_order names.entry (meaning format.now)) drawing.now
         (product_of product)) }
 {
-    // The clauses of these calls bring the limits of the drawing and of the format.
-    let _step = drawing.step();
-    let _limit = limit_of(format);
     let pieces = pieces(alloc, drawing)?;
     let routed = double_pieces(alloc, drawing, pieces.as_slice())?;
     let design = encoded(alloc, format, drawing, &routed)?;

@@ -24,8 +24,7 @@ pub fn write_file(alloc: Global, design: &Design) -> Result<Bytes, WriteFault>
     ensures laws { KeepsLaws stitch_list design.now }
 {
     written_reads_again();
-    // The clauses of `commands` bring the design's limits.
-    let _commands = design.commands();
+    design.keeps_limits();
     put_list(alloc, design)
 }
 

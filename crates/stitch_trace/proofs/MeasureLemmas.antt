@@ -1,5 +1,5 @@
 -- The greatest size of links.
-use Rattle.std.proofs.Common.{◌≡◌, ◌≢◌, ℕ, ℤ, ◌+◌, ◌≤◌, ◌==◌, ◌-ℤ◌, unsigned_abs, max, Bool, true, false, cond, List, [], ◌∷◌, fold, map, length, Option, Some, None, Result, Ok, Err, ap, sym, ◌∙◌, refl, arith}
+use Rattle.std.proofs.Common.{◌≡◌, ◌≢◌, ℕ, ℤ, ◌+◌, ◌≤◌, ◌==◌, ◌-ℤ◌, unsigned_abs, max, Bool, true, false, cond, List, [], ◌∷◌, fold, map, Option, Some, None, Result, Ok, Err, ap, sym, ◌∙◌, refl, arith}
 use Rattle.std.proofs.Math.Nat.{le-max_left, le-max_right}
 use Rattle.std.proofs.lemmas.Bool.Decides.{nat_tests, Decides-int_eq}
 use Rattle.std.proofs.lemmas.Bool.{both_ways}
@@ -8,10 +8,7 @@ use Rattle.std.specs.Ordering.{int_eq}
 use Rattle.design_model.specs.declared.act.Act.{Act}
 use Rattle.design_model.specs.declared.act.Act.TheVariants as act
 use Rattle.design_model.specs.declared.act.NumberedAct.{NumberedAct}
-use Rattle.design_model.specs.declared.command.Command.{Command}
-use Rattle.design_model.specs.declared.command.Command.TheVariants.{Stitch, Jump, Trim, Stop}
 use Rattle.design_model.specs.declared.point.Point.{Point}
-use Rattle.design_model.specs.Acts.{acts_from}
 use Rattle.design_model.specs.ActKinds.{needle_point}
 use Rattle.design_model.specs.Points.{is_same_point, move_between, size_of}
 use Rattle.stitch_trace.specs.declared.links.Link.{Link}
@@ -106,12 +103,3 @@ pub step_is : (acts : List NumberedAct) → measured_on 0 (moves_along acts) ≡
 step_is acts =
     measured_to 0 (moves_along acts)
     ∙ past_is (first_long (moves_along acts)) (links_in (moves_along acts)) (first_has_size None acts)
-
--- there are no more acts than commands
-pub few_acts : (n : ℕ) (loose jumped : Bool) (commands : List Command) → length (acts_from n loose jumped commands) ≤ length commands
-few_acts n loose jumped [] = omega arith
-few_acts n loose jumped (Stitch p ∷ rest) = omega (arith, few_acts (n + 1) false false rest)
-few_acts n loose jumped (Jump p ∷ rest) = omega (arith, few_acts (n + 1) loose true rest)
-few_acts n true jumped (Trim ∷ rest) = omega (arith, few_acts (n + 1) true jumped rest)
-few_acts n false jumped (Trim ∷ rest) = omega (arith, few_acts (n + 1) true false rest)
-few_acts n loose jumped (Stop ∷ rest) = omega (arith, few_acts (n + 1) true false rest)

@@ -24,8 +24,6 @@ pub fn trace(alloc: Global, d: &Design) -> Result<Drawing, TraceFault>
     ensures joined { IfOk result (λ drawing. is_joined drawing ≡ true) }
     ensures unended { IfOk result HasNoEnds }
 {
-    // The clauses of `commands` bring the design's limits.
-    let _commands = d.commands();
     let acts = acts(alloc, d)?;
     let step = longest_link(acts.as_slice())?;
     let strands = strands(alloc, d, acts.as_slice())?;

@@ -1,4 +1,5 @@
 use Rattle.std.proofs.Common.{◌∙◌}
+use Rattle.line_graph.proofs.BlockLemmas.{blocks_few}
 use Rattle.line_graph.proofs.PartLemmas.{labels_are}
 use Rattle.line_graph.proofs.joined_lines.pieces.Goals as goal
 
@@ -7,3 +8,6 @@ labelled_pieces-requires c =
     rw c.as_slice-2.ensures.value
     (labels_are c.args.d.now _ _ c.in_ok-links.ensures (rw (← c.as_slice.ensures.value) c.in_ok-labels.ensures.value)
     (c.in_ok-labels.ensures.sized ∙ c.line_count.ensures.value))
+
+pub returns-clause-blocks : goal.returns-clause-blocks
+returns-clause-blocks c = blocks_few c.args.d.now _ c.keeps_limits.ensures.limits c.in_ok-pieces.ensures.each
