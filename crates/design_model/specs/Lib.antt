@@ -12,3 +12,4 @@ pub mod Counts
 pub mod Extents
 pub mod Blocks
 pub mod WholeNumbers
+pub mod WantOfMemory

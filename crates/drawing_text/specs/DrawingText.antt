@@ -1,10 +1,11 @@
 -- The drawing that a text says, or the first fault of the text. Own format: lines of words, each
 -- judged by the lines before it. Lines of the text count from 1.
-use Rattle.std.specs.Prelude.{◌≡◌, ℕ, ◌+◌, true, ◌⊎◌, List, [], ◌∷◌, Option, Some, None, Result, Ok, Err, bytes_eq, codes, if◌then◌else◌}
+use Rattle.std.specs.Prelude.{◌≡◌, ℕ, ◌+◌, ◌==◌, ◌&&◌, Bool, true, List, [], ◌∷◌, Option, Some, None, Result, Ok, Err, bytes_eq, codes, if◌then◌else◌}
+use Rattle.design_model.specs.WantOfMemory.{IsSaid}
 use Rattle.line_graph.specs.declared.draw_kind.DrawKind.{DrawKind}
 use Rattle.line_graph.specs.declared.draw_kind.DrawKind.TheVariants as kind
 use Rattle.line_graph.specs.Drawings.{DrawingValue, KeepsDrawing}
-use Rattle.line_graph.specs.Growing.{and_then, finished}
+use Rattle.line_graph.specs.Growing.{and_then, finished, wants_memory}
 use Rattle.line_graph.specs.JoinedDrawings.{is_joined, joined_drawing}
 use Rattle.line_graph.specs.WalkEnds.{HasNoEnds, walk_end_added}
 use Rattle.drawing_text.specs.declared.draft.Draft.{Draft}
@@ -119,14 +120,13 @@ said_as2 earlier body = said_in version.Two body
 abbrev pub drawing_as2 : List ℕ → Result DrawingValue DrawFault
 drawing_as2 text = and_then (body_of text) (λ body. said_as2 body.version body)
 
--- memory was wanted and not found
-abbrev pub no_memory : DrawFault
-no_memory = record { number = 0; kind = kind.Memory }
+-- the fault that wants memory, which is told of no line
+abbrev pub is_unplaced : DrawFault → Bool
+is_unplaced fault = wants_memory fault.kind && fault.number == 0
 
 -- what each answer of a reader means: it is what was said, or memory was wanted
 abbrev pub Reads : Result DrawingValue DrawFault → Result DrawingValue DrawFault → Type 0
-Reads said (Ok d) = said ≡ Ok d
-Reads said (Err fault) = (said ≡ Err fault) ⊎ (fault ≡ no_memory)
+Reads said result = IsSaid is_unplaced said result
 
 -- lines meet at ends alone, and no start and no end is said
 pub record IsWhole (d : DrawingValue) : Type 0 where

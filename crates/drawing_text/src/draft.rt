@@ -1,5 +1,6 @@
 ghost use Rattle.std.specs.Prelude.{◌≡◌, IfOk};
-ghost use Rattle.line_graph.specs.Growing.{Answers, Changes, and_then, finished};
+ghost use Rattle.design_model.specs.WantOfMemory.{IsSaid};
+ghost use Rattle.line_graph.specs.Growing.{Changes, and_then, finished, wants_memory};
 ghost use Rattle.line_graph.specs.JoinedDrawings.{joined_drawing};
 ghost use Rattle.drawing_text.specs.declared.version.Version.TheVariants as version;
 ghost use Rattle.drawing_text.specs.DrawingText.{IsMeant, IsWhole, Reads, at_line, joined_at, meant_by};
@@ -10,7 +11,7 @@ use crate::draw_fault::{DrawFault, told_at};
 use crate::ending::with_ends;
 use crate::number_words::count_in;
 use crate::point_words::{point_of_words, points_of_words};
-use crate::text_words::{is_comment, next_word, only_word, spells};
+use crate::text_words::{is_comment, next_word, only_word};
 use crate::version::Version;
 use crate::walk_end::{WalkEnd, WalkEnds};
 use line_graph::{DrawKind, Drawing, DrawingMaker, Spot, is_label_word, join};
@@ -216,7 +217,7 @@ impl Draft {
 
 /// The drawing that was made, with its lines replaced by their sections.
 fn joined_lines(alloc: Global, drawing: DrawingMaker) -> Result<Drawing, DrawKind>
-    ensures answer { Answers (and_then (finished drawing) joined_drawing) result }
+    ensures answer { IsSaid wants_memory (and_then (finished drawing) joined_drawing) result }
     ensures whole { IfOk result IsWhole }
 {
     let drawn = drawing.finish()?;

@@ -1,6 +1,7 @@
 ghost use Rattle.std.specs.Prelude.{◌≡◌, All, IfOk};
 ghost use Rattle.step_splitter.specs.Chains.{IsNeedlePoint};
-ghost use Rattle.line_graph.specs.Growing.{Answers};
+ghost use Rattle.design_model.specs.WantOfMemory.{IsSaid};
+ghost use Rattle.line_graph.specs.Growing.{wants_memory};
 ghost use Rattle.drawing_text.specs.TextLines.{point_in, points_in};
 ghost use Rattle.drawing_text.specs.Words.{words_in};
 
@@ -27,7 +28,7 @@ pub fn point_of_words(words: &[u8]) -> Result<Point, DrawKind>
 
 /// The points whose coordinates the words of a line spell.
 pub fn points_of_words(alloc: Global, words: &[u8]) -> Result<Points, DrawKind>
-    ensures value { Answers (points_in (words_in words.now)) result }
+    ensures value { IsSaid wants_memory (points_in (words_in words.now)) result }
     ensures in_range { IfOk result (λ points. All IsNeedlePoint points) }
 {
     let mut points = Points::new(alloc);

@@ -1,11 +1,9 @@
 -- What it means to cut the first record from the bytes that are left of a
 -- file, and to read them all.
-use Rattle.std.specs.Prelude.{◌≡◌, ℕ, ◌+◌, ◌<◌, ◌≤◌, Bool, true, List, ◌++◌, length, drop, Result, Err, IsTrue}
+use Rattle.std.specs.Prelude.{◌≡◌, ℕ, ◌+◌, ◌<◌, ◌≤◌, Bool, true, List, ◌++◌, length, drop, IsTrue}
 use Rattle.std.specs.List.{list_all}
 use Rattle.design_model.specs.Points.{is_within}
 use Rattle.format_traits.specs.declared.event.Event.{Event}
-use Rattle.format_traits.specs.declared.fault.ReadFault.{ReadFault}
-use Rattle.format_traits.specs.declared.fault.ReadFault.TheVariants as fault
 use Rattle.format_traits.specs.declared.record_reader.NextRecord.{NextRecord}
 use Rattle.format_traits.specs.declared.record_reader.NextRecord.TheVariants as cut
 use Rattle.format_traits.specs.declared.record_reader.TheConstants.{GREATEST_STEP, MOST_RECORD}
@@ -36,13 +34,3 @@ Cuts before after at bytes (cut.Wants ended) = IsWanting before after at bytes e
 Cuts before after at bytes (cut.Refused f) =
     (more : List ℕ) → before at (bytes ++ more) ≡ refused f
 Cuts before after at bytes (cut.Record event size) = IsCut before after at bytes size event
-
--- the refusal is the model's, unless memory ran out
-abbrev pub RefusesAs : {T : Type 0} → Result T ReadFault → ReadFault → Type 0
-RefusesAs model (fault.Short at) = model ≡ Err (fault.Short at)
-RefusesAs model (fault.Signature at) = model ≡ Err (fault.Signature at)
-RefusesAs model (fault.Sequin at) = model ≡ Err (fault.Sequin at)
-RefusesAs model (fault.Control at) = model ≡ Err (fault.Control at)
-RefusesAs model (fault.Range at) = model ≡ Err (fault.Range at)
-RefusesAs model (fault.TooMany at) = model ≡ Err (fault.TooMany at)
-RefusesAs model fault.Memory = Unit {0}

@@ -6,8 +6,9 @@ use Rattle.design_model.specs.declared.design.TheConstants.{MAX_COMMANDS}
 use Rattle.design_model.specs.Commands.{is_in_range}
 use Rattle.design_model.specs.Designs.{DesignValue}
 use Rattle.design_model.specs.LongerDesigns.{with_commands}
+use Rattle.design_model.specs.WantOfMemory.{UnlessMemory}
 use Rattle.format_traits.specs.declared.fault.ReadFault.{ReadFault}
-use Rattle.format_traits.specs.declared.fault.ReadFault.TheVariants as fault
+use Rattle.format_traits.specs.Faults.{read_wants}
 use Rattle.format_traits.specs.Readings.{Course, tries}
 use Rattle.format_traits.specs.Records.{taken_of}
 
@@ -33,5 +34,4 @@ pub record Refuses (at : ℕ) (commands : List Command) (old : DesignValue) (f :
 abbrev pub Keeps : {T : Type 0} → ℕ → List Command → DesignValue → Result T ReadFault → DesignValue
     → Type 0
 Keeps at commands old (Ok _) new = Fit commands old × (new ≡ with_commands old commands)
-Keeps at commands old (Err fault.Memory) new = Unit {0}
-Keeps at commands old (Err f) new = Refuses at commands old f new
+Keeps at commands old (Err f) new = UnlessMemory (read_wants f) (Refuses at commands old f new)

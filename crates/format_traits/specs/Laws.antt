@@ -1,15 +1,15 @@
 -- The laws that every format object keeps.
-use Rattle.std.specs.Prelude.{◌≡◌, ℕ, ◌<◌, ◌≤◌, ◌&&◌, Bool, true, false, List, length, nat_le, ◌||◌, None, Result, Ok, Err, IsTrue, IsOk, IsOkAnd, IfOk}
+use Rattle.std.specs.Prelude.{◌≡◌, ℕ, ◌<◌, ◌≤◌, ◌&&◌, Bool, true, false, List, length, nat_le, ◌||◌, None, Result, IsTrue, IsOk, IsOkAnd, IfOk}
 use Rattle.std.specs.List.{list_all}
 use Rattle.design_model.specs.Acts.{acts_of, bare}
 use Rattle.design_model.specs.Designs.{DesignValue, KeepsLimits}
 use Rattle.design_model.specs.Points.{is_within}
+use Rattle.design_model.specs.WantOfMemory.{IsSaid}
 use Rattle.format_traits.specs.declared.fault.ReadFault.{ReadFault}
-use Rattle.format_traits.specs.declared.fault.ReadFault.TheVariants as read
 use Rattle.format_traits.specs.declared.fault.WriteFault.{WriteFault}
-use Rattle.format_traits.specs.declared.fault.WriteFault.TheVariants as fault
 use Rattle.format_traits.specs.declared.loaded.Loaded.{Loaded}
 use Rattle.format_traits.specs.declared.standing.Reach.{Reach}
+use Rattle.format_traits.specs.Faults.{read_wants, write_wants}
 use Rattle.format_traits.specs.Meanings.{Meaning}
 use Rattle.format_traits.specs.PlainDesigns.{IsPlain}
 use Rattle.format_traits.specs.Refusals.{passes, first_refusal, unless_refused}
@@ -25,23 +25,11 @@ pub record IsEnding (ending : List ℕ) : Type 0 where
 
 -- what an encoding answered is the model's value, unless memory ran out
 abbrev pub Writes : Result (List ℕ) WriteFault → Result (List ℕ) WriteFault → Type 0
-Writes model (Ok bytes) = model ≡ Ok bytes
-Writes model (Err (fault.StitchTooLong number)) = model ≡ Err (fault.StitchTooLong number)
-Writes model (Err (fault.FloatTooLong number)) = model ≡ Err (fault.FloatTooLong number)
-Writes model (Err (fault.TooManyStops number)) = model ≡ Err (fault.TooManyStops number)
-Writes model (Err (fault.TooLong number)) = model ≡ Err (fault.TooLong number)
-Writes model (Err fault.Memory) = Unit {0}
+Writes model result = IsSaid write_wants model result
 
 -- what a decoding answered is the model's value, unless memory ran out
 abbrev pub Reads : Result Loaded ReadFault → Result Loaded ReadFault → Type 0
-Reads model (Ok loaded) = model ≡ Ok loaded
-Reads model (Err (read.Short at)) = model ≡ Err (read.Short at)
-Reads model (Err (read.Signature at)) = model ≡ Err (read.Signature at)
-Reads model (Err (read.Sequin at)) = model ≡ Err (read.Sequin at)
-Reads model (Err (read.Control at)) = model ≡ Err (read.Control at)
-Reads model (Err (read.Range at)) = model ≡ Err (read.Range at)
-Reads model (Err (read.TooMany at)) = model ≡ Err (read.TooMany at)
-Reads model (Err read.Memory) = Unit {0}
+Reads model result = IsSaid read_wants model result
 
 -- what was loaded has the acts of the design, and its file had an end
 pub record IsAgain (d : DesignValue) (loaded : Loaded) : Type 0 where

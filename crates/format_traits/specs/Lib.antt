@@ -1,3 +1,4 @@
+pub mod Faults
 pub mod Placing
 pub mod Rooms
 pub mod Refusals

@@ -9,10 +9,11 @@ use Rattle.design_model.specs.declared.design.TheConstants.{MAX_COMMANDS}
 use Rattle.design_model.specs.declared.point.Point.{Point}
 use Rattle.design_model.specs.declared.point.TheConstants.{NEEDLE_LIMIT}
 use Rattle.design_model.specs.Points.{is_within, origin, move_between}
+use Rattle.design_model.specs.WantOfMemory.{UnlessMemory}
 use Rattle.format_traits.specs.declared.fault.WriteFault.{WriteFault}
-use Rattle.format_traits.specs.declared.fault.WriteFault.TheVariants as fault
 use Rattle.format_traits.specs.declared.standing.Reach.{Reach}
 use Rattle.format_traits.specs.declared.standing.Standing.{Standing}
+use Rattle.format_traits.specs.Faults.{write_wants}
 use Rattle.format_traits.specs.Placing.{hops, part_of, parts, parts_from}
 use Rattle.format_traits.specs.Refusals.{beginning, standing_after, own_refusal, refusal_at, first_refusal}
 
@@ -76,11 +77,7 @@ standing_along limit before (a ∷ rest) = standing_along limit
 
 -- the refusal is that of the model, unless memory ran out
 abbrev pub RefusedAs : Option WriteFault → WriteFault → Type 0
-RefusedAs refusal (fault.StitchTooLong number) = refusal ≡ Some (fault.StitchTooLong number)
-RefusedAs refusal (fault.FloatTooLong number) = refusal ≡ Some (fault.FloatTooLong number)
-RefusedAs refusal (fault.TooManyStops number) = refusal ≡ Some (fault.TooManyStops number)
-RefusedAs refusal (fault.TooLong number) = refusal ≡ Some (fault.TooLong number)
-RefusedAs refusal fault.Memory = Unit {0}
+RefusedAs refusal fault = UnlessMemory (write_wants fault) (refusal ≡ Some fault)
 
 -- the place is in a needle's range, the room is within the limit, and the stops are within the room
 pub record IsSound (standing : Standing) : Type 0 where

@@ -1,12 +1,13 @@
 -- Drawings that grow by blocks and lines, within the limits of a drawing, in whole tenths of a
 -- millimetre, and what a call answers that makes them grow. Costs count steps.
-use Rattle.std.specs.Prelude.{◌≡◌, ℕ, ◌+◌, ◌-◌, ◌==◌, Bool, false, not, ◌&&◌, ◌||◌, nat_le, nat_lt, List, [], ◌∷◌, ◌++◌, Result, Ok, Err, length, sum_by, if◌then◌else◌}
+use Rattle.std.specs.Prelude.{◌≡◌, ℕ, ◌+◌, ◌-◌, ◌==◌, Bool, true, false, not, ◌&&◌, ◌||◌, nat_le, nat_lt, List, [], ◌∷◌, ◌++◌, Result, Ok, Err, length, sum_by, if◌then◌else◌}
 use Rattle.std.specs.Char.{is_ascii_graphic}
 use Rattle.std.specs.List.{list_all, list_any}
 use Rattle.design_model.specs.declared.design.TheConstants.{MAX_LABEL}
 use Rattle.design_model.specs.declared.point.Point.{Point}
 use Rattle.design_model.specs.declared.point.TheConstants.{NEEDLE_LIMIT}
 use Rattle.design_model.specs.Points.{is_same_point, is_within}
+use Rattle.design_model.specs.WantOfMemory.{IsSaid}
 use Rattle.line_sections.specs.Lines.{LineValue}
 use Rattle.line_graph.specs.declared.draw_kind.DrawKind.{DrawKind}
 use Rattle.line_graph.specs.declared.draw_kind.DrawKind.TheVariants as kind
@@ -99,17 +100,12 @@ finished d =
     if length d.threads == 0 then Err kind.NoBlock
     else (if is_last_empty d then Err kind.EmptyBlock else Ok d)
 
--- the refusal is the one that was said, or memory was wanted
-abbrev pub IsSaid : {A : Type 0} → Result A DrawKind → DrawKind → Type 0
-IsSaid said kind.Memory = Unit {0}
-IsSaid said why = said ≡ Err why
-
--- what each answer of a call means: it is what was said, or memory was wanted
-abbrev pub Answers : {A : Type 0} → Result A DrawKind → Result A DrawKind → Type 0
-Answers said (Ok a) = said ≡ Ok a
-Answers said (Err why) = IsSaid said why
+-- the kind of fault that wants memory
+abbrev pub wants_memory : DrawKind → Bool
+wants_memory kind.Memory = true
+wants_memory other = false
 
 -- what each answer of a call means that is to change a value as said: a refusal leaves it as it was
 abbrev pub Changes : {A T : Type 0} → Result A DrawKind → A → Result T DrawKind → A → Type 0
 Changes said old (Ok _) new = said ≡ Ok new
-Changes said old (Err why) new = IsSaid said why × (new ≡ old)
+Changes said old (Err why) new = IsSaid wants_memory said (Err why) × (new ≡ old)

@@ -1,6 +1,7 @@
 ghost use Rattle.std.specs.Prelude.{◌≡◌, IfOk, true, nat_lt};
 ghost use Rattle.line_graph.specs.declared.limits.TheConstants.{MAX_POINTS as max_points};
-ghost use Rattle.line_graph.specs.Growing.{Answers, point_count};
+ghost use Rattle.design_model.specs.WantOfMemory.{IsSaid};
+ghost use Rattle.line_graph.specs.Growing.{point_count, wants_memory};
 ghost use Rattle.line_graph.specs.JoinedDrawings.{is_joined, joined_drawing};
 
 use crate::draw_kind::DrawKind;
@@ -20,7 +21,7 @@ pub fn joined(d: &Drawing) -> bool
 /// The drawing with its lines replaced by their sections: a line is cut at each point inside it that its
 /// block lists at another place too. The refusals are `TooManyLines`, then `TooManyPoints`, and `Memory`.
 pub fn join(alloc: Global, d: &Drawing) -> Result<Drawing, DrawKind>
-    ensures answer { Answers (joined_drawing d.now) result }
+    ensures answer { IsSaid wants_memory (joined_drawing d.now) result }
     ensures joined { IfOk result (λ whole. is_joined whole ≡ true) }
 {
     d.keeps_limits();

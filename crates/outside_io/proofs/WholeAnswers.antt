@@ -1,9 +1,10 @@
 -- Where no count rises, the file decides what the reading of it answers.
-use Rattle.std.proofs.Common.{◌≡◌, ℕ, ◌≤◌, List, length, Some, None, Ok, Err, Option, Result, true, false, refl, sym, ◌∙◌, ap, arith, inl, inr}
+use Rattle.std.proofs.Common.{◌≡◌, ℕ, ◌≤◌, List, length, Some, None, Ok, Err, Option, Result, true, false, ◌∙◌, ap, arith, inl, inr}
 use Rattle.std.specs.Bool.{nat_le}
 use Rattle.outside_io.specs.declared.whole_files.GetFault.{GetFault}
 use Rattle.outside_io.specs.declared.whole_files.GetFault.TheVariants as fault
-use Rattle.outside_io.specs.Causes.{ReadsWhole, GivesOrMemory, whole_answer, IsLonger}
+use Rattle.design_model.specs.WantOfMemory.{IsSaid}
+use Rattle.outside_io.specs.Causes.{ReadsWhole, wants_memory, whole_answer, IsLonger}
 use Rattle.outside_io.specs.Counts.{Rose, IsQuiet}
 use Rattle.outside_io.specs.Files.{WhereTold}
 use Rattle.outside_io.specs.Sights.{StoreSight}
@@ -26,12 +27,12 @@ longer_answer (Some content) limit longer =
 -- each answer that can come then is the file's, or want of memory
 pub decided : (name : List ℕ) (limit : ℕ) (old new : StoreSight) (result : Result (List ℕ) GetFault) →
     ReadsWhole name limit old new result → IsQuiet old.faults new.faults →
-    WhereTold old.files (λ told. GivesOrMemory (whole_answer (told name) limit) result)
+    WhereTold old.files (λ told. IsSaid wants_memory (whole_answer (told name) limit) result)
 decided name limit old new (Ok bytes) reads still told is =
-    inl (sym (ap (λ file. whole_answer file limit) (reads.1 told is) ∙ short_answer bytes limit reads.0))
+    ap (λ file. whole_answer file limit) (reads.1 told is) ∙ short_answer bytes limit reads.0
 decided name limit old new (Err fault.Missing) reads still told is =
-    inl (sym (ap (λ file. whole_answer file limit) (reads.0.missing told is)))
+    ap (λ file. whole_answer file limit) (reads.0.missing told is)
 decided name limit old new (Err fault.Failed) reads still told is = absurd (quiet old.faults new.faults still reads.rose)
 decided name limit old new (Err fault.TooLong) reads still told is =
-    inl (sym (longer_answer (told name) limit (reads.0 told is)))
-decided name limit old new (Err fault.Memory) reads still told is = inr refl
+    longer_answer (told name) limit (reads.0 told is)
+decided name limit old new (Err fault.Memory) reads still told is = tt

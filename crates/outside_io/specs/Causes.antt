@@ -1,6 +1,6 @@
 -- What each answer of the outside tells, and where each comes. Exactness is by exclusion: where no
 -- count rises, only the answers that leave the count can come.
-use Rattle.std.specs.Prelude.{◌≡◌, ℕ, ◌<◌, ◌≤◌, ◌⊎◌, List, ◌++◌, length, take, drop, Option, Some, None, Result, Ok, Err, if◌then◌else◌, nat_le}
+use Rattle.std.specs.Prelude.{◌≡◌, ℕ, ◌<◌, ◌≤◌, Bool, true, false, List, ◌++◌, length, take, drop, Option, Some, None, Result, Ok, Err, if◌then◌else◌, nat_le}
 use Rattle.outside_io.specs.declared.store.Failed.{Failed}
 use Rattle.outside_io.specs.declared.store.ReadStop.{ReadStop}
 use Rattle.outside_io.specs.declared.store.ReadStop.TheVariants as stop
@@ -67,9 +67,10 @@ ReadsWhole name limit old new (Err fault.TooLong) =
     WhereTold old.files (λ told. IsLonger (told name) limit) × Stays old new
 ReadsWhole name limit old new (Err fault.Memory) = Stays old new
 
--- the answer, or want of memory
-abbrev pub GivesOrMemory : Result (List ℕ) GetFault → Result (List ℕ) GetFault → Type 0
-GivesOrMemory answer result = (result ≡ answer) ⊎ (result ≡ Err fault.Memory)
+-- the fault that wants memory
+abbrev pub wants_memory : GetFault → Bool
+wants_memory fault.Memory = true
+wants_memory other = false
 
 -- the one answer of the reading of a whole file that is told, where no count rises
 abbrev pub whole_answer : Option (List ℕ) → ℕ → Result (List ℕ) GetFault

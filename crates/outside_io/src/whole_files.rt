@@ -1,5 +1,6 @@
 ghost use Rattle.std.specs.Prelude.{◌≡◌, ◌<◌, ◌≤◌, length};
-ghost use Rattle.outside_io.specs.Causes.{GivesOrMemory, ReadsWhole, whole_answer};
+ghost use Rattle.design_model.specs.WantOfMemory.{IsSaid};
+ghost use Rattle.outside_io.specs.Causes.{ReadsWhole, wants_memory, whole_answer};
 ghost use Rattle.outside_io.specs.Counts.{IsQuiet};
 ghost use Rattle.outside_io.specs.FileParts.{ReadsNext};
 ghost use Rattle.outside_io.specs.Files.{IsName, WhereTold};
@@ -49,7 +50,8 @@ pub fn read_whole<S: Store>(
     ensures same { (S.sight store.new).files ≡ (S.sight store.old).files }
     // Where no count rises, the file decides, or want of memory comes.
     ensures decided { IsQuiet (S.sight store.old).faults (S.sight store.new).faults →
-        WhereTold (S.sight store.old).files (λ told. GivesOrMemory (whole_answer (told name.now) limit) result) }
+        WhereTold (S.sight store.old).files
+        (λ told. IsSaid wants_memory (whole_answer (told name.now) limit) result) }
 {
     read_in_order(alloc, store, name, limit)
 }

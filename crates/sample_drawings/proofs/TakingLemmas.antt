@@ -3,10 +3,11 @@ use Rattle.std.proofs.Common.{◌≡◌, ℕ, zero, suc, ◌+◌, ◌≤◌, ◌
 use Rattle.std.proofs.lemmas.Bool.Decides.{nat_tests}
 use Rattle.std.specs.List.{list_any}
 use Rattle.design_model.specs.declared.point.Point.{Point}
+use Rattle.design_model.specs.WantOfMemory.{IsSaid}
 use Rattle.line_graph.specs.declared.draw_kind.DrawKind.{DrawKind}
 use Rattle.line_graph.specs.declared.draw_kind.DrawKind.TheVariants as kind
 use Rattle.line_graph.specs.Drawings.{DrawingValue}
-use Rattle.line_graph.specs.Growing.{IsSaid, finished, line_added, point_count, step_count}
+use Rattle.line_graph.specs.Growing.{finished, line_added, point_count, step_count, wants_memory}
 use Rattle.line_graph.specs.Needles.{line_steps}
 use Rattle.sample_drawings.specs.declared.segment.Segment.{Segment}
 use Rattle.sample_drawings.specs.Samples.{across, cell_count, diagonals, down, line_along, row_by_row, segments}
@@ -29,23 +30,23 @@ pub line_taken : (d : DrawingValue) (s : Segment) (points : List Point) → poin
 line_taken d s points are room short = ap (line_added d) are ∙ taken_so d s room short
 
 -- a call that may want memory alone refuses for want of memory
-pub wants_memory : {A : Type 0} (said : Result A DrawKind) (a : A) (why : DrawKind) → said ≡ Ok a → IsSaid said why
-    → why ≡ kind.Memory
-wants_memory said a kind.Memory is refused = refl
-wants_memory said a kind.BadHeader is refused = absurd cc
-wants_memory said a kind.BadWord is refused = absurd cc
-wants_memory said a kind.BadNumber is refused = absurd cc
-wants_memory said a kind.OutOfRange is refused = absurd cc
-wants_memory said a kind.FewPoints is refused = absurd cc
-wants_memory said a kind.RepeatedPoint is refused = absurd cc
-wants_memory said a kind.EmptyBlock is refused = absurd cc
-wants_memory said a kind.NoBlock is refused = absurd cc
-wants_memory said a kind.TooManyLines is refused = absurd cc
-wants_memory said a kind.TooManyPoints is refused = absurd cc
-wants_memory said a kind.TooManyBlocks is refused = absurd cc
-wants_memory said a kind.TooMuchCost is refused = absurd cc
-wants_memory said a kind.NoJunction is refused = absurd cc
-wants_memory said a kind.EndRepeated is refused = absurd cc
+pub memory_wanted : {A : Type 0} (said : Result A DrawKind) (a : A) (why : DrawKind) → said ≡ Ok a
+    → IsSaid wants_memory said (Err why) → why ≡ kind.Memory
+memory_wanted said a kind.Memory is refused = refl
+memory_wanted said a kind.BadHeader is refused = absurd cc
+memory_wanted said a kind.BadWord is refused = absurd cc
+memory_wanted said a kind.BadNumber is refused = absurd cc
+memory_wanted said a kind.OutOfRange is refused = absurd cc
+memory_wanted said a kind.FewPoints is refused = absurd cc
+memory_wanted said a kind.RepeatedPoint is refused = absurd cc
+memory_wanted said a kind.EmptyBlock is refused = absurd cc
+memory_wanted said a kind.NoBlock is refused = absurd cc
+memory_wanted said a kind.TooManyLines is refused = absurd cc
+memory_wanted said a kind.TooManyPoints is refused = absurd cc
+memory_wanted said a kind.TooManyBlocks is refused = absurd cc
+memory_wanted said a kind.TooMuchCost is refused = absurd cc
+memory_wanted said a kind.NoJunction is refused = absurd cc
+memory_wanted said a kind.EndRepeated is refused = absurd cc
 
 -- a drawing of one block without a line has room for so many
 pub first_room : (count : ℕ) → count ≤ 930 → HasRoom first_block count

@@ -4,6 +4,7 @@ use Rattle.std.specs.Prelude.{nat_lt}
 use Rattle.cut_certificate.specs.declared.certificate.PieceCert.{PieceCert}
 use Rattle.certificate_text.specs.ReadCertificates.{cert_of}
 use Rattle.design_model.specs.Designs.{DesignValue}
+use Rattle.design_model.specs.WantOfMemory.{UnlessMemory}
 use Rattle.drawing_text.specs.declared.draw_fault.DrawFault.{DrawFault}
 use Rattle.drawing_text.specs.DrawingText.{drawing_as2, drawing_of}
 use Rattle.format_traits.specs.declared.fault.ReadFault.{ReadFault}
@@ -42,7 +43,7 @@ use Rattle.stitch_cli.specs.Rewrites.{rewrite_read}
 use Rattle.stitch_cli.specs.Routes.{IsRouted}
 use Rattle.stitch_cli.specs.Sewings.{sewing_above, sewing_read}
 use Rattle.stitch_cli.specs.RunSights.{IsQuietRun, Sights}
-use Rattle.stitch_cli.specs.Runs.{AsksFor, IsDecided, IsOrMemory}
+use Rattle.stitch_cli.specs.Runs.{AsksFor, IsDecided, IsOrMemory, wants_memory}
 use Rattle.stitch_cli.specs.Shows.{show_read}
 use Rattle.stitch_cli.proofs.ChangeLemmas.{rewritten_not_both}
 
@@ -247,24 +248,32 @@ came order before after s quiet (made product makes (but_report wrote broke tell
 came order before after s quiet (halted why halts out (inl (is, told))) = halt_came (plan_of order) before after s why quiet halts is
 came order before after s quiet (halted why halts out (inr (is, broke))) = absurd (no_rise _ _ quiet.err broke.rose)
 
+-- a status that is planned, and one for want of memory
+or_memory : (wanted : Bool) (fact : Type 0) → fact → UnlessMemory wanted fact
+or_memory true fact holds = tt
+or_memory false fact holds = holds
+
+memory_came : (s planned : Status) → s ≡ status.Memory → IsOrMemory s planned
+memory_came s planned is = rw is tt
+
 -- how a plan is decided
 done_or_memory : (plan : Plan) (files : Option Files) (s : Status) → IsExact plan → Came plan files s → IsSome files
     → IsAccepted plan files → IsOrMemory s status.Done
-done_or_memory plan files s exact (came_done other is) told accepted = inl is
+done_or_memory plan files s exact (came_done other is) told accepted = or_memory (wants_memory s) (s ≡ status.Done) is
 done_or_memory plan files s exact (came_refused why refused is) told accepted =
     absurd (not_refused plan files why exact told accepted refused)
 done_or_memory plan files s exact (came_missing name misses is) told accepted =
     absurd (not_accepted plan files name accepted misses.comes misses.lacks)
-done_or_memory plan files s exact (came_memory is) told accepted = inr is
+done_or_memory plan files s exact (came_memory is) told accepted = memory_came s status.Done is
 
 refused_or_memory : (plan : Plan) (files : Option Files) (s : Status) (why : RefusalValue) → IsExact plan → Came plan files s
     → IsSome files → Refuses plan files why → IsOrMemory s status.Refused
 refused_or_memory plan files s why exact (came_done accepted is) told refused =
     absurd (not_refused plan files why exact told accepted refused)
-refused_or_memory plan files s why exact (came_refused other others is) told refused = inl is
+refused_or_memory plan files s why exact (came_refused other others is) told refused = or_memory (wants_memory s) (s ≡ status.Refused) is
 refused_or_memory plan files s why exact (came_missing name misses is) told refused =
     absurd (not_both plan files why name refused misses.comes misses.lacks)
-refused_or_memory plan files s why exact (came_memory is) told refused = inr is
+refused_or_memory plan files s why exact (came_memory is) told refused = memory_came s status.Refused is
 
 fault_or_memory : (plan : Plan) (files : Option Files) (s : Status) (name : List ℕ) → Came plan files s → Misses plan files name
     → IsOrMemory s status.Fault
@@ -272,8 +281,8 @@ fault_or_memory plan files s name (came_done accepted is) misses =
     absurd (not_accepted plan files name accepted misses.comes misses.lacks)
 fault_or_memory plan files s name (came_refused why refused is) misses =
     absurd (not_both plan files why name refused misses.comes misses.lacks)
-fault_or_memory plan files s name (came_missing other others is) misses = inl is
-fault_or_memory plan files s name (came_memory is) misses = inr is
+fault_or_memory plan files s name (came_missing other others is) misses = or_memory (wants_memory s) (s ≡ status.Fault) is
+fault_or_memory plan files s name (came_memory is) misses = memory_came s status.Fault is
 
 -- nothing that is asked for is told so
 usage_told : (before after : Sights) (s : Status) → IsQuietRun before after → Ends None before after s → s ≡ status.Usage

@@ -1,5 +1,6 @@
 -- What each status of the program means.
-use Rattle.std.specs.Prelude.{◌≡◌, ℕ, ◌⊎◌, List, Option, Some, None, IsSome}
+use Rattle.std.specs.Prelude.{◌≡◌, ℕ, ◌⊎◌, Bool, true, false, List, Option, Some, None, IsSome}
+use Rattle.design_model.specs.WantOfMemory.{UnlessMemory}
 use Rattle.outside_io.specs.Files.{Files}
 use Rattle.program_texts.specs.declared.status.Status.{Status}
 use Rattle.program_texts.specs.declared.status.Status.TheVariants as status
@@ -90,9 +91,14 @@ KeepsOthers None before after = after.store.files ≡ before.store.files
 KeepsOthers (Some order) before after = ChangesAmong
     (outputs_of order) before.store.files after.store.files
 
+-- the status that wants memory
+abbrev pub wants_memory : Status → Bool
+wants_memory status.Memory = true
+wants_memory other = false
+
 -- what a status is, unless memory runs out
 abbrev pub IsOrMemory : Status → Status → Type 0
-IsOrMemory s planned = (s ≡ planned) ⊎ (s ≡ status.Memory)
+IsOrMemory s planned = UnlessMemory (wants_memory s) (s ≡ planned)
 
 -- the words and the files decide, where files are told: nothing asked for is `Usage`; an order
 -- that is accepted is done, one that is refused is refused, and one whose file is not there

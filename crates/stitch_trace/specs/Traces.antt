@@ -1,6 +1,6 @@
 -- The traced drawing of a design: its chains, in a block for each block that has a link, cut into
 -- sections. Blocks of a design count from 0.
-use Rattle.std.specs.Prelude.{◌≡◌, ℕ, ◌+◌, ◌==◌, Bool, List, [], ◌∷◌, ◌++◌, Option, Some, None, Result, Ok, Err}
+use Rattle.std.specs.Prelude.{◌≡◌, ℕ, ◌+◌, ◌==◌, Bool, true, false, List, [], ◌∷◌, ◌++◌, Option, Some, None, Result, Ok, Err}
 use Rattle.std.specs.List.{before_first}
 use Rattle.design_model.specs.declared.act.NumberedAct.{NumberedAct}
 use Rattle.design_model.specs.declared.point.Point.{Point}
@@ -98,10 +98,7 @@ abbrev pub IsRefusalOf : DrawKind → TraceFault → Type 0
 IsRefusalOf kind.Memory why = why ≡ fault.Memory
 IsRefusalOf other why = why ≡ fault.Limit other
 
--- what each answer means: it is what was said, or memory was wanted
-abbrev pub Traces : Result DrawingValue TraceFault → Result DrawingValue TraceFault → Type 0
-Traces said (Ok d) = said ≡ Ok d
-Traces said (Err fault.NoLinks) = said ≡ Err fault.NoLinks
-Traces said (Err (fault.LinkTooLong number)) = said ≡ Err (fault.LinkTooLong number)
-Traces said (Err (fault.Limit why)) = said ≡ Err (fault.Limit why)
-Traces said (Err fault.Memory) = Unit {0}
+-- the refusal that wants memory
+abbrev pub wants_memory : TraceFault → Bool
+wants_memory fault.Memory = true
+wants_memory other = false

@@ -1,8 +1,9 @@
 -- Tracing, move by move. No public clause cites this file.
 use Rattle.std.specs.Prelude.{◌≡◌, ℕ, ◌==◌, Bool, ◌||◌, max, List, [], ◌∷◌, ◌++◌, Result, Ok, Err, if◌then◌else◌}
 use Rattle.design_model.specs.declared.point.Point.{Point}
+use Rattle.design_model.specs.WantOfMemory.{IsSaid}
 use Rattle.line_graph.specs.declared.draw_kind.DrawKind.{DrawKind}
-use Rattle.line_graph.specs.Growing.{IsSaid}
+use Rattle.line_graph.specs.Growing.{wants_memory}
 use Rattle.stitch_trace.specs.declared.links.Link.{Link}
 use Rattle.stitch_trace.specs.declared.needle_moves.Move.{Move}
 use Rattle.stitch_trace.specs.declared.needle_moves.Move.TheVariants.{Stay, Gap, Sewn}
@@ -56,4 +57,4 @@ Measures longest step (Err why) = (rest : List Move)
 -- what each answer of a call means that makes a drawing grow
 abbrev pub Adds : {A T : Type 0} → Result A DrawKind → Result T DrawKind → A → Type 0
 Adds said (Ok _) new = said ≡ Ok new
-Adds said (Err why) new = IsSaid said why
+Adds said (Err why) new = IsSaid wants_memory said (Err why)

@@ -3,7 +3,8 @@ ghost use Rattle.std.specs.List.{position_or_len};
 ghost use Rattle.design_model.specs.Labels.{IsLabel};
 ghost use Rattle.design_model.specs.declared.point.Point.{Point as PointValue};
 ghost use Rattle.step_splitter.specs.declared.segment.TheConstants.{MAX_STEP};
-ghost use Rattle.line_graph.specs.Growing.{Answers, and_then, drawing_begun, finished};
+ghost use Rattle.design_model.specs.WantOfMemory.{IsSaid};
+ghost use Rattle.line_graph.specs.Growing.{and_then, drawing_begun, finished, wants_memory};
 ghost use Rattle.line_graph.specs.JoinedDrawings.{is_joined, joined_drawing};
 ghost use Rattle.line_graph.specs.WalkEnds.{HasNoEnds};
 ghost use Rattle.stitch_trace.specs.declared.strands.Strand.{Strand as StrandValue};
@@ -25,7 +26,7 @@ pub fn drawing_of(
     requires label { IsLabel label.now }
     requires low { 1 ≤ step }
     requires high { step ≤ MAX_STEP }
-    ensures answer { Answers (drawing_through label.now step strands.now) result }
+    ensures answer { IsSaid wants_memory (drawing_through label.now step strands.now) result }
     ensures joined { IfOk result (λ whole. is_joined whole ≡ true) }
     ensures unended { IfOk result HasNoEnds }
 {
@@ -64,7 +65,7 @@ fn add_chains(alloc: Global, maker: &mut DrawingMaker, chains: &Chains) -> Resul
 }
 
 fn copied(alloc: Global, points: &[Point]) -> Result<Points, DrawKind>
-    ensures { Answers (Ok points.now) result }
+    ensures { IsSaid wants_memory (Ok points.now) result }
 {
     let mut copy = Points::new(alloc);
     copy.append(points)?;

@@ -1,10 +1,11 @@
 ghost use Rattle.std.specs.Prelude.{◌≡◌, ◌≤◌, true, IfOk};
 ghost use Rattle.design_model.specs.declared.act.NumberedAct.{NumberedAct as NumberedActValue};
+ghost use Rattle.design_model.specs.WantOfMemory.{IsSaid};
 ghost use Rattle.line_graph.specs.JoinedDrawings.{is_joined};
 ghost use Rattle.line_graph.specs.WalkEnds.{HasNoEnds};
 ghost use Rattle.step_splitter.specs.declared.segment.TheConstants.{MAX_STEP as max_step};
 ghost use Rattle.stitch_trace.specs.Links.{moves_along};
-ghost use Rattle.stitch_trace.specs.Traces.{Traces, step_by, traced};
+ghost use Rattle.stitch_trace.specs.Traces.{step_by, traced, wants_memory};
 ghost use Rattle.stitch_trace.specs.Tracing.{Measures, measured_on};
 
 use crate::drawing_of_strands::drawing_of;
@@ -20,7 +21,7 @@ use std::alloc::Global;
 /// would have too many blocks, lines or points, at the first chain that passes one of these limits in this
 /// order, and then where the sections would.
 pub fn trace(alloc: Global, d: &Design) -> Result<Drawing, TraceFault>
-    ensures answer { Traces (traced d.now) result }
+    ensures answer { IsSaid wants_memory (traced d.now) result }
     ensures joined { IfOk result (λ drawing. is_joined drawing ≡ true) }
     ensures unended { IfOk result HasNoEnds }
 {
