@@ -4,20 +4,7 @@ use Rattle.std.specs.Prelude.{codes}
 use Rattle.design_edits.specs.declared.axis.Axis.TheVariants.{X, Y}
 use Rattle.command_words.specs.Changes.{cut, mirror, shift, split, thread, turn}
 use Rattle.command_words.specs.Requests.{asked_of, check, convert, double, edit, hoop, migrate, route, sample, show, trace}
-use Rattle.command_words.specs.Words.{edit_spelled, edits_spelled, is_name, refits, refits_spelled, sample_of, side_of}
-
--- a name has from 1 to 4,096 bytes
-pub known_names : is_name (codes "a.dst") ≡ true
-known_names = refl
-
-pub known_empty_name : is_name [] ≡ false
-known_empty_name = refl
-
-pub known_longest_name : is_name (replicate 4096 97) ≡ true
-known_longest_name = refl
-
-pub known_longer_name : is_name (replicate 4097 97) ≡ false
-known_longer_name = refl
+use Rattle.command_words.specs.Words.{edit_spelled, edits_spelled, refits, refits_spelled, sample_of, side_of}
 
 -- a shift by two numbers from -60,000 to 60,000
 pub known_shift : edit_spelled (codes "shift=12,-7") ≡ Some (shift (pos 12) (negsuc 6))

@@ -1,7 +1,8 @@
 -- What the words after the program's name ask for. A name is the bytes of a word.
 use Rattle.std.specs.Prelude.{ℕ, Bool, ◌&&◌, List, [], ◌∷◌, Option, Some, None, bytes_eq, codes, if◌then◌else◌}
 use Rattle.command_words.specs.Changes.{Change}
-use Rattle.command_words.specs.Words.{edits_spelled, is_name, refits_spelled, sample_of, side_of}
+use Rattle.outside_io.specs.Files.{is_name}
+use Rattle.command_words.specs.Words.{edits_spelled, refits_spelled, sample_of, side_of}
 
 -- a request
 pub data Asked : Type 0 where

@@ -1,17 +1,12 @@
 -- Words that spell names, numbers and changes.
-use Rattle.std.specs.Prelude.{ℕ, ℤ, pos, negsuc, unsigned_abs, Bool, true, false, ◌&&◌, ◌||◌, nat_le, List, [], ◌∷◌, ◌++◌, length, Option, Some, None, bytes_eq, codes, ◌==◌, if◌then◌else◌}
+use Rattle.std.specs.Prelude.{ℕ, ℤ, pos, negsuc, unsigned_abs, Bool, true, false, ◌&&◌, ◌||◌, nat_le, List, [], ◌∷◌, ◌++◌, Option, Some, None, bytes_eq, codes, ◌==◌, if◌then◌else◌}
 use Rattle.design_edits.specs.declared.axis.Axis.TheVariants.{X, Y}
 use Rattle.design_edits.specs.declared.motion.TheConstants.{MAX_SHIFT}
 use Rattle.design_model.specs.declared.whole_number.Whole.{Whole}
 use Rattle.design_model.specs.declared.whole_number.Whole.TheVariants as whole
 use Rattle.design_model.specs.WholeNumbers.{whole_of}
-use Rattle.outside_io.specs.declared.limits.TheConstants.{MAX_NAME}
 use Rattle.command_words.specs.declared.request_words.TheConstants.{MAX_SAMPLE, MAX_SIDE}
 use Rattle.command_words.specs.Changes.{Change, cut, mirror, shift, split, thread, turn}
-
--- the word may name a file
-abbrev pub is_name : List ℕ → Bool
-is_name word = nat_le 1 (length word) && nat_le (length word) MAX_NAME
 
 -- the byte between two numbers
 abbrev pub comma : ℕ

@@ -1,12 +1,12 @@
 ghost use Rattle.std.specs.Prelude.{◌≡◌, IfSome, codes, is_some, map, option_map, string_bytes};
 ghost use Rattle.command_words.specs.Requests.{asked_as, asked_check, asked_convert, asked_double, asked_edit, asked_hoop, asked_migrate, asked_of, asked_route, asked_sample, asked_show, asked_trace, hoop_with, sample_with};
 ghost use Rattle.command_words.specs.SoundRequests.{IsSound, asked_by};
-ghost use Rattle.command_words.specs.Words.{are_both as are_both_words, edits_spelled, is_name as word_is_name, refits_spelled, sample_of, side_of};
+ghost use Rattle.command_words.specs.Words.{are_both as are_both_words, edits_spelled, refits_spelled, sample_of, side_of};
 
 use crate::edit_words::edit_spelled;
 use crate::number_words::bounded;
 use crate::requests::{CheckNames, Names, Request, RouteNames};
-use outside_io::MAX_NAME;
+use outside_io::is_name;
 
 /// The greatest side of a hoop, in tenths of a millimetre.
 pub const MAX_SIDE: u32 = 60_000;
@@ -313,10 +313,4 @@ fn double_request(words: &[String]) -> Option<Request<'_>>
     } else {
         None
     }
-}
-
-fn is_name(word: &str) -> bool
-    ensures { result ≡ word_is_name word.now }
-{
-    1 <= word.len() && word.len() <= MAX_NAME
 }

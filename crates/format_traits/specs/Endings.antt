@@ -1,5 +1,5 @@
 -- Which format a file name asks for: by the part after its last dot, in small letters.
-use Rattle.std.specs.Prelude.{ℕ, ◌+◌, List, [], ◌∷◌, Option, Some, None, bytes_eq, ◌==◌, if◌then◌else◌}
+use Rattle.std.specs.Prelude.{ℕ, ◌+◌, List, [], ◌∷◌, Option, Some, None, bytes_eq, ◌==◌, if◌then◌else◌, option_and_then, slice_get}
 use Rattle.std.specs.Str.{str_to_ascii_lowercase}
 use Rattle.format_traits.specs.Meanings.{Meaning}
 
@@ -26,3 +26,7 @@ found_for meanings None = None
 
 abbrev pub found_in : List Meaning → List ℕ → Option ℕ
 found_in meanings name = found_for meanings (ending_in name)
+
+-- the format whose ending a name has
+abbrev pub format_of : List Meaning → List ℕ → Option Meaning
+format_of formats name = option_and_then (λ place. slice_get formats place) (found_in formats name)

@@ -1,5 +1,5 @@
 -- Files: the bytes under each name. A store tells its files, or leaves them untold.
-use Rattle.std.specs.Prelude.{◌≡◌, ◌≢◌, ℕ, ◌≤◌, List, ◌++◌, length, Option, Some, None, IsSome}
+use Rattle.std.specs.Prelude.{◌≡◌, ◌≢◌, ℕ, ◌≤◌, Bool, ◌&&◌, nat_le, List, ◌++◌, length, Option, Some, None, IsSome}
 use Rattle.outside_io.specs.declared.limits.TheConstants.{MAX_NAME}
 
 -- the content of the file of each name, where there is one
@@ -10,6 +10,10 @@ Files = List ℕ → Option (List ℕ)
 pub record IsName (name : List ℕ) : Type 0 where
   pub some : 1 ≤ length name
   pub short : length name ≤ MAX_NAME
+
+-- the same as a test
+abbrev pub is_name : List ℕ → Bool
+is_name name = nat_le 1 (length name) && nat_le (length name) MAX_NAME
 
 -- the fact holds of the files, where they are told
 abbrev pub WhereTold : Option Files → (Files → Type 0) → Type 0

@@ -1,11 +1,13 @@
 //! The outside of the program: stores of named files and sinks of bytes as traits, in memory and
-//! real, and the reading of a whole file.
+//! real, and the reading and writing of a whole file.
 #![tactic(auto)]
 
+mod arguments;
 mod blame;
 mod dir_store;
 mod entries;
 mod entry;
+mod file_names;
 mod limits;
 mod links;
 mod mem_sink;
@@ -20,12 +22,14 @@ mod turns;
 mod whole_files;
 mod writing;
 
+pub use arguments::program_words;
 pub use blame::Kind;
 pub use dir_store::DirStore;
+pub use file_names::is_name;
 pub use limits::{MAX_FILE, MAX_NAME};
 pub use mem_sink::MemSink;
 pub use mem_store::MemStore;
 pub use sink::Sink;
 pub use std_sink::StdSink;
 pub use store::{Failed, ReadStop, Store};
-pub use whole_files::{GetFault, READ_SIZE, read_next, read_whole};
+pub use whole_files::{GetFault, READ_SIZE, read_next, read_whole, write_whole};

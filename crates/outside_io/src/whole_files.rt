@@ -1,12 +1,12 @@
-ghost use Rattle.std.specs.Prelude.{◌≡◌, ◌<◌, ◌≤◌, length};
+ghost use Rattle.std.specs.Prelude.{◌≡◌, ◌<◌, ◌≤◌, OnOk, length};
 ghost use Rattle.design_model.specs.WantOfMemory.{IsSaid};
-ghost use Rattle.outside_io.specs.Causes.{ReadsWhole, wants_memory, whole_answer};
+ghost use Rattle.outside_io.specs.Causes.{ReadsWhole, WriteCause, wants_memory, whole_answer};
 ghost use Rattle.outside_io.specs.Counts.{IsQuiet};
 ghost use Rattle.outside_io.specs.FileParts.{ReadsNext};
-ghost use Rattle.outside_io.specs.Files.{IsName, WhereTold};
+ghost use Rattle.outside_io.specs.Files.{ChangesOnly, HoldsNow, IsName, WhereTold};
 
 use crate::limits::MAX_FILE;
-use crate::store::{ReadStop, Store};
+use crate::store::{Failed, ReadStop, Store};
 use design_model::{Bytes, Memory};
 use std::alloc::Global;
 
@@ -103,4 +103,16 @@ pub fn read_next<S: Store>(
         return Err(GetFault::TooLong);
     }
     Ok(count)
+}
+
+/// Writes a whole file: makes it empty, and adds all the bytes at once.
+pub fn write_whole<S: Store>(store: &mut S, name: &str, bytes: &[u8]) -> Result<(), Failed>
+    requires { IsName name.now }
+    ensures holds { OnOk result (HoldsNow (S.sight store.new).files name.now bytes.now) }
+    ensures others { ChangesOnly (S.sight store.old).files (S.sight store.new).files name.now }
+    ensures cause { WriteCause name.now (S.sight store.old) (S.sight store.new) result }
+{
+    store.create(name)?;
+    store.append(name, bytes)?;
+    Ok(())
 }

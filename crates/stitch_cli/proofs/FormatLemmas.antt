@@ -9,7 +9,8 @@ use Rattle.stitch_cli.specs.declared.halt.Halt.{Halt}
 use Rattle.stitch_cli.specs.declared.product.Product.{Product}
 use Rattle.stitch_cli.specs.Endings.{Answers, Prepares}
 use Rattle.stitch_cli.specs.OrderNames.{RewriteOrder}
-use Rattle.stitch_cli.specs.Orders.{format_of, rewriting_by}
+use Rattle.format_traits.specs.Endings.{format_of}
+use Rattle.stitch_cli.specs.Orders.{rewriting_by}
 use Rattle.stitch_cli.specs.Rewrites.{rewrite_plan}
 
 -- what stands at a place of a list

@@ -1,20 +1,15 @@
 -- Requests that are complete: the formats that they need are there, and their names differ.
-use Rattle.std.specs.Prelude.{ℕ, Bool, ◌&&◌, not, List, [], ◌∷◌, Option, Some, None, bytes_eq, slice_get, if◌then◌else◌}
-use Rattle.std.specs.Option.{option_and_then}
+use Rattle.std.specs.Prelude.{ℕ, Bool, ◌&&◌, not, List, [], ◌∷◌, Option, Some, None, bytes_eq, if◌then◌else◌}
 use Rattle.command_words.specs.Changes.{Change}
 use Rattle.command_words.specs.Requests.{Asked, asked_of, check, convert, double, edit, hoop, migrate, route, sample, show, trace}
 use Rattle.command_words.specs.Words.{refits}
 use Rattle.format_traits.specs.Meanings.{Meaning}
-use Rattle.format_traits.specs.Endings.{found_in}
+use Rattle.format_traits.specs.Endings.{format_of}
 use Rattle.stitch_cli.specs.OrderNames.{RouteOrder, CheckOrder, SampleOrder, MigrateOrder, ShowOrder, RewriteOrder, HoopOrder, TraceOrder, sample_order, migrate_order, trace_order}
 
 -- no two of the three names are equal
 abbrev pub are_apart : List ℕ → List ℕ → List ℕ → Bool
 are_apart a b c = not (bytes_eq a b) && (not (bytes_eq a c) && not (bytes_eq b c))
-
--- what the format of that name means, where it has one
-abbrev pub format_of : List Meaning → List ℕ → Option Meaning
-format_of formats name = option_and_then (λ place. slice_get formats place) (found_in formats name)
 
 -- a complete request: the formats that it needs are there, and its names differ
 pub data Order : Type 0 where

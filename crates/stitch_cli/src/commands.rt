@@ -3,7 +3,8 @@ ghost use Rattle.std.specs.Bool.{OnTrue};
 ghost use Rattle.command_words.specs.SoundRequests.{AreCheckNames, AreNames, BothAreNames};
 ghost use Rattle.outside_io.specs.Files.{IsName};
 ghost use Rattle.stitch_cli.specs.Endings.{Answers};
-ghost use Rattle.stitch_cli.specs.Orders.{are_apart as names_are_apart, checking_by, doubling_to, format_of, hooping_by, migrating_to, order_of, rewriting_by, routing_to, showing_by, tracing_to};
+ghost use Rattle.format_traits.specs.Endings.{format_of};
+ghost use Rattle.stitch_cli.specs.Orders.{are_apart as names_are_apart, checking_by, doubling_to, hooping_by, migrating_to, order_of, rewriting_by, routing_to, showing_by, tracing_to};
 ghost use Rattle.design_changes.specs.Changings.{AreSound, changes_by};
 
 use crate::checking::check;

@@ -1,12 +1,10 @@
 ghost use Rattle.std.specs.Prelude.{IfErr, OnOk};
-ghost use Rattle.outside_io.specs.Causes.{WriteCause};
-ghost use Rattle.outside_io.specs.Files.{ChangesOnly, HoldsNow, IsName};
 ghost use Rattle.stitch_cli.specs.Endings.{CanBeDelivered, Delivers, Prints};
 ghost use Rattle.stitch_cli.specs.Products.{AreApart, AreNamed, Wrote, WroteUpTo, all_written, product_of};
 ghost use Rattle.stitch_cli.specs.RunSights.{seen};
 
 use crate::product::{Output, Product};
-use outside_io::{Failed, Sink, Store};
+use outside_io::{Failed, Sink, Store, write_whole};
 use program_texts::{Status, put_one, tell_unprinted, tell_unwritten};
 
 /// Writes the outputs of a product in order, and then puts its report. What fails has its line on `err`.
@@ -47,22 +45,10 @@ fn write_all<'a, S: Store>(store: &mut S, outputs: &[Output<'a>]) -> Result<(), 
         (S.sight store.old) (S.sight store.new)) }
 {
     for output in outputs {
-        match write_file(store, output.name, output.content.as_slice()) {
+        match write_whole(store, output.name, output.content.as_slice()) {
             Ok(()) => {}
             Err(Failed) => return Err(output.name),
         }
     }
-    Ok(())
-}
-
-/// Writes a whole file: makes it empty, and adds all the bytes at once.
-fn write_file<S: Store>(store: &mut S, name: &str, bytes: &[u8]) -> Result<(), Failed>
-    requires { IsName name.now }
-    ensures holds { OnOk result (HoldsNow (S.sight store.new).files name.now bytes.now) }
-    ensures others { ChangesOnly (S.sight store.old).files (S.sight store.new).files name.now }
-    ensures cause { WriteCause name.now (S.sight store.old) (S.sight store.new) result }
-{
-    store.create(name)?;
-    store.append(name, bytes)?;
     Ok(())
 }

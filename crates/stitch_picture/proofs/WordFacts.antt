@@ -3,12 +3,8 @@ use Rattle.std.proofs.Common.{◌≡◌, ℕ, List, true, false, [], ◌∷◌, 
 use Rattle.format_traits.specs.Meanings.{Meaning}
 use Rattle.stitch_picture.specs.declared.finish.Halt.TheVariants as halt
 use Rattle.stitch_picture.specs.declared.finish.Status.TheVariants as status
-use Rattle.stitch_picture.specs.Orders.{is_name, is_svg, names_of, order_of}
+use Rattle.stitch_picture.specs.Orders.{is_svg, names_of, order_of}
 use Rattle.stitch_picture.specs.Runs.{status_of}
-
--- a name has from 1 to 4,096 bytes
-pub known_names : map is_name (codes "a" ∷ [] ∷ replicate 4096 97 ∷ replicate 4097 97 ∷ []) ≡ true ∷ false ∷ true ∷ false ∷ []
-known_names = refl
 
 -- a picture's name ends in `.svg`, in small letters
 pub known_pictures : map is_svg (codes "a.svg" ∷ codes "a.SVG" ∷ codes "svg" ∷ codes "a.svg.pes" ∷ codes "a.svgz" ∷ [])

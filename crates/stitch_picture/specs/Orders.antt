@@ -1,13 +1,9 @@
 -- What the words after the program's name ask for.
-use Rattle.std.specs.Prelude.{ℕ, ◌-◌, Bool, ◌&&◌, not, List, [], ◌∷◌, Option, Some, None, bytes_eq, codes, drop, length, nat_le, option_and_then, slice_get, if◌then◌else◌}
-use Rattle.format_traits.specs.Endings.{found_in}
+use Rattle.std.specs.Prelude.{ℕ, ◌-◌, Bool, ◌&&◌, not, List, [], ◌∷◌, Option, Some, None, bytes_eq, codes, drop, length, if◌then◌else◌}
+use Rattle.format_traits.specs.Endings.{format_of}
 use Rattle.format_traits.specs.Meanings.{Meaning}
-use Rattle.outside_io.specs.declared.limits.TheConstants.{MAX_NAME}
+use Rattle.outside_io.specs.Files.{is_name}
 use Rattle.stitch_picture.specs.declared.names.Names.{Names}
-
--- the bytes may stand as a file's name
-abbrev pub is_name : List ℕ → Bool
-is_name word = nat_le 1 (length word) && nat_le (length word) MAX_NAME
 
 -- the name ends as a picture's does
 abbrev pub is_svg : List ℕ → Bool
@@ -31,10 +27,6 @@ names_by input output =
 abbrev pub names_of : List (List ℕ) → Option NamesValue
 names_of (input ∷ output ∷ []) = names_by input output
 names_of _ = None
-
--- the format whose ending a name has
-abbrev pub format_of : List Meaning → List ℕ → Option Meaning
-format_of formats name = option_and_then (λ place. slice_get formats place) (found_in formats name)
 
 -- two names, and the format of the first one
 pub record Order : Type 0 where

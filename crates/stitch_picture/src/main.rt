@@ -12,41 +12,26 @@ use crate::running::run;
 use dst_codec::Dst;
 use exp_codec::Exp;
 use format_traits::Format;
-use outside_io::{DirStore, StdSink};
+use outside_io::{DirStore, StdSink, program_words};
 use pes_codec::{Pec, Pes};
 use std::alloc::AllocError;
 use std::process::ExitCode;
-use std::{env, io};
 use stitch_text::List;
 
 fn main(rt: HostRuntime) -> ExitCode {
     ExitCode::from(status_of(&rt) as u8)
 }
 
-/// Words that are no text ask for nothing, as no words do.
 fn status_of(rt: &HostRuntime) -> Status {
-    let words = match words(rt) {
-        Ok(words) => words,
-        Err(error) if error.kind() == io::ErrorKind::OutOfMemory => return tell_memory(rt),
-        Err(_) => Vec::new(rt.alloc()),
-    };
-    match start(rt, &words) {
+    match start(rt) {
         Ok(status) => status,
         Err(_) => tell_memory(rt),
     }
 }
 
-/// The words after the program's name.
-fn words(rt: &HostRuntime) -> io::Result<Vec<String>> {
-    let mut words = Vec::new(rt.alloc());
-    for word in env::args(rt)?.skip(1) {
-        words.push(word)?;
-    }
-    Ok(words)
-}
-
-fn start(rt: &HostRuntime, words: &[String]) -> Result<Status, AllocError> {
+fn start(rt: &HostRuntime) -> Result<Status, AllocError> {
     let alloc = rt.alloc();
+    let words = program_words(rt)?;
     let mut formats: Vec<Box<dyn Format>> = Vec::new(alloc);
     formats.push(Box::new(alloc, Dst::new(alloc))?)?;
     formats.push(Box::new(alloc, Exp::new(alloc))?)?;
@@ -55,7 +40,7 @@ fn start(rt: &HostRuntime, words: &[String]) -> Result<Status, AllocError> {
     formats.push(Box::new(alloc, List::new(alloc))?)?;
     let mut store = DirStore::new(alloc, rt);
     let mut err = StdSink::new(rt.stderr());
-    Ok(run(alloc, words, &mut formats, &mut store, &mut err))
+    Ok(run(alloc, &words, &mut formats, &mut store, &mut err))
 }
 
 fn tell_memory(rt: &HostRuntime) -> Status {

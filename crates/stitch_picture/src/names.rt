@@ -1,8 +1,8 @@
 ghost use Rattle.std.specs.Prelude.{◌≡◌, IfSome, map, option_map, string_bytes};
 ghost use Rattle.outside_io.specs.Files.{IsName};
-ghost use Rattle.stitch_picture.specs.Orders.{is_name as is_a_name, is_svg as is_an_svg, names_by, names_of, names_value};
+ghost use Rattle.stitch_picture.specs.Orders.{is_svg as is_an_svg, names_by, names_of, names_value};
 
-use outside_io::MAX_NAME;
+use outside_io::is_name;
 
 /// The input file and the picture's file.
 #[derive(Clone, Copy, Debug)]
@@ -33,12 +33,6 @@ fn names_from<'a>(input: &'a str, output: &'a str) -> Option<Names<'a>>
     } else {
         None
     }
-}
-
-fn is_name(word: &str) -> bool
-    ensures { result ≡ is_a_name word.now }
-{
-    1 <= word.len() && word.len() <= MAX_NAME
 }
 
 fn is_svg(word: &str) -> bool

@@ -1,5 +1,5 @@
-ghost use Rattle.std.specs.Prelude.{◌≡◌, OnOk, map, string_bytes};
-ghost use Rattle.outside_io.specs.Files.{ChangesOnly, HoldsNow, IsName};
+ghost use Rattle.std.specs.Prelude.{◌≡◌, map, string_bytes};
+ghost use Rattle.outside_io.specs.Files.{IsName};
 ghost use Rattle.stitch_picture.specs.Orders.{order_by, order_of};
 ghost use Rattle.stitch_picture.specs.Runs.{Ends, OrderEnds};
 ghost use Rattle.stitch_picture.specs.declared.finish.Status.TheVariants as status;
@@ -8,7 +8,7 @@ use crate::finish::{Status, tell, tell_halt, tell_usage};
 use crate::names::{Names, names_in};
 use crate::reading::picture_in;
 use format_traits::{Format, find};
-use outside_io::{Failed, Sink, Store};
+use outside_io::{Failed, Sink, Store, write_whole};
 use std::alloc::Global;
 
 /// Writes the picture of the design that the first word's file holds to the file of the second word. Where
@@ -68,7 +68,7 @@ fn run_with<S: Store, E: Sink>(
         (S.sight store.old).files (S.sight store.new).files result }
 {
     match picture_in(alloc, input, format, store) {
-        Ok(text) => match write_file(store, output, text.as_slice()) {
+        Ok(text) => match write_whole(store, output, text.as_slice()) {
             Ok(()) => Status::Done,
             Err(Failed) => tell_fault(err, output),
         },
@@ -80,15 +80,4 @@ fn tell_fault<E: Sink>(err: &mut E, output: &str) -> Status
     ensures { result ≡ status.Fault }
 {
     tell(err, Status::Fault, b"cannot write ", output)
-}
-
-/// Writes a whole file: makes it empty, and adds all the bytes at once.
-fn write_file<S: Store>(store: &mut S, name: &str, bytes: &[u8]) -> Result<(), Failed>
-    requires { IsName name.now }
-    ensures holds { OnOk result (HoldsNow (S.sight store.new).files name.now bytes.now) }
-    ensures others { ChangesOnly (S.sight store.old).files (S.sight store.new).files name.now }
-{
-    store.create(name)?;
-    store.append(name, bytes)?;
-    Ok(())
 }

@@ -1,0 +1,11 @@
+ghost use Rattle.std.specs.Prelude.{◌≡◌};
+ghost use Rattle.outside_io.specs.Files.{is_name as may_be_name};
+
+use crate::limits::MAX_NAME;
+
+/// Says whether a word may stand as a file's name.
+pub fn is_name(word: &str) -> bool
+    ensures { result ≡ may_be_name word.now }
+{
+    1 <= word.len() && word.len() <= MAX_NAME
+}

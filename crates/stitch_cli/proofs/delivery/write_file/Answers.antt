@@ -1,5 +1,0 @@
-use Rattle.std.proofs.Common.{[]}
-use Rattle.stitch_cli.proofs.delivery.write_file.Goals as goal
-
-pub returns-clause-holds : goal.returns-clause-holds
-returns-clause-holds g c = c.in_ok-append.ensures.added [] c.in_ok-create.ensures.empty
