@@ -4,7 +4,8 @@ use Rattle.std.specs.Fmt.{digits}
 use Rattle.std.specs.List.{flat_map}
 use Rattle.cut_certificate.specs.declared.certificate.PieceCert.{PieceCert}
 use Rattle.certificate_text.specs.declared.reading.TheConstants.{MAX_CERT}
-use Rattle.certificate_text.specs.CertificateLines.{number_in, pass_in, words_in}
+use Rattle.certificate_text.specs.CertificateLines.{number_in, pass_in}
+use Rattle.text_parts.specs.Parts.{words_in}
 use Rattle.certificate_text.specs.CertificateTexts.{certificate_text}
 use Rattle.certificate_text.specs.ReadCertificates.{cert_of, first_lines}
 

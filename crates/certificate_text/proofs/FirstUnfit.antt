@@ -11,7 +11,7 @@ use Rattle.certificate_text.specs.declared.draft.Draft.{Draft}
 use Rattle.certificate_text.specs.declared.draft.Draft.TheVariants as draft
 use Rattle.certificate_text.specs.declared.lines.CertLine.{CertLine}
 use Rattle.certificate_text.specs.declared.lines.CertLine.TheVariants as line
-use Rattle.certificate_text.specs.CertificateLines.{parted}
+use Rattle.text_parts.specs.Parts.{parted}
 use Rattle.certificate_text.specs.ReadCertificates.{Begins, IsFirstUnfit, at_end, cert_of, drafted, first_lines, judged, said_after}
 use Rattle.certificate_text.proofs.ItemWords.{HasPass}
 use Rattle.certificate_text.proofs.LineTexts.{HasLine, line_bytes, some_item}

@@ -8,7 +8,8 @@ use Rattle.line_graph.specs.declared.pass.Pass.{Pass}
 use Rattle.certificate_text.specs.declared.lines.CertLine.{CertLine}
 use Rattle.certificate_text.specs.declared.lines.CertLine.TheVariants as line
 use Rattle.cut_certificate.specs.declared.cut.Cut.{Cut}
-use Rattle.certificate_text.specs.CertificateLines.{cut_in, line_said, members_after, number_above, number_in, only_number, passes_in, walk_in, words_in, words_said}
+use Rattle.certificate_text.specs.CertificateLines.{cut_in, line_said, members_after, number_above, number_in, only_number, passes_in, walk_in, words_said}
+use Rattle.text_parts.specs.Parts.{words_in}
 use Rattle.certificate_text.specs.CertificateTexts.{member_text, passes_text}
 use Rattle.cut_certificate.specs.Packings.{IsPlainCut}
 use Rattle.certificate_text.proofs.ItemWords.{HasMember, HasPass, members_are, members_spaced, passes_are, passes_spaced}

@@ -18,10 +18,11 @@ use Rattle.certificate_text.specs.declared.draft.Draft.TheVariants as draft
 use Rattle.certificate_text.specs.declared.lines.CertLine.{CertLine}
 use Rattle.certificate_text.specs.declared.lines.CertLine.TheVariants as line
 use Rattle.cut_certificate.specs.declared.cut.Cut.{Cut}
-use Rattle.certificate_text.specs.CertificateLines.{cut_in, line_said, parted, walk_in, words_in, words_said}
+use Rattle.certificate_text.specs.CertificateLines.{cut_in, line_said, walk_in, words_said}
+use Rattle.text_parts.specs.Parts.{parted, words_in}
 use Rattle.cut_certificate.specs.Certificates.{CanBeSpelled}
 use Rattle.certificate_text.specs.CertificateTexts.{certificate_text, cut_text, member_text, passes_text, piece_text}
-use Rattle.cut_certificate.specs.TextLines.{line_end}
+use Rattle.design_model.specs.TextLines.{line_end}
 use Rattle.cut_certificate.specs.Packings.{IsPlainCut}
 use Rattle.certificate_text.specs.ReadCertificates.{HasSmallNumbers, cert_of, drafted, judged, said_after, with_cut}
 use Rattle.certificate_text.proofs.ItemWords.{HasMember, HasPass, member_word, members_read, members_spaced, passes_read, passes_spaced, reach_all}

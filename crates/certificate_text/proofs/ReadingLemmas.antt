@@ -4,7 +4,7 @@ use Rattle.std.specs.Option.{ok_or}
 use Rattle.line_graph.specs.Growing.{and_then}
 use Rattle.cut_certificate.specs.declared.certificate.PieceCert.{PieceCert}
 use Rattle.certificate_text.specs.declared.draft.Draft.{Draft}
-use Rattle.certificate_text.specs.CertificateLines.{parted}
+use Rattle.text_parts.specs.Parts.{parted}
 use Rattle.certificate_text.specs.ReadCertificates.{cert_of, drafted, said_after}
 use Rattle.certificate_text.proofs.PartLemmas.{some_part}
 

@@ -7,7 +7,7 @@ use Rattle.line_graph.specs.declared.pass.Pass.{Pass}
 use Rattle.cut_certificate.specs.declared.certificate.PieceCert.{PieceCert}
 use Rattle.cut_certificate.specs.declared.cut.Cut.{Cut}
 use Rattle.certificate_text.specs.CertificateTexts.{certificate_text, cut_text, member_text, pass_text, passes_text, piece_text}
-use Rattle.cut_certificate.specs.TextLines.{line_end}
+use Rattle.design_model.specs.TextLines.{line_end}
 use Rattle.certificate_text.specs.ReadCertificates.{AreFew, HasFewItems}
 use Rattle.certificate_text.proofs.NumberWords.{pass_spaced}
 

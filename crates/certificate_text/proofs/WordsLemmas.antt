@@ -1,6 +1,8 @@
 -- Words of a line, taken one after another.
-use Rattle.std.proofs.Common.{◌≡◌, ◌≢◌, ℕ, List, [], ◌∷◌, ◌++◌, Option, None, option_map, ap, refl, ◌∙◌}
-use Rattle.certificate_text.specs.CertificateLines.{members_after, only_number, passes_in, walk_in, words_in}
+use Rattle.std.proofs.Common.{◌≡◌, ◌≢◌, ℕ, ◌-◌, List, [], ◌∷◌, ◌++◌, Option, None, Some, option_map, append_assoc, ap, refl, sym, ◌∙◌}
+use Rattle.std.specs.Option.{option_and_then}
+use Rattle.certificate_text.specs.CertificateLines.{members_after, number_above, only_number, passes_in, walk_in}
+use Rattle.text_parts.specs.Parts.{words_in}
 use Rattle.certificate_text.proofs.PartLemmas.{some_part}
 use Rattle.line_graph.specs.declared.pass.Pass.{Pass}
 
@@ -33,3 +35,21 @@ pub record PassesOn (words rest : List ℕ) (walk : List Pass) : Type 0 where
 -- the words so far spell these members, and the rest goes on behind that number
 pub record MembersOn (words rest : List ℕ) (before : ℕ) (members : List ℕ) : Type 0 where
   pub whole : members_after 0 (words_in words) ≡ behind members (members_after before (words_in rest))
+
+-- a member is behind those so far, and others behind it
+one_behind : (members : List ℕ) (n : ℕ) (rest : Option (List ℕ))
+    → behind members (option_map (λ more. n ∷ more) rest) ≡ behind (members ++ n ∷ []) rest
+one_behind members n None = refl
+one_behind members n (Some more) = ap Some (sym (append_assoc members (n ∷ []) more))
+
+-- so the word that spells it goes over to the members
+pub one_member : (words rest word after : List ℕ) (before number : ℕ) (members more : List ℕ) → MembersOn words rest before members
+    → words_in rest ≡ word ∷ words_in after → Some number ≡ number_above before word → more ≡ members ++ (number - 1) ∷ []
+    → MembersOn words after number more
+one_member words rest word after before number members more on are is put = record {
+  whole = on.whole ∙ ap (λ ws. behind members (members_after before ws)) are
+      ∙ ap (λ found. behind members (option_and_then
+      (λ n. option_map (λ ms. (n - 1) ∷ ms) (members_after n (words_in after))) found)) (sym is)
+      ∙ one_behind members (number - 1) (members_after number (words_in after))
+      ∙ ap (λ ms. behind ms (members_after number (words_in after))) (sym put);
+}

@@ -3,7 +3,6 @@
 -- piece have numbers from 1.
 use Rattle.std.specs.Prelude.{ℕ, ◌-◌, ◌==◌, ◌^◌, ◌&&◌, Bool, true, false, not, nat_lt, List, [], ◌∷◌, Option, Some, None, bytes_eq, codes, option_map, if◌then◌else◌}
 use Rattle.std.specs.Char.{is_ascii_digit}
-use Rattle.std.specs.List.{slice_split}
 use Rattle.std.specs.Option.{option_and_then}
 use Rattle.std.specs.Str.{all_ascii_digits}
 use Rattle.std.specs.Str.Parse.{digits_value}
@@ -11,14 +10,7 @@ use Rattle.certificate_text.specs.declared.lines.CertLine.{CertLine}
 use Rattle.certificate_text.specs.declared.lines.CertLine.TheVariants as line
 use Rattle.cut_certificate.specs.declared.cut.Cut.{Cut}
 use Rattle.line_graph.specs.declared.pass.Pass.{Pass}
-
--- what stands between the bytes of that kind: one part more than there are such bytes
-abbrev pub parted : ℕ → List ℕ → List (List ℕ)
-parted mark bytes = slice_split (λ b. b == mark) bytes
-
--- the words of a line; there is one that is empty beside a space that separates no two
-abbrev pub words_in : List ℕ → List (List ℕ)
-words_in line = parted 32 line
+use Rattle.text_parts.specs.Parts.{words_in}
 
 -- decimal digits, of which the first is 0 only where it is the only one
 abbrev pub is_plain_numeral : List ℕ → Bool

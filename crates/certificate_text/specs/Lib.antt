@@ -1,6 +1,5 @@
 -- words of the crate below that public clauses cite
 pub use Rattle.cut_certificate.specs.Certificates
-pub use Rattle.cut_certificate.specs.TextLines
 -- read this one first: what a certificate looks like
 pub mod CertificateTexts
 pub mod CertificateLines

@@ -12,7 +12,8 @@ use Rattle.certificate_text.specs.declared.lines.CertLine.TheVariants as line
 use Rattle.certificate_text.specs.declared.reading.CertFault.{CertFault}
 use Rattle.certificate_text.specs.declared.reading.CertFault.TheVariants as fault
 use Rattle.cut_certificate.specs.declared.cut.Cut.{Cut}
-use Rattle.certificate_text.specs.CertificateLines.{line_said, parted}
+use Rattle.certificate_text.specs.CertificateLines.{line_said}
+use Rattle.text_parts.specs.Parts.{parted}
 use Rattle.cut_certificate.specs.Certificates.{CanBeSpelled}
 use Rattle.certificate_text.specs.CertificateTexts.{certificate_text}
 use Rattle.line_graph.specs.Growing.{and_then}

@@ -1,12 +1,14 @@
 ghost use Rattle.std.specs.Prelude.{◌≡◌, ◌∷◌, ◌<◌, IfOk, IfSome, option_map};
 ghost use Rattle.certificate_text.specs.declared.lines.CertLine.TheVariants as line;
-ghost use Rattle.certificate_text.specs.CertificateLines.{cut_in, line_said, members_after, number_above as above, only_number, pass_along as along, pass_in, passes_in, walk_in, words_in, words_said};
+ghost use Rattle.certificate_text.specs.CertificateLines.{cut_in, line_said, members_after, number_above as above, only_number, pass_along as along, pass_in, passes_in, walk_in, words_said};
+ghost use Rattle.text_parts.specs.Parts.{words_in};
 
-use crate::words::{number_in, spells, split_first};
+use crate::words::number_in;
 use cut_certificate::Cut;
 use design_model::{Memory, Numbers};
 use line_graph::{Pass, Walk};
 use std::alloc::Global;
+use text_parts::{spells, split_first};
 
 /// What one line of a certificate says.
 #[derive(Debug, Drop)]

@@ -4,10 +4,10 @@ ghost use Rattle.certificate_text.specs.CertificateTexts.{certificate_text};
 ghost use Rattle.certificate_text.specs.ReadCertificates.{AreFew, ReadsCert, cert_of};
 
 use crate::draft::Draft;
-use crate::words::split_first;
 use cut_certificate::Cert;
 use design_model::Memory;
 use std::alloc::Global;
+use text_parts::split_line;
 
 /// The most bytes of a certificate's text.
 pub const MAX_CERT: usize = 67_108_864;
@@ -50,7 +50,7 @@ fn read_lines(alloc: Global, bytes: &[u8]) -> Result<Cert, CertFault>
     let mut draft = Draft::Blank;
     let mut number: u32 = 1;
     let mut rest = bytes;
-    while let Some((line, after)) = split_first(rest, b'\n') {
+    while let Some((line, after)) = split_line(rest) {
         match draft.with_line(alloc, line)? {
             Some(next) => draft = next,
             None => return Err(CertFault::BadLine { number }),

@@ -1,35 +1,8 @@
-ghost use Rattle.std.specs.Prelude.{◌≡◌, ◌≤◌, ◌<◌, ◌∷◌, ◌+◌, ◌*◌, ◌==◌, ◌^◌, [], None, bytes_eq, length, min, true, IfNone, IfSome};
+ghost use Rattle.std.specs.Prelude.{◌≡◌, ◌≤◌, ◌+◌, ◌*◌, ◌^◌, min, true};
 ghost use Rattle.std.specs.Char.{digit_value, is_ascii_digit};
-ghost use Rattle.std.specs.List.{position_or_len};
 ghost use Rattle.std.specs.Str.{all_ascii_digits};
 ghost use Rattle.std.specs.Str.Parse.{digits_value};
-ghost use Rattle.certificate_text.specs.CertificateLines.{is_plain_numeral as is_plain, number_in as number_spelled, parted};
-
-/// What stands before the first byte that is the mark and what stands behind it, where there is one.
-pub(crate) fn split_first(bytes: &[u8], mark: u8) -> Option<(&[u8], &[u8])>
-    ensures some { IfSome result (λ r. parted mark bytes.now ≡ r.0.now ∷ parted mark r.1.now) }
-    ensures shorter { IfSome result (λ r. length r.1.now < length bytes.now) }
-    ensures none { IfNone result (parted mark bytes.now ≡ bytes.now ∷ []) }
-{
-    let (before, from) = bytes.split_at(first_place(bytes, mark));
-    if from.is_empty() {
-        return None;
-    }
-    let (_, behind) = from.split_at(1);
-    Some((before, behind))
-}
-
-fn first_place(bytes: &[u8], mark: u8) -> usize
-    ensures value { result ≡ position_or_len (λ b. b == mark) bytes.now }
-    ensures within { result ≤ length bytes.now }
-{
-    for (index, byte) in bytes.iter().enumerate() {
-        if *byte == mark {
-            return index;
-        }
-    }
-    bytes.len()
-}
+ghost use Rattle.certificate_text.specs.CertificateLines.{is_plain_numeral as is_plain, number_in as number_spelled};
 
 /// The number below 2 ^ 32 that a word of any length spells without leading zeros.
 pub(crate) fn number_in(word: &[u8]) -> Option<u32>
@@ -82,11 +55,4 @@ fn capped_with(value: u64, digit: u8) -> u64
     ensures { result ≡ min (value * 10 + digit_value digit) (2 ^ 32) }
 {
     (value * 10 + u64::from(digit - b'0')).min(1 << 32)
-}
-
-/// Says whether a word is this text.
-pub(crate) fn spells(word: &[u8], text: &str) -> bool
-    ensures { result ≡ bytes_eq word.now text.now }
-{
-    word == text.as_bytes()
 }

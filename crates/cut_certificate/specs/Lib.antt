@@ -6,7 +6,6 @@ pub mod Packings
 pub mod Bounds
 pub mod Lifts
 pub mod Certificates
-pub mod TextLines
 -- how moats are lifted
 pub mod Levels
 pub mod Stands

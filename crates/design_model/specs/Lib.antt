@@ -13,3 +13,4 @@ pub mod Extents
 pub mod Blocks
 pub mod WholeNumbers
 pub mod WantOfMemory
+pub mod TextLines

@@ -17,6 +17,7 @@ use crate::walk_end::{WalkEnd, WalkEnds};
 use line_graph::{DrawKind, Drawing, DrawingMaker, Spot, is_label_word, join};
 use std::alloc::Global;
 use step_splitter::MAX_STEP;
+use text_parts::spells;
 
 /// The longest step of a drawing whose text names none, in tenths of a millimetre.
 const DEFAULT_STEP: u32 = 25;

@@ -6,10 +6,11 @@ ghost use Rattle.drawing_text.specs.Words.{is_passed_over as has_no_words, words
 use crate::draft::Draft;
 use crate::draw_fault::{DrawFault, told_at};
 use crate::limits::MAX_TEXT;
-use crate::text_words::{is_comment, next_line, next_word, only_word, spells, without_return};
+use crate::text_words::{is_comment, next_line, next_word, only_word, without_return};
 use crate::version::Version;
 use line_graph::{DrawKind, Drawing};
 use std::alloc::Global;
+use text_parts::spells;
 
 /// The drawing that a text says in the version that it names, or the first fault of the text in the order of
 /// its lines.

@@ -1,4 +1,4 @@
-ghost use Rattle.std.specs.Prelude.{◌≡◌, ◌<◌, ◌≤◌, ◌∷◌, [], None, bytes_eq, drop, length, IfSome, IfNone};
+ghost use Rattle.std.specs.Prelude.{◌≡◌, ◌<◌, ◌≤◌, ◌∷◌, [], None, drop, length, IfSome, IfNone};
 ghost use Rattle.std.specs.List.{position_or_len};
 ghost use Rattle.drawing_text.specs.Words.{is_blank as is_a_blank, is_comment as begins_comment, is_line_feed, is_solid, only_word as only_of_words, text_lines, without_return as line_without_return, words_in};
 
@@ -110,11 +110,4 @@ pub fn is_comment(word: &[u8]) -> bool
         [first, ..] => *first == b'#',
         [] => false,
     }
-}
-
-/// Says whether a word is this text.
-pub fn spells(word: &[u8], text: &str) -> bool
-    ensures { result ≡ bytes_eq word.now text.now }
-{
-    word == text.as_bytes()
 }

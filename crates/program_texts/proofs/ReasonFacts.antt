@@ -4,7 +4,7 @@ use Rattle.std.specs.Fmt.{digits}
 use Rattle.std.specs.Prelude.{codes}
 use Rattle.cut_certificate.specs.declared.faults.CutFault.TheVariants as cut
 use Rattle.cut_certificate.specs.declared.faults.WalkFault.TheVariants as walk
-use Rattle.cut_certificate.specs.TextLines.{line_end}
+use Rattle.design_model.specs.TextLines.{line_end}
 use Rattle.program_texts.specs.Reasons.{act_no, counts_no, cuts_no, walk_no}
 
 -- each fault of a walk, the piece first

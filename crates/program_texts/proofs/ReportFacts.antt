@@ -6,7 +6,7 @@ use Rattle.program_texts.specs.declared.reports.PieceReport.{PieceReport}
 use Rattle.program_texts.specs.declared.summary.Summary.{Summary}
 use Rattle.program_texts.specs.DoubleReports.{double_report}
 use Rattle.program_texts.specs.Reports.{migrate_report, route_report, summary_text}
-use Rattle.cut_certificate.specs.TextLines.{line_end}
+use Rattle.design_model.specs.TextLines.{line_end}
 
 -- two pieces, of which each walk makes twelve and five steps, and then four more and none
 abbrev pieces : List PieceReport

@@ -1,6 +1,6 @@
 -- The report of double walks over pieces, each of which retraces what its lines cost.
 use Rattle.std.specs.Prelude.{ℕ, List, [], ◌∷◌, ◌++◌, codes, decimal, sum_by, length}
-use Rattle.cut_certificate.specs.TextLines.{line_end}
+use Rattle.design_model.specs.TextLines.{line_end}
 use Rattle.program_texts.specs.declared.reports.PieceReport.{PieceReport}
 use Rattle.program_texts.specs.Reports.{penetrations_of, piece_place, totals_line}
 

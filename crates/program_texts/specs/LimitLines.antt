@@ -1,7 +1,7 @@
 -- The lines that tell of something beyond a limit, with the numbers of both. Lengths are in tenths
 -- of a millimetre.
 use Rattle.std.specs.Prelude.{ℕ, List, ◌++◌, codes}
-use Rattle.cut_certificate.specs.TextLines.{line_end}
+use Rattle.design_model.specs.TextLines.{line_end}
 
 -- a line about a step that is above the limit of a format, the numbers as digits
 abbrev pub step_text : (name step limit ending : List ℕ) → List ℕ

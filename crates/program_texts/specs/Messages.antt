@@ -1,6 +1,6 @@
 -- The lines that tell what the outside did not do. A name is the bytes of a file's name.
 use Rattle.std.specs.Prelude.{ℕ, List, ◌++◌, codes}
-use Rattle.cut_certificate.specs.TextLines.{line_end}
+use Rattle.design_model.specs.TextLines.{line_end}
 
 -- the line that memory was wanted and not found
 abbrev pub memory_line : List ℕ

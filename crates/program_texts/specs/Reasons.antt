@@ -5,7 +5,7 @@ use Rattle.cut_certificate.specs.declared.faults.CutFault.{CutFault}
 use Rattle.cut_certificate.specs.declared.faults.CutFault.TheVariants as cut
 use Rattle.cut_certificate.specs.declared.faults.WalkFault.{WalkFault}
 use Rattle.cut_certificate.specs.declared.faults.WalkFault.TheVariants as walk
-use Rattle.cut_certificate.specs.TextLines.{line_end}
+use Rattle.design_model.specs.TextLines.{line_end}
 
 -- a text, a number and what follows
 abbrev pub with_number : (text digits rest : List ℕ) → List ℕ

@@ -1,6 +1,6 @@
 -- The lines that tell of a file. A name is the bytes of a file's name.
 use Rattle.std.specs.Prelude.{ℕ, List, ◌++◌, codes, decimal}
-use Rattle.cut_certificate.specs.TextLines.{line_end}
+use Rattle.design_model.specs.TextLines.{line_end}
 
 -- a line about a file
 abbrev pub line_about : List ℕ → List ℕ → List ℕ

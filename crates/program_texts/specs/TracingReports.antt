@@ -2,7 +2,7 @@
 use Rattle.std.specs.Prelude.{ℕ, List, ◌++◌, codes, decimal, length, sum_by}
 use Rattle.line_sections.specs.Sections.{segments_of}
 use Rattle.line_graph.specs.Drawings.{DrawingValue}
-use Rattle.cut_certificate.specs.TextLines.{line_end}
+use Rattle.design_model.specs.TextLines.{line_end}
 
 -- the line of a tracing: how many blocks and lines there are, and how many links
 abbrev pub traced_line : (blocks lines links : ℕ) → List ℕ

@@ -1,6 +1,6 @@
 -- What the words may be, as the program says it.
 use Rattle.std.specs.Prelude.{ℕ, List, ◌++◌, codes}
-use Rattle.cut_certificate.specs.TextLines.{line_end}
+use Rattle.design_model.specs.TextLines.{line_end}
 
 -- what the words may be
 abbrev pub usage_text : List ℕ

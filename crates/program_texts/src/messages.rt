@@ -1,5 +1,5 @@
 ghost use Rattle.std.specs.Prelude.{◌++◌};
-ghost use Rattle.cut_certificate.specs.TextLines.{line_end};
+ghost use Rattle.design_model.specs.TextLines.{line_end};
 ghost use Rattle.program_texts.specs.declared.status.Status.TheVariants as status;
 ghost use Rattle.program_texts.specs.Puts.{Tells};
 ghost use Rattle.program_texts.specs.UsageText.{usage_text};

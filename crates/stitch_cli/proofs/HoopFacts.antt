@@ -2,7 +2,7 @@
 use Rattle.std.proofs.Common.{◌++◌, None, refl}
 use Rattle.std.specs.Prelude.{codes}
 use Rattle.hoop_check.specs.declared.fitting.Fit.TheVariants as fit
-use Rattle.cut_certificate.specs.TextLines.{line_end}
+use Rattle.design_model.specs.TextLines.{line_end}
 use Rattle.stitch_cli.specs.Hoops.{hoop_fitted}
 use Rattle.stitch_cli.specs.Plans.{Makes, Refuses}
 use Rattle.stitch_cli.specs.Products.{only_report}

@@ -4,7 +4,7 @@ use Rattle.std.specs.Fmt.{digits}
 use Rattle.std.specs.Prelude.{codes}
 use Rattle.cut_certificate.specs.declared.faults.CutFault.TheVariants as cut
 use Rattle.cut_certificate.specs.declared.faults.WalkFault.TheVariants as walk
-use Rattle.cut_certificate.specs.TextLines.{line_end}
+use Rattle.design_model.specs.TextLines.{line_end}
 use Rattle.route_core.specs.declared.verdict.Reason.TheVariants as reason
 use Rattle.stitch_cli.specs.Refusals.{disproved, uncertified}
 use Rattle.stitch_cli.specs.Texts.{refusal_line}

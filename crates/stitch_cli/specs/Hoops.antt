@@ -5,7 +5,7 @@ use Rattle.format_traits.specs.declared.loaded.Loaded.{Loaded}
 use Rattle.hoop_check.specs.declared.fitting.Fit.{Fit}
 use Rattle.hoop_check.specs.declared.fitting.Fit.TheVariants as fit
 use Rattle.hoop_check.specs.Fits.{fit_of}
-use Rattle.cut_certificate.specs.TextLines.{line_end}
+use Rattle.design_model.specs.TextLines.{line_end}
 use Rattle.stitch_cli.specs.OrderNames.{HoopOrder}
 use Rattle.stitch_cli.specs.Plans.{Plan, accepts, reads, refuses}
 use Rattle.stitch_cli.specs.Products.{only_report}

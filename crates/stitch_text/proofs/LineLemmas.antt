@@ -21,7 +21,8 @@ use Rattle.stitch_text.specs.declared.list_line.ListLine.TheVariants as line
 use Rattle.stitch_text.specs.declared.list_line.TheConstants.{MAX_LINE}
 use Rattle.stitch_text.specs.ListLines.{block_said, line_said, needle_said, word_said, words_said}
 use Rattle.stitch_text.specs.StitchLists.{needle_line, point_line}
-use Rattle.stitch_text.specs.Words.{number_in, words_in}
+use Rattle.stitch_text.specs.Words.{number_in}
+use Rattle.text_parts.specs.Parts.{words_in}
 use Rattle.stitch_text.proofs.NumberLemmas.{is_inner, number_is, number_read, signed_inner}
 
 -- a byte that doesn't end a line

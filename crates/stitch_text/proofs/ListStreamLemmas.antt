@@ -6,7 +6,7 @@ use Rattle.stitch_text.specs.declared.draft.Draft.{Draft}
 use Rattle.stitch_text.specs.declared.list_stage.ListStage.{ListStage}
 use Rattle.stitch_text.specs.ListStages.{TakesLine, TakesLines, beyond, fault_at, most_waiting, parts_said, so_far_at, stream_at}
 use Rattle.stitch_text.specs.Readings.{Said, loaded_from}
-use Rattle.stitch_text.specs.Words.{parted}
+use Rattle.text_parts.specs.Parts.{parted}
 use Rattle.stitch_text.proofs.PartLemmas.{ended_part, open_part, some_part}
 use Rattle.stitch_text.proofs.StageLemmas.{ends_here, goes_beyond}
 

@@ -19,7 +19,7 @@ use Rattle.stitch_text.specs.Laws.{IsTextOf, ReadsAsWritten, ReadsWhereWritten}
 use Rattle.stitch_text.specs.ListLines.{label_said, line_said}
 use Rattle.stitch_text.specs.Readings.{Said, begun, block_first, by_block, by_label, by_signature, label_first, loaded_by, next_line, reads, text_said, thread_said}
 use Rattle.stitch_text.specs.StitchLists.{act_lines, block_line, first_line, label_line, list_of, reach}
-use Rattle.stitch_text.specs.Words.{parted}
+use Rattle.text_parts.specs.Parts.{parted}
 use Rattle.stitch_text.proofs.LabelLemmas.{label_from, label_is}
 use Rattle.stitch_text.proofs.LineLemmas.{line_is}
 use Rattle.stitch_text.proofs.Continuing.{Continues, Keeps, acts_written, block_text, not_over, over, thread_is}

@@ -8,7 +8,7 @@ use Rattle.stitch_text.specs.ListLines.{label_said, line_said, words_said}
 use Rattle.stitch_text.specs.Judging.{judged}
 use Rattle.stitch_text.specs.Readings.{Said, acts_said, block_first, by_block, by_label, by_signature, ended, goes_on, is_end, label_first, next_line, on_line, signature_first, thread_said}
 use Rattle.stitch_text.specs.StitchLists.{first_line}
-use Rattle.stitch_text.specs.Words.{parted, words_in}
+use Rattle.text_parts.specs.Parts.{parted, words_in}
 use Rattle.stitch_text.proofs.PartLemmas.{some_part}
 
 -- a line that has an end

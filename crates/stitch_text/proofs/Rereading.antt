@@ -27,7 +27,8 @@ use Rattle.stitch_text.specs.Format.{stitch_list}
 use Rattle.stitch_text.specs.Judging.{act_fault, commands_of, judged, taken, unless_fault, with_act, with_block}
 use Rattle.stitch_text.specs.Readings.{Said, acts_said, begun, is_end, loaded_from, straight_moves, text_said, thread_said}
 use Rattle.stitch_text.specs.StitchLists.{act_line, act_lines, block_line, first_line, label_line, list_of, reach}
-use Rattle.stitch_text.specs.Words.{ends_with_space, is_label, is_printable, parted}
+use Rattle.stitch_text.specs.Words.{ends_with_space, is_label, is_printable}
+use Rattle.text_parts.specs.Parts.{parted}
 use Rattle.stitch_text.proofs.ActLemmas.{acts_again, are_told, commands_along, is_told, moves_within, no_fault, or_else_none, told}
 use Rattle.stitch_text.proofs.LabelLemmas.{label_to, label_yes}
 use Rattle.stitch_text.proofs.LineLemmas.{IsLine, Lacks, block_is, is_kept, lacks_from, needle_is, trim_is}

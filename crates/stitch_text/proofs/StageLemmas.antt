@@ -11,7 +11,7 @@ use Rattle.stitch_text.specs.ListLines.{label_said, line_said, words_said}
 use Rattle.stitch_text.specs.ListStages.{beyond, fault_at, most_waiting, parts_said}
 use Rattle.stitch_text.specs.Readings.{acts_said, by_block, by_label, by_signature, ended, on_line, refused, thread_said}
 use Rattle.stitch_text.specs.StitchLists.{first_line}
-use Rattle.stitch_text.specs.Words.{words_in}
+use Rattle.text_parts.specs.Parts.{words_in}
 use Rattle.stitch_text.proofs.LabelLemmas.{label_from, label_is}
 use Rattle.stitch_text.proofs.PartLemmas.{onto_part}
 

@@ -6,7 +6,8 @@ use Rattle.stitch_text.specs.declared.list_line.ListLine.{ListLine}
 use Rattle.stitch_text.specs.declared.list_line.ListLine.TheVariants as line
 use Rattle.stitch_text.specs.declared.list_line.TheConstants.{MAX_LINE}
 use Rattle.stitch_text.specs.StitchLists.{label_line}
-use Rattle.stitch_text.specs.Words.{is_label, number_in, words_in}
+use Rattle.stitch_text.specs.Words.{is_label, number_in}
+use Rattle.text_parts.specs.Parts.{words_in}
 
 -- a block whose thread has that number, which must be a byte
 abbrev pub block_said : Whole → Option ListLine

@@ -11,7 +11,7 @@ use Rattle.stitch_text.specs.declared.list_line.TheConstants.{MAX_LINE}
 use Rattle.stitch_text.specs.declared.list_stage.ListStage.{ListStage}
 use Rattle.stitch_text.specs.declared.list_stage.ListStage.TheVariants as stage
 use Rattle.stitch_text.specs.Readings.{Said, acts_said, block_first, ended, label_first, loaded_by, loaded_from, next_line, refused, signature_first}
-use Rattle.stitch_text.specs.Words.{parted}
+use Rattle.text_parts.specs.Parts.{parted}
 
 -- what the lines to come say
 abbrev pub parts_said : Draft → ListStage → ℕ → List (List ℕ) → Said

@@ -20,7 +20,7 @@ use Rattle.stitch_text.specs.declared.list_line.ListLine.TheVariants as line
 use Rattle.stitch_text.specs.Judging.{judged}
 use Rattle.stitch_text.specs.ListLines.{label_said, line_said}
 use Rattle.stitch_text.specs.StitchLists.{first_line}
-use Rattle.stitch_text.specs.Words.{parted}
+use Rattle.text_parts.specs.Parts.{parted}
 
 -- what was read until reading was over: the design so far, and the refusal where there is one
 pub record Said : Type 0 where

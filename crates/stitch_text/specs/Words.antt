@@ -1,19 +1,11 @@
 -- The words of a line and the numbers that they spell: decimal, without leading zeros and without
 -- -0.
 use Rattle.std.specs.Prelude.{ℕ, ◌-◌, ◌==◌, ◌&&◌, ◌||◌, Bool, false, not, List, [], ◌∷◌, length, get_or, nat_le, if◌then◌else◌}
-use Rattle.std.specs.List.{list_all, slice_split}
+use Rattle.std.specs.List.{list_all}
 use Rattle.design_model.specs.declared.design.TheConstants.{MAX_LABEL}
 use Rattle.design_model.specs.declared.whole_number.Whole.{Whole}
 use Rattle.design_model.specs.declared.whole_number.Whole.TheVariants as whole
 use Rattle.design_model.specs.WholeNumbers.{whole_of}
-
--- what stands between the bytes of that kind: one part more than there are such bytes
-abbrev pub parted : ℕ → List ℕ → List (List ℕ)
-parted mark bytes = slice_split (λ b. b == mark) bytes
-
--- the words of a line; there is one that is empty beside a space that separates no two
-abbrev pub words_in : List ℕ → List (List ℕ)
-words_in line = parted 32 line
 
 -- a zero (48) stands first
 abbrev pub begins_with_zero : List ℕ → Bool

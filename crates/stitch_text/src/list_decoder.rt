@@ -6,11 +6,11 @@ use crate::draft::Draft;
 use crate::label_line::label_of;
 use crate::list_line::{is_end, line_of, thread_of};
 use crate::list_stage::ListStage;
-use crate::words::{spells, split_line};
 use design_model::{Command, Design, Memory};
 use format_traits::{Decoder, Loaded, ReadFault};
 use std::alloc::Global;
 use std::mem::replace;
+use text_parts::{spells, split_line};
 
 /// The decoder of lists.
 #[derive(Drop)]
@@ -29,7 +29,7 @@ impl ListDecoder {
     ghost use Rattle.format_traits.specs.Streams.{Takes};
     ghost use Rattle.stitch_text.specs.declared.list_stage.ListStage.TheVariants as stage;
     ghost use Rattle.stitch_text.specs.ListStages.{TakesLine, TakesLines, parts_said, so_far_at, stream_at};
-    ghost use Rattle.stitch_text.specs.Words.{parted};
+    ghost use Rattle.text_parts.specs.Parts.{parted};
 
     /// A decoder that has to begin.
     pub fn new(alloc: Global) -> Self {

@@ -1,10 +1,11 @@
 ghost use Rattle.std.specs.Prelude.{◌≡◌, ◌∷◌, ◌++◌, [], codes, IfSome};
 ghost use Rattle.stitch_text.specs.ListLines.{block_said, line_said, needle_said, needle_word, word_said, words_said};
 ghost use Rattle.stitch_text.specs.Readings.{is_end as is_last, thread_said};
-ghost use Rattle.stitch_text.specs.Words.{words_in};
+ghost use Rattle.text_parts.specs.Parts.{words_in};
 
-use crate::words::{number_in, spells, split_first};
+use crate::words::number_in;
 use design_model::{Point, Whole};
+use text_parts::{spells, split_first};
 
 /// The most bytes of a line, without the one that ends it.
 pub const MAX_LINE: usize = 32;

@@ -1,7 +1,7 @@
 use Rattle.std.proofs.Common.{sym, ◌∙◌}
 use Rattle.stitch_text.proofs.PartLemmas.{some_part}
 use Rattle.stitch_text.proofs.ReadingLemmas.{other_word}
-use Rattle.stitch_text.specs.Words.{words_in}
+use Rattle.text_parts.specs.Parts.{words_in}
 use Rattle.stitch_text.proofs.list_line.line_of_more.Goals as goal
 
 pub returns : goal.returns

@@ -1,6 +1,6 @@
 use Rattle.std.proofs.Common.{◌∙◌}
-use Rattle.stitch_text.proofs.PartLemmas.{place_found}
-use Rattle.stitch_text.proofs.words.line_length.Goals as goal
+use Rattle.text_parts.proofs.PartLemmas.{place_found}
+use Rattle.text_parts.proofs.splits.line_length.Goals as goal
 
 pub returns-clause-value : goal.returns-clause-value
 returns-clause-value c =

@@ -1,6 +1,6 @@
 use Rattle.std.proofs.Common.{◌≡◌, ◌+◌, ◌==◌, drop}
 use Rattle.std.specs.List.{position_or_len}
-use Rattle.stitch_text.proofs.words.first_place.Given as goal
+use Rattle.text_parts.proofs.splits.first_place.Given as goal
 
 -- the first place is among the bytes that are left
 abbrev pub invariant-loop-index : goal.invariant-loop-index

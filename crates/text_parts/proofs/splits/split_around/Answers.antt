@@ -1,7 +1,7 @@
 use Rattle.std.proofs.Common.{arith}
 use Rattle.std.proofs.lemmas.Bool.Decides.{nat_tests}
-use Rattle.stitch_text.proofs.PartLemmas.{first_part, one_part}
-use Rattle.stitch_text.proofs.words.split_around.Goals as goal
+use Rattle.text_parts.proofs.PartLemmas.{first_part, one_part}
+use Rattle.text_parts.proofs.splits.split_around.Goals as goal
 
 pub returns-then-is_empty-clause-none : goal.returns-then-is_empty-clause-none
 returns-then-is_empty-clause-none c =

@@ -1,4 +1,4 @@
--- Lines of text, of certificates and of what is told of them.
+-- Lines of text.
 use Rattle.std.specs.Prelude.{ℕ, List, [], ◌∷◌}
 
 -- the end of a line

@@ -1,0 +1,65 @@
+ghost use Rattle.std.specs.Prelude.{◌≡◌, ◌≤◌, ◌∷◌, ◌+◌, ◌==◌, [], drop, length, IfNone, IfSome};
+ghost use Rattle.std.specs.List.{position_or_len};
+ghost use Rattle.text_parts.specs.Parts.{parted};
+
+use memchr::memchr;
+
+/// What stands before the first byte that is the mark and what stands behind it, where there is one.
+pub fn split_first(bytes: &[u8], mark: u8) -> Option<(&[u8], &[u8])>
+    ensures some { IfSome result (λ r. parted mark bytes.now ≡ r.0.now ∷ parted mark r.1.now) }
+    ensures rest { IfSome result (λ r. r.1.now ≡ drop (length r.0.now + 1) bytes.now) }
+    ensures sizes { IfSome result
+        (λ r. length r.0.now + 1 + length r.1.now ≡ length bytes.now) }
+    ensures none { IfNone result (parted mark bytes.now ≡ bytes.now ∷ []) }
+{
+    split_around(bytes, mark, first_place(bytes, mark))
+}
+
+/// The same for the byte that ends a line.
+pub fn split_line(bytes: &[u8]) -> Option<(&[u8], &[u8])>
+    ensures some { IfSome result (λ r. parted 10 bytes.now ≡ r.0.now ∷ parted 10 r.1.now) }
+    ensures rest { IfSome result (λ r. r.1.now ≡ drop (length r.0.now + 1) bytes.now) }
+    ensures sizes { IfSome result
+        (λ r. length r.0.now + 1 + length r.1.now ≡ length bytes.now) }
+    ensures none { IfNone result (parted 10 bytes.now ≡ bytes.now ∷ []) }
+{
+    split_around(bytes, b'\n', line_length(bytes))
+}
+
+#[inline(always)]
+fn split_around(bytes: &[u8], mark: u8, place: usize) -> Option<(&[u8], &[u8])>
+    requires value { place ≡ position_or_len (λ b. b == mark) bytes.now }
+    requires within { place ≤ length bytes.now }
+    ensures some { IfSome result (λ r. parted mark bytes.now ≡ r.0.now ∷ parted mark r.1.now) }
+    ensures rest { IfSome result (λ r. r.1.now ≡ drop (length r.0.now + 1) bytes.now) }
+    ensures sizes { IfSome result
+        (λ r. length r.0.now + 1 + length r.1.now ≡ length bytes.now) }
+    ensures none { IfNone result (parted mark bytes.now ≡ bytes.now ∷ []) }
+{
+    let (before, from) = bytes.split_at(place);
+    if from.is_empty() {
+        return None;
+    }
+    let (_, behind) = from.split_at(1);
+    Some((before, behind))
+}
+
+// A word is short, and looked through byte by byte; a line isn't.
+fn first_place(bytes: &[u8], mark: u8) -> usize
+    ensures value { result ≡ position_or_len (λ b. b == mark) bytes.now }
+    ensures within { result ≤ length bytes.now }
+{
+    for (index, byte) in bytes.iter().enumerate() {
+        if *byte == mark {
+            return index;
+        }
+    }
+    bytes.len()
+}
+
+fn line_length(bytes: &[u8]) -> usize
+    ensures value { result ≡ position_or_len (λ b. b == 10) bytes.now }
+    ensures within { result ≤ length bytes.now }
+{
+    memchr(b'\n', bytes).unwrap_or(bytes.len())
+}

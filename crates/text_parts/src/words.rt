@@ -1,0 +1,8 @@
+ghost use Rattle.std.specs.Prelude.{◌≡◌, bytes_eq};
+
+/// Says whether a word is this text.
+pub fn spells(word: &[u8], text: &str) -> bool
+    ensures { result ≡ bytes_eq word.now text.now }
+{
+    word == text.as_bytes()
+}
