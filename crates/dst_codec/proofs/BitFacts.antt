@@ -1,8 +1,9 @@
 -- Each bit of a record alone, read and written: what it moves, by the table of the format.
-use Rattle.std.proofs.Common.{◌≡◌, ℕ, ℤ, pos, negsuc, List, [], ◌∷◌, map, refl}
+use Rattle.std.proofs.Common.{◌≡◌, ℕ, ℤ, pos, negsuc, List, [], ◌∷◌, map, arith, refl}
 use Rattle.design_model.specs.declared.point.Point.{Point}
 use Rattle.dst_codec.specs.declared.record_kind.RecordKind.TheVariants as kind
 use Rattle.dst_codec.specs.Bits.{move_in, kind_of}
+use Rattle.dst_codec.specs.OneSpelling.{IsPlainByte, IsPlainThird}
 use Rattle.dst_codec.specs.Spelling.{stitch_record}
 
 -- a move along one axis
@@ -90,3 +91,16 @@ known_one_low_bit = refl
 
 pub known_no_low_bit : map kind_of (0x80 ∷ 0xC0 ∷ 0xF0 ∷ 0x40 ∷ []) ≡ kind.Stitch ∷ kind.Stitch ∷ kind.Stitch ∷ kind.Stitch ∷ []
 known_no_low_bit = refl
+
+-- bytes with all moves to the left and upwards have one spelling
+pub known_plain : IsPlainByte 0xAA
+known_plain = record {
+  small = omega arith;
+  x_lesser = omega arith;
+  x_greater = omega arith;
+  y_greater = omega arith;
+  y_lesser = omega arith;
+}
+
+pub known_plain_third : IsPlainThird 0x2B
+known_plain_third = record { small = omega arith; set = refl; x = omega arith; y = omega arith }

@@ -1,7 +1,11 @@
--- The limits of the format. Moves are in tenths of a millimetre, the header in bytes.
-use Rattle.std.proofs.Common.{◌≡◌, refl}
+-- The ending and the limits of the format. Moves are in tenths of a millimetre, the header in bytes.
+use Rattle.std.proofs.Common.{◌≡◌, codes, refl}
 use Rattle.dst_codec.specs.declared.dst.TheConstants.{LIMIT, MAX_FLOAT_HOPS, MAX_STOPS}
 use Rattle.dst_codec.specs.declared.header.TheConstants.{HEADER_LENGTH}
+use Rattle.dst_codec.specs.Format.{dst}
+
+pub known_format : (dst.ending ≡ codes "dst") × (dst.limit ≡ 121)
+known_format = (refl, refl)
 
 -- how far a record moves on each axis
 pub known_move : LIMIT ≡ 121

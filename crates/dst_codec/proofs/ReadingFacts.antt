@@ -1,5 +1,5 @@
 -- Worked values of reading.
-use Rattle.std.proofs.Common.{◌≡◌, ℕ, zero, suc, ℤ, pos, negsuc, true, false, List, [], ◌∷◌, ◌++◌, replicate, Ok, Err, Result, refl, codes}
+use Rattle.std.proofs.Common.{◌≡◌, ℕ, zero, suc, ℤ, pos, negsuc, true, false, List, [], ◌∷◌, ◌++◌, map, replicate, Ok, Err, Result, refl, codes}
 use Rattle.design_model.specs.declared.command.Command.{Command}
 use Rattle.design_model.specs.declared.command.Command.TheVariants.{Stitch, Jump, Trim, Stop}
 use Rattle.design_model.specs.declared.point.Point.{Point}
@@ -49,13 +49,21 @@ pub known_broken_run : reads (file (0 ∷ 0 ∷ 0x83 ∷ 0 ∷ 0 ∷ 0x83 ∷ 0x
     ∷ Jump (point (pos 1) (pos 0)) ∷ Jump (point (pos 1) (pos 0)) ∷ [])
 known_broken_run = refl
 
+-- what is loaded of a file without an end
+abbrev unended : List Command → Result Loaded ReadFault
+unended commands = Ok (record {
+  design = record { label = []; threads = []; commands = commands };
+  ended = false;
+})
+
 -- a file that is cut off in a record has the commands before, and has not ended
-pub known_cut_off : reads (file (0x00 ∷ 0x05 ∷ 0x03 ∷ 0x00 ∷ 0x05 ∷ []))
-    ≡ Ok (record {
-      design = record { label = []; threads = []; commands = Stitch (point (pos 30) (pos 0)) ∷ [] };
-      ended = false;
-    })
+pub known_cut_off : reads (file (0x00 ∷ 0x05 ∷ 0x03 ∷ 0x00 ∷ 0x05 ∷ [])) ≡ unended (Stitch (point (pos 30) (pos 0)) ∷ [])
 known_cut_off = refl
+
+-- nor has one that is cut off behind a record, or behind its header
+pub known_no_end : map (λ bytes. reads (file bytes)) ((0x00 ∷ 0x05 ∷ 0x03 ∷ []) ∷ [] ∷ [])
+    ≡ unended (Stitch (point (pos 30) (pos 0)) ∷ []) ∷ unended [] ∷ []
+known_no_end = refl
 
 -- a sequin is refused at its record, and a short file at its length
 pub known_sequin : reads (file (0 ∷ 0 ∷ 0x03 ∷ 0 ∷ 0 ∷ 0x43 ∷ [])) ≡ Err (fault.Sequin 515)
@@ -85,5 +93,10 @@ known_moves_to_end = refl
 pub known_label : label_of (codes "LA:Rose 1          " ++ 13 ∷ []) ≡ codes "Rose 1"
 known_label = refl
 
-pub known_no_label : label_of (codes "XX:Rose 1          ") ≡ []
+pub known_no_label : map label_of (codes "XX:Rose 1          " ∷ codes "LA;Rose 1          " ∷ codes "la:Rose 1          "
+    ∷ codes " LA:Rose 1         " ∷ []) ≡ [] ∷ [] ∷ [] ∷ [] ∷ []
 known_no_label = refl
+
+-- it has sixteen places
+pub known_long_label : label_of (codes "LA:Roses of Damascus") ≡ codes "Roses of Damascu"
+known_long_label = refl

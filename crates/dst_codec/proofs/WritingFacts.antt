@@ -1,5 +1,5 @@
 -- Worked values of writing.
-use Rattle.std.proofs.Common.{◌≡◌, ℤ, pos, negsuc, List, [], ◌∷◌, ◌++◌, length, drop, Some, Err, refl, codes, IsOkAnd}
+use Rattle.std.proofs.Common.{◌≡◌, ℕ, ℤ, pos, negsuc, List, [], ◌∷◌, ◌++◌, length, drop, replicate, Some, Ok, Err, refl, codes}
 use Rattle.std.specs.Fmt.{digits}
 use Rattle.std.specs.List.{concat}
 use Rattle.design_model.specs.declared.command.Command.{Command}
@@ -8,7 +8,7 @@ use Rattle.design_model.specs.declared.point.Point.{Point}
 use Rattle.design_model.specs.Acts.{acts_along}
 use Rattle.design_model.specs.Designs.{DesignValue}
 use Rattle.format_traits.specs.declared.fault.WriteFault.TheVariants as fault
-use Rattle.dst_codec.specs.Header.{header_fields}
+use Rattle.dst_codec.specs.Header.{extents_of, header_fields}
 use Rattle.dst_codec.specs.Samples.{square, square_commands}
 use Rattle.dst_codec.specs.Steps.{reached}
 use Rattle.dst_codec.specs.Writing.{records_of, writes}
@@ -20,17 +20,21 @@ point x y = record { x = x; y = y }
 abbrev pub sewn : List Command → DesignValue
 sewn commands = record { label = []; threads = []; commands = commands }
 
-pub known_square_records : concat (records_of (acts_along square_commands))
-    ≡ 0x00 ∷ 0x00 ∷ 0x03 ∷ 0x00 ∷ 0x05 ∷ 0x03 ∷ 0x00 ∷ 0x50 ∷ 0x03 ∷ 0x00 ∷ 0x0A ∷ 0x03 ∷ 0x00 ∷ 0xA0 ∷ 0x03
+abbrev square_records : List ℕ
+square_records = 0x00 ∷ 0x00 ∷ 0x03 ∷ 0x00 ∷ 0x05 ∷ 0x03 ∷ 0x00 ∷ 0x50 ∷ 0x03 ∷ 0x00 ∷ 0x0A ∷ 0x03 ∷ 0x00 ∷ 0xA0 ∷ 0x03
     ∷ 0x82 ∷ 0x41 ∷ 0x83 ∷ 0x82 ∷ 0x82 ∷ 0x83 ∷ 0x82 ∷ 0x41 ∷ 0x83 ∷ []
+
+pub known_square_records : concat (records_of (acts_along square_commands)) ≡ square_records
 known_square_records = refl
 
 -- the fields of the square, which take 124 bytes
-pub known_square_fields : header_fields [] (acts_along square_commands) 9
-    ≡ codes "LA:                " ++ 13 ∷ codes "ST:      9" ++ 13 ∷ codes "CO:  0" ++ 13
+abbrev square_fields : List ℕ
+square_fields = codes "LA:                " ++ 13 ∷ codes "ST:      9" ++ 13 ∷ codes "CO:  0" ++ 13
     ∷ codes "+X:   30" ++ 13 ∷ codes "-X:    0" ++ 13 ∷ codes "+Y:    0" ++ 13 ∷ codes "-Y:   30" ++ 13
     ∷ codes "AX:+    0" ++ 13 ∷ codes "AY:+    0" ++ 13 ∷ codes "MX:+    0" ++ 13 ∷ codes "MY:+    0" ++ 13
     ∷ codes "PD:******" ++ 13 ∷ []
+
+pub known_square_fields : header_fields [] (acts_along square_commands) 9 ≡ square_fields
 unfolding digits
 known_square_fields = refl
 
@@ -63,6 +67,11 @@ pub known_bare_fields : drop 38 (header_fields [] (acts_along (Jump (point (pos 
 unfolding digits
 known_bare_fields = refl
 
+-- needles above the origin and to the left of it reach to no other side
+pub known_one_side : extents_of (acts_along (Stitch (point (negsuc 11) (negsuc 33)) ∷ Stitch (point (negsuc 4) (negsuc 5)) ∷ []))
+    ≡ record { right = 0; left = 12; up = 34; down = 0 }
+known_one_side = refl
+
 -- how far an extent reaches to each side of the origin; one to the right of it and below it reaches to two only
 pub known_reached : reached (Some (record { min = point (negsuc 4) (negsuc 5); max = point (pos 12) (pos 34) }))
     ≡ record { right = 12; left = 5; up = 6; down = 34 }
@@ -72,8 +81,8 @@ pub known_reached_beyond : reached (Some (record { min = point (pos 3) (pos 4); 
     ≡ record { right = 12; left = 0; up = 0; down = 34 }
 known_reached_beyond = refl
 
--- the whole file of the square has its header, its records and the end
-pub known_square_file : IsOkAnd (writes square) (λ bytes. length bytes ≡ 539)
+-- the whole file of the square has its header of 512 bytes, its records and the end
+pub known_square_file : writes square ≡ Ok (square_fields ++ 26 ∷ (replicate 387 32 ++ (square_records ++ 0x00 ∷ 0x00 ∷ 0xF3 ∷ [])))
 unfolding digits
 known_square_file = refl
 
