@@ -1,12 +1,12 @@
 -- Worked values of reading.
-use Rattle.std.proofs.Common.{◌≡◌, ℤ, pos, negsuc, Bool, true, false, List, [], ◌∷◌, Ok, Err, Result, refl}
+use Rattle.std.proofs.Common.{◌≡◌, ℤ, pos, negsuc, Bool, true, false, List, [], ◌∷◌, map, Ok, Err, Result, refl}
 use Rattle.design_model.specs.declared.command.Command.{Command}
 use Rattle.design_model.specs.declared.command.Command.TheVariants.{Stitch, Jump, Trim, Stop}
 use Rattle.design_model.specs.declared.point.Point.{Point}
 use Rattle.format_traits.specs.declared.fault.ReadFault.{ReadFault}
 use Rattle.format_traits.specs.declared.fault.ReadFault.TheVariants as fault
 use Rattle.format_traits.specs.declared.loaded.Loaded.{Loaded}
-use Rattle.exp_codec.specs.Reading.{reads, moves}
+use Rattle.exp_codec.specs.Reading.{reads, moves, shown}
 
 abbrev pub point : ℤ → ℤ → Point
 point x y = record { x = x; y = y }
@@ -49,9 +49,19 @@ known_odd = refl
 pub known_cut_off : reads (0x01 ∷ 0x00 ∷ 0x80 ∷ 0x03 ∷ 0x00 ∷ []) ≡ loaded (Stitch (point (pos 1) (pos 0)) ∷ []) false
 known_cut_off = refl
 
--- any other control byte is refused at its unit, with the moves before it
+-- the first byte of a unit of two or of four alone
+pub known_begun : map reads ((0x01 ∷ []) ∷ (0x80 ∷ 0x01 ∷ []) ∷ []) ≡ loaded [] false ∷ loaded [] false ∷ []
+known_begun = refl
+
+-- any other control byte is refused at its unit, with the commands and the moves before it
 pub known_control : reads (0x01 ∷ 0x00 ∷ 0x80 ∷ 0x03 ∷ 0x00 ∷ 0x00 ∷ []) ≡ Err (fault.Control 2)
 known_control = refl
+
+pub known_later_control : reads (0x80 ∷ 0x80 ∷ 0x07 ∷ 0x00 ∷ 0x80 ∷ 0x03 ∷ 0x00 ∷ 0x00 ∷ []) ≡ Err (fault.Control 4)
+known_later_control = refl
+
+pub known_shown : shown (0x01 ∷ 0x00 ∷ 0x80 ∷ 0x03 ∷ 0x00 ∷ 0x00 ∷ []) ≡ Stitch (point (pos 1) (pos 0)) ∷ []
+known_shown = refl
 
 pub known_moves : moves (0x01 ∷ 0x00 ∷ 0x80 ∷ 0x80 ∷ 0x07 ∷ 0x00 ∷ 0x80 ∷ 0x04 ∷ 0xFF ∷ 0x01 ∷ 0x80 ∷ 0x03 ∷ 0x00 ∷ 0x00 ∷ [])
     ≡ point (pos 1) (pos 0) ∷ point (negsuc 0) (negsuc 0) ∷ []

@@ -1,12 +1,17 @@
 -- Worked values of writing.
-use Rattle.std.proofs.Common.{◌≡◌, ℤ, pos, negsuc, List, [], ◌∷◌, Ok, Err, refl}
+use Rattle.std.proofs.Common.{◌≡◌, ℤ, pos, negsuc, List, [], ◌∷◌, true, codes, None, Ok, Err, refl}
+use Rattle.design_model.specs.declared.act.Act.TheVariants as act
 use Rattle.design_model.specs.declared.command.Command.{Command}
 use Rattle.design_model.specs.declared.command.Command.TheVariants.{Stitch, Jump, Trim, Stop}
 use Rattle.design_model.specs.declared.point.Point.{Point}
+use Rattle.design_model.specs.Acts.{numbered}
 use Rattle.design_model.specs.Designs.{DesignValue}
+use Rattle.design_model.specs.Points.{origin}
 use Rattle.format_traits.specs.declared.fault.WriteFault.TheVariants as fault
 use Rattle.exp_codec.specs.declared.exp.TheConstants.{LIMIT}
-use Rattle.exp_codec.specs.Writing.{writes}
+use Rattle.format_traits.specs.Refusals.{refusal_at}
+use Rattle.exp_codec.specs.Format.{exp}
+use Rattle.exp_codec.specs.Writing.{reach, writes}
 
 abbrev pub point : ℤ → ℤ → Point
 point x y = record { x = x; y = y }
@@ -14,6 +19,9 @@ point x y = record { x = x; y = y }
 -- a design without label and threads
 abbrev pub sewn : List Command → DesignValue
 sewn commands = record { label = []; threads = []; commands = commands }
+
+pub known_ending : exp.ending ≡ codes "exp"
+known_ending = refl
 
 -- how far a unit that is written moves on each axis, in tenths of a millimetre
 pub known_limit : LIMIT ≡ 127
@@ -51,3 +59,8 @@ known_float = refl
 pub known_long : writes (sewn (Stitch (point (pos 0) (pos 0)) ∷ Stitch (point (negsuc 4) (pos 128)) ∷ []))
     ≡ Err (fault.StitchTooLong 2)
 known_long = refl
+
+-- a design may have as many stops as commands
+pub known_stops : refusal_at reach (record { loose = true; place = origin; stops = 999999; room = 999999 })
+    (numbered 1000000 act.Stop) ≡ None
+known_stops = refl
