@@ -3,6 +3,7 @@ mod CoordinateFacts
 pub mod ExtentLemmas
 pub mod HeaderLemmas
 pub mod LabelLemmas
+mod LawFacts
 mod LimitFacts
 pub mod ReadingLemmas
 pub mod ThreadLemmas

@@ -1,8 +1,11 @@
--- Worked values of the records of blocks, at offset 0.
-use Rattle.std.proofs.Common.{◌≡◌, ℤ, pos, negsuc, true, false, [], ◌∷◌, map, refl}
+-- Worked values of the records of blocks, at offset 0, and of blocks at other offsets.
+use Rattle.std.proofs.Common.{◌≡◌, ℕ, ℤ, pos, negsuc, true, false, List, [], ◌∷◌, ◌++◌, map, replicate, Err, refl}
 use Rattle.design_model.specs.declared.point.Point.{Point}
+use Rattle.design_model.specs.declared.command.Command.TheVariants as command
 use Rattle.format_traits.specs.declared.event.Event.TheVariants.{Jump, Stitch, Stop, TrimmedJump}
+use Rattle.format_traits.specs.declared.fault.ReadFault.TheVariants as fault
 use Rattle.format_traits.specs.Records.{next, over}
+use Rattle.pec_codec.specs.Reading.{moves_at, reads_at, shown_at}
 use Rattle.pec_codec.specs.Records.{pec_records}
 
 abbrev point : ℤ → ℤ → Point
@@ -29,7 +32,8 @@ pub known_second_mark : pec_records 0 (0x02 ∷ 0xA0 ∷ 0x01 ∷ 0x02 ∷ 0x90 
 known_second_mark = refl
 
 -- the third byte of a stop is not looked at
-pub known_stop : pec_records 0 (0xFE ∷ 0xB0 ∷ 0xFF ∷ 0xFF ∷ []) ≡ next 0 Stop (over true)
+pub known_stop : pec_records 0 (0xFE ∷ 0xB0 ∷ 0xFF ∷ 0x05 ∷ 0x06 ∷ 0xFF ∷ [])
+    ≡ next 0 Stop (next 3 (Stitch (point (pos 5) (pos 6))) (over true))
 known_stop = refl
 
 -- without B0 behind it FE is a coordinate, with both marks
@@ -45,3 +49,16 @@ known_words = refl
 pub known_incomplete : map (pec_records 0) ([] ∷ (0x05 ∷ []) ∷ (0x05 ∷ 0x80 ∷ []) ∷ (0xFE ∷ 0xB0 ∷ []) ∷ (0xFE ∷ []) ∷ [])
     ≡ over false ∷ over false ∷ over false ∷ over false ∷ over false ∷ []
 known_incomplete = refl
+
+-- a file that ends before its block, where that begins, and in its header
+pub known_short : (reads_at 4 (7 ∷ 7 ∷ []) ≡ Err (fault.Short 2)) × (reads_at 2 (7 ∷ 7 ∷ []) ≡ Err (fault.Short 2))
+    × (reads_at 2 (7 ∷ 7 ∷ 7 ∷ []) ≡ Err (fault.Short 3)) × (shown_at 4 (7 ∷ 7 ∷ []) ≡ [])
+known_short = (refl, refl, refl, refl)
+
+-- a block behind one byte
+abbrev behind_one : List ℕ
+behind_one = 7 ∷ (replicate 528 32 ++ 0x05 ∷ 0x07 ∷ 0xFF ∷ [])
+
+pub known_behind : (moves_at 1 behind_one ≡ point (pos 5) (pos 7) ∷ [])
+    × (shown_at 1 behind_one ≡ command.Stitch (point (pos 5) (pos 7)) ∷ [])
+known_behind = (refl, refl)

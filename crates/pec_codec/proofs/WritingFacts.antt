@@ -1,5 +1,5 @@
 -- Worked values of what designs are written as.
-use Rattle.std.proofs.Common.{◌≡◌, ◌+◌, ◌*◌, ℤ, pos, negsuc, List, [], ◌∷◌, ◌++◌, length, codes, Err, refl}
+use Rattle.std.proofs.Common.{◌≡◌, ◌+◌, ◌*◌, ℤ, pos, negsuc, List, [], ◌∷◌, ◌++◌, length, map, replicate, codes, Err, refl}
 use Rattle.design_model.specs.declared.command.Command.{Command}
 use Rattle.design_model.specs.declared.command.Command.TheVariants.{Jump, Stitch, Stop, Trim}
 use Rattle.design_model.specs.declared.point.Point.{Point}
@@ -7,7 +7,7 @@ use Rattle.design_model.specs.Designs.{DesignValue}
 use Rattle.design_model.specs.Extents.{extent_of}
 use Rattle.format_traits.specs.declared.fault.WriteFault.TheVariants as fault
 use Rattle.pec_codec.specs.Header.{distance_field, label_of, labels_of, size_fields, threads_in}
-use Rattle.pec_codec.specs.Writing.{block_of, body_of, distance_over, writes}
+use Rattle.pec_codec.specs.Writing.{block_of, body_of, distance_over, thumbnails_of, writes}
 
 abbrev point : ℤ → ℤ → Point
 point x y = record { x = x; y = y }
@@ -72,15 +72,25 @@ known_threads = refl
 pub known_label : label_of (codes "LA:Rose " ++ 1 ∷ codes "           ") ≡ codes "Rose ?"
 known_label = refl
 
-pub known_no_label : label_of (codes "LB:Rose            ") ≡ []
+pub known_no_label : map label_of (codes "LB:Rose            " ∷ codes "LA;Rose            " ∷ codes "la:Rose            "
+    ∷ codes " LA:Rose           " ∷ []) ≡ [] ∷ [] ∷ [] ∷ [] ∷ []
 known_no_label = refl
 
--- a whole block: its header, its records and three thumbnails
+-- it has sixteen places
+pub known_long_label : label_of (codes "LA:Roses of Damascus") ≡ codes "Roses of Damascu"
+known_long_label = refl
+
+-- blank thumbnails of the whole and of two blocks
+pub known_thumbnails : thumbnails_of 1 ≡ replicate 684 0
+known_thumbnails = refl
+
+-- a whole block: its header, its records and its thumbnails
 pub known_length : length (block_of blocks) ≡ 528 + 19 + 4 * 228
 known_length = refl
 
-pub known_square_length : length (block_of square) ≡ 999
-known_square_length = refl
+pub known_square_block : block_of square ≡ labels_of square 0 ++ (replicate 462 32
+    ++ (distance_field 31 ++ (size_fields (extent_of square) ++ (body_of square ++ replicate 456 0))))
+known_square_block = refl
 
 -- a stitch of 2048 is refused
 pub known_long_stitch : writes (sewn (Stitch (point (pos 0) (pos 0)) ∷ Stitch (point (pos 2048) (pos 0)) ∷ []))
