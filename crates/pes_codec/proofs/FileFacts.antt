@@ -1,5 +1,5 @@
 -- Worked values of files.
-use Rattle.std.proofs.Common.{◌≡◌, ℕ, pos, true, List, [], ◌∷◌, ◌++◌, length, replicate, codes, Err, IsOkAnd, refl}
+use Rattle.std.proofs.Common.{◌≡◌, ℕ, pos, true, List, [], ◌∷◌, ◌++◌, length, take, replicate, codes, Err, IsOkAnd, refl}
 use Rattle.design_model.specs.declared.command.Command.TheVariants.{Stitch}
 use Rattle.design_model.specs.declared.point.Point.{Point}
 use Rattle.design_model.specs.Designs.{DesignValue}
@@ -7,12 +7,16 @@ use Rattle.design_model.specs.Points.{origin}
 use Rattle.format_traits.specs.declared.fault.ReadFault.TheVariants as fault
 use Rattle.pes_codec.specs.declared.front.TheConstants.{OFFSET_END, PEC_BLOCK}
 use Rattle.pes_codec.specs.Files.{block_offset, pec_front, pes_front}
+use Rattle.pes_codec.specs.Formats.{pec, pes}
 use Rattle.pes_codec.specs.Reading.{pec_moves, pec_reads, pec_shown, pes_moves, pes_reads, pes_shown}
 use Rattle.pes_codec.specs.Writing.{pec_writes, pes_writes}
 
 -- one stitch at the origin
 abbrev stitch : DesignValue
 stitch = record { label = []; threads = []; commands = Stitch origin ∷ [] }
+
+pub known_formats : (pec.ending ≡ codes "pec") × (pes.ending ≡ codes "pes") × (pec.limit ≡ 2047) × (pes.limit ≡ 2047)
+known_formats = (refl, refl, refl, refl)
 
 pub known_pes_front : pes_front ≡ 0x23 ∷ 0x50 ∷ 0x45 ∷ 0x53 ∷ 0x30 ∷ 0x30 ∷ 0x30 ∷ 0x31 ∷ 0x16 ∷ 0x00 ∷ 0x00 ∷ 0x00
     ∷ 0x00 ∷ 0x00 ∷ 0x00 ∷ 0x00 ∷ 0x00 ∷ 0x00 ∷ 0x00 ∷ 0x00 ∷ 0x00 ∷ 0x00 ∷ []
@@ -23,6 +27,11 @@ known_pec_length = refl
 
 pub known_pes_length : IsOkAnd (pes_writes stitch) (λ bytes. length bytes ≡ 1009)
 known_pes_length = refl
+
+-- the front stands before the block
+pub known_begins : IsOkAnd (pec_writes stitch) (λ bytes. take 11 bytes ≡ pec_front ++ codes "LA:")
+    × IsOkAnd (pes_writes stitch) (λ bytes. take 25 bytes ≡ pes_front ++ codes "LA:")
+known_begins = (refl, refl)
 
 pub known_pec_front : pec_front ≡ 0x23 ∷ 0x50 ∷ 0x45 ∷ 0x43 ∷ 0x30 ∷ 0x30 ∷ 0x30 ∷ 0x31 ∷ []
 known_pec_front = refl
