@@ -3,6 +3,7 @@ pub mod KeepingLemmas
 pub mod LabelLemmas
 pub mod EndingLemmas
 pub mod PointLemmas
+mod LawFacts
 mod LimitFacts
 mod PlacingFacts
 pub mod StreamLemmas

@@ -1,14 +1,17 @@
 -- Worked values of hops, parts, rooms and refusals.
-use Rattle.std.proofs.Common.{◌≡◌, ℕ, ◌+◌, ℤ, pos, negsuc, Bool, true, false, [], ◌∷◌, map, Some, None, refl}
+use Rattle.std.proofs.Common.{◌≡◌, ℕ, ◌+◌, ℤ, pos, negsuc, Bool, true, false, List, [], ◌∷◌, map, replicate, Some, None, refl, le_of_eq, lit≤}
 use Rattle.design_model.specs.declared.act.Act.TheVariants.{Needle, Trim, Stop}
 use Rattle.design_model.specs.declared.act.NumberedAct.{NumberedAct}
 use Rattle.design_model.specs.declared.point.Point.{Point}
+use Rattle.design_model.specs.declared.command.Command.TheVariants as command
 use Rattle.design_model.specs.Acts.{numbered}
+use Rattle.design_model.specs.Points.{origin}
 use Rattle.format_traits.specs.declared.fault.WriteFault.TheVariants as fault
 use Rattle.format_traits.specs.declared.standing.Reach.{Reach}
 use Rattle.format_traits.specs.declared.standing.Standing.{Standing}
 use Rattle.format_traits.specs.LabelFields.{label_field, label_in, shown}
 use Rattle.format_traits.specs.Placing.{hops, parts}
+use Rattle.format_traits.specs.PlainDesigns.{IsPlain, are_plain_from}
 use Rattle.format_traits.specs.Refusals.{first_refusal, refusal_at}
 use Rattle.format_traits.specs.Rooms.{act_room, loose_room, needle_room, room_of}
 
@@ -102,6 +105,19 @@ known_float_first = refl
 
 pub known_stop_first : refusal_at narrow (crowded 1000000) (numbered 7 Stop) ≡ Some (fault.TooManyStops 7)
 known_stop_first = refl
+
+-- plain: needles within the limit but for loose ones, which lie anywhere, and no float
+abbrev are_plain : List NumberedAct → Bool
+are_plain acts = are_plain_from 121 true origin acts
+
+pub known_plain : map are_plain ((needle 1 (pos 999) false ∷ needle 2 (pos 1120) false ∷ numbered 3 Trim ∷ needle 4 (pos 9) false
+    ∷ numbered 5 Stop ∷ needle 6 (pos 999) false ∷ []) ∷ (needle 1 (pos 999) false ∷ needle 2 (pos 1121) false ∷ [])
+    ∷ (needle 1 (pos 9) false ∷ needle 3 (pos 9) true ∷ []) ∷ []) ≡ true ∷ false ∷ false ∷ []
+known_plain = refl
+
+-- 254 stops may be all
+pub known_plain_stops : IsPlain 121 (record { label = []; threads = []; commands = replicate 254 command.Stop })
+known_plain_stops = record { needles = refl; stops = le_of_eq refl; room = lit≤ tt }
 
 -- a label field: filled with spaces, read without them, and strange bytes read as question marks
 pub known_field : label_in (label_field (65 ∷ 32 ∷ 66 ∷ [])) ≡ 65 ∷ 32 ∷ 66 ∷ []

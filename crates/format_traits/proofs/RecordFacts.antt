@@ -1,5 +1,5 @@
 -- Worked values of records, and of how acts are spelled.
-use Rattle.std.proofs.Common.{◌≡◌, ℕ, ℤ, pos, negsuc, true, false, [], ◌∷◌, Some, None, Ok, Err, refl}
+use Rattle.std.proofs.Common.{◌≡◌, ℕ, ℤ, pos, negsuc, true, false, [], ◌∷◌, length, map, take, drop, Some, None, Ok, Err, refl}
 use Rattle.design_model.specs.declared.act.Act.TheVariants.{Needle, Trim as TrimAct, Stop as StopAct}
 use Rattle.design_model.specs.declared.command.Command.TheVariants.{Stitch, Jump, Trim, Stop}
 use Rattle.design_model.specs.declared.point.Point.{Point}
@@ -7,7 +7,8 @@ use Rattle.design_model.specs.Acts.{numbered}
 use Rattle.format_traits.specs.declared.event.Event.TheVariants as event
 use Rattle.format_traits.specs.declared.fault.ReadFault.TheVariants as fault
 use Rattle.format_traits.specs.declared.standing.Reach.{Reach}
-use Rattle.format_traits.specs.Records.{Records, over, refused, next, course_of, moves_from, moves_of, reads_from}
+use Rattle.format_traits.specs.Layouts.{Layout, given_by, reads_by}
+use Rattle.format_traits.specs.Records.{Records, over, refused, next, course_of, cuts, given_from, given_of, moves_from, moves_of, reads_from}
 use Rattle.format_traits.specs.Spellings.{Spelling, records_of}
 
 abbrev pub point : ℤ → ℤ → Point
@@ -69,6 +70,52 @@ known_moves_kept = refl
 
 pub known_moves_refused : moves_from 999999 (point (pos 0) (pos 0)) (cut_to (pos 5)) ≡ []
 known_moves_refused = refl
+
+-- the commands before a refusal are given, and of a record those before the one that is refused
+pub known_given : given_of all_kinds ≡ Stitch (point (pos 1) (pos 0)) ∷ Jump (point (pos 1) (pos 2)) ∷ Trim ∷ Jump (point (pos 2) (pos 3))
+    ∷ Trim ∷ Stop ∷ Stop ∷ Stop ∷ Jump (point (pos 0) (pos 3)) ∷ []
+known_given = refl
+
+pub known_given_before : map given_of (too_far ∷ cut_to (pos 32768) ∷ []) ≡ (Jump (point (pos 30001) (pos 0)) ∷ []) ∷ (Trim ∷ []) ∷ []
+known_given_before = refl
+
+pub known_given_room : map (λ count. given_from count (point (pos 0) (pos 0)) (cut_to (pos 5))) (999998 ∷ 999999 ∷ 1000000 ∷ [])
+    ≡ (Trim ∷ Jump (point (pos 5) (pos 0)) ∷ []) ∷ (Trim ∷ []) ∷ [] ∷ []
+known_given_room = refl
+
+-- the commands of records before are counted
+abbrev two_records : Records
+two_records = next 7 event.Trim (next 8 (event.Jump (point (pos 5) (pos 0))) (over true))
+
+pub known_counted : (reads_from 999999 (point (pos 0) (pos 0)) two_records ≡ Err (fault.TooMany 8))
+    × (given_from 999999 (point (pos 0) (pos 0)) two_records ≡ Trim ∷ []) × (moves_from 999999 (point (pos 0) (pos 0)) two_records ≡ [])
+known_counted = (refl, refl, refl)
+
+-- which events trim or stop
+pub known_cuts : map cuts (event.Stitch (point (pos 0) (pos 0)) ∷ event.Jump (point (pos 0) (pos 0))
+    ∷ event.TrimmedJump (point (pos 0) (pos 0)) ∷ event.Trim ∷ event.Stop ∷ event.StopBy (point (pos 0) (pos 0)) ∷ [])
+    ≡ false ∷ false ∷ true ∷ true ∷ true ∷ true ∷ []
+known_cuts = refl
+
+-- a header of a label and a thread, and records that stitch to where their number and their offset say
+abbrev two_bytes : Layout
+two_bytes = record {
+  header = 2;
+  label = take 1;
+  threads = λ bytes. take 1 (drop 1 bytes);
+  records = λ at bytes. next at (event.Stitch (point (pos (length bytes)) (pos at))) (over false);
+}
+
+-- the header is short, alone, and before a byte at the offset 7
+pub known_layout : map (reads_by two_bytes 5) ((65 ∷ []) ∷ (65 ∷ 9 ∷ []) ∷ (65 ∷ 9 ∷ 1 ∷ []) ∷ [])
+    ≡ Err (fault.Short 6)
+    ∷ Ok (record { design = record { label = 65 ∷ []; threads = 9 ∷ []; commands = Stitch (point (pos 0) (pos 7)) ∷ [] }; ended = false })
+    ∷ Ok (record { design = record { label = 65 ∷ []; threads = 9 ∷ []; commands = Stitch (point (pos 1) (pos 7)) ∷ [] }; ended = false })
+    ∷ []
+known_layout = refl
+
+pub known_layout_given : map (given_by two_bytes 5) ((65 ∷ []) ∷ (65 ∷ 9 ∷ []) ∷ []) ≡ [] ∷ (Stitch (point (pos 0) (pos 7)) ∷ []) ∷ []
+known_layout_given = refl
 
 -- a refusal that a format tells
 pub known_refusal : course_of (next 0 event.Trim (refused (fault.Control 4))) ≡ Err (fault.Control 4)

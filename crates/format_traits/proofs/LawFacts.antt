@@ -1,0 +1,72 @@
+-- What no law lets pass, and endings.
+use Rattle.std.proofs.Common.{◌≡◌, ℕ, pos, true, false, List, [], ◌∷◌, None, Result, Ok, Err, codes, refl, arith, sym, true≢false}
+use Rattle.design_model.specs.declared.act.Act.TheVariants as act
+use Rattle.design_model.specs.declared.command.Command.TheVariants.{Stitch, Trim}
+use Rattle.design_model.specs.Designs.{DesignValue}
+use Rattle.design_model.specs.Points.{origin}
+use Rattle.format_traits.specs.declared.fault.ReadFault.{ReadFault}
+use Rattle.format_traits.specs.declared.fault.ReadFault.TheVariants as read
+use Rattle.format_traits.specs.declared.fault.WriteFault.{WriteFault}
+use Rattle.format_traits.specs.declared.fault.WriteFault.TheVariants as write
+use Rattle.format_traits.specs.declared.loaded.Loaded.{Loaded}
+use Rattle.format_traits.specs.Laws.{IsAgain, IsEnding, MovesWithin, Reads, Writes}
+use Rattle.format_traits.specs.Meanings.{Meaning}
+use Rattle.format_traits.specs.Spellings.{RefusedAs}
+use Rattle.format_traits.proofs.EndingFacts.{named}
+
+-- an ending has a byte, and no capital
+pub known_ending : IsEnding (codes "m4")
+known_ending = record { some = omega arith; spelled = refl }
+
+pub known_no_ending : IsEnding [] → ⊥
+known_no_ending ending = omega (arith, ending.some)
+
+pub known_capital : IsEnding (codes "dsT") → ⊥
+known_capital ending = true≢false (sym ending.spelled)
+
+-- no answer but want of memory stands for another one
+abbrev want : Result Loaded ReadFault
+want = Err read.Memory
+
+pub known_reads : (Reads want (Err (read.Short 7)) → ⊥) × (Reads want (Err (read.Signature 7)) → ⊥) × (Reads want (Err (read.Sequin 7)) → ⊥)
+    × (Reads want (Err (read.Control 7)) → ⊥) × (Reads want (Err (read.Range 7)) → ⊥) × (Reads want (Err (read.TooMany 7)) → ⊥)
+known_reads = (λ is. cc, λ is. cc, λ is. cc, λ is. cc, λ is. cc, λ is. cc)
+
+abbrev unwritten : Result (List ℕ) WriteFault
+unwritten = Err write.Memory
+
+pub known_writes : (Writes unwritten (Ok []) → ⊥) × (Writes unwritten (Err (write.StitchTooLong 7)) → ⊥)
+    × (Writes unwritten (Err (write.FloatTooLong 7)) → ⊥) × (Writes unwritten (Err (write.TooManyStops 7)) → ⊥)
+    × (Writes unwritten (Err (write.TooLong 7)) → ⊥)
+known_writes = (λ is. cc, λ is. cc, λ is. cc, λ is. cc, λ is. cc)
+
+pub known_refused : (RefusedAs None (write.StitchTooLong 7) → ⊥) × (RefusedAs None (write.FloatTooLong 7) → ⊥)
+    × (RefusedAs None (write.TooManyStops 7) → ⊥) × (RefusedAs None (write.TooLong 7) → ⊥)
+known_refused = (λ is. cc, λ is. cc, λ is. cc, λ is. cc)
+
+-- one stitch, and the same with a trim
+abbrev stitch : DesignValue
+stitch = record { label = []; threads = []; commands = Stitch origin ∷ [] }
+
+abbrev trimmed : DesignValue
+trimmed = record { label = []; threads = []; commands = Stitch origin ∷ Trim ∷ [] }
+
+-- what reads again has all acts, and an end
+pub known_lost : IsAgain trimmed (record { design = stitch; ended = true }) → ⊥
+known_lost again = fewer again.acts
+  where
+    fewer : act.Needle origin false ∷ [] ≡ act.Needle origin false ∷ act.Trim ∷ [] → ⊥
+    fewer is = cc
+
+pub known_unended : IsAgain stitch (record { design = stitch; ended = false }) → ⊥
+known_unended again = true≢false (sym again.ended)
+
+-- a format with the limit 121 whose files move by 121, or farther
+abbrev moving : ℕ → Meaning
+moving x = record (named []) { moves = λ bytes. record { x = pos x; y = pos 0 } ∷ [] }
+
+pub known_within : MovesWithin (moving 121) []
+known_within = refl
+
+pub known_beyond : MovesWithin (moving 122) [] → ⊥
+known_beyond within = true≢false (sym within)
