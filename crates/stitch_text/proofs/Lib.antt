@@ -13,6 +13,7 @@ pub mod KeptLemmas
 mod FloatLemmas
 mod WriterLemmas
 mod ListFacts
+mod LawFacts
 mod LineFacts
 mod ReadingFacts
 mod StageFacts

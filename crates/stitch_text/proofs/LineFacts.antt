@@ -29,6 +29,11 @@ known_full = refl
 pub known_over_full : line_said (codes "needle 0 123456789012345678901234") ≡ None
 known_over_full = refl
 
+-- where one word is no number the line says nothing, however far the other one lies
+pub known_no_numbers : (line_said (codes "needle 1234567890 x") ≡ None) × (line_said (codes "needle x 1234567890") ≡ None)
+    × (line_said (codes "float 7 x") ≡ None) × (line_said (codes "float 7 -1234567890") ≡ Some line.Far)
+known_no_numbers = (refl, refl, refl, refl)
+
 -- leading zeros, -0, a plus sign, further spaces and words
 pub known_leading_zero : line_said (codes "needle 03 0") ≡ None
 known_leading_zero = refl
