@@ -1,1 +1,2 @@
+mod LoadingFacts
 pub mod LoadLemmas
