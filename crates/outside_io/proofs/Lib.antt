@@ -1,3 +1,4 @@
+mod BlameFacts
 mod CountFacts
 mod LimitFacts
 mod CauseFacts

@@ -1,9 +1,10 @@
 -- Worked values of stores and sinks in memory: the name `a` (97) has a file of two bytes in a room of
 -- three, and the name `b` (98) has room for two bytes and no file.
-use Rattle.std.proofs.Common.{◌≡◌, ℕ, List, [], ◌∷◌, Some, None, true, false, refl}
-use Rattle.outside_io.specs.MemSinks.{MemSinkValue, refuses}
+use Rattle.std.proofs.Common.{◌≡◌, ℕ, List, [], ◌∷◌, Some, None, Ok, Err, true, false, refl, ap, arith, true≢false}
+use Rattle.outside_io.specs.declared.store.Failed.{Failed}
+use Rattle.outside_io.specs.MemSinks.{MemPuts, MemSinkValue, empty_sink, refuses}
 use Rattle.outside_io.specs.MemEntries.{EntryValue, file_in, room_in, overflows, with_added, with_content, with_file, with_room}
-use Rattle.outside_io.specs.MemStores.{is_listed}
+use Rattle.outside_io.specs.MemStores.{MemCreates, MemReads, MemStoreValue, empty_store, is_listed}
 
 pub two : List EntryValue
 two =
@@ -96,3 +97,33 @@ known_full = refl
 pub known_refused : refuses (sink 1) (5 ∷ []) ≡ true
 unfolding sink
 known_refused = refl
+
+-- the first call of a new store and the first put of a new sink have the number 1, and the sink has its room
+pub known_first : is_listed (1 ∷ []) empty_store.calls ≡ true
+known_first = refl
+
+pub known_first_put : refuses (record (empty_sink 2) { failing = 1 ∷ [] }) [] ≡ true
+known_first_put = refl
+
+pub known_room_of_sink : (refuses (empty_sink 2) (5 ∷ 6 ∷ []) ≡ false) × (refuses (empty_sink 2) (5 ∷ 6 ∷ 7 ∷ []) ≡ true)
+known_room_of_sink = (refl, refl)
+
+-- the put that fails is counted
+pub known_put_counted : (f : Failed) (new : MemSinkValue) → MemPuts {T = ℕ} (sink 1) new (5 ∷ []) (Err f) → new.calls ≡ 2
+unfolding sink
+known_put_counted f new puts = ap (λ (s : MemSinkValue). s.calls) puts.1
+
+-- a store of these entries; no file is made without room, and all bytes that are there are read
+abbrev store : MemStoreValue
+store = record { entries = two; failing = []; calls = 0; faults = 0; blame = None }
+
+pub known_not_made : (new : MemStoreValue) → MemCreates {T = ℕ} store new (99 ∷ []) (Ok 0) → ⊥
+unfolding two
+known_not_made new made = true≢false made.0
+
+pub known_read : (new : MemStoreValue) (after : List ℕ) → MemReads store new (97 ∷ []) 1 (9 ∷ 9 ∷ []) after (Ok 0) → ⊥
+unfolding two
+known_read new after reads = one reads.3
+  where
+    one : ◌≡◌ {A = ℕ} 0 1 → ⊥
+    one is = omega (arith, is)
