@@ -1,8 +1,9 @@
 -- Worked values of the needles of each block.
-use Rattle.std.proofs.Common.{◌≡◌, pos, [], ◌∷◌, refl}
+use Rattle.std.proofs.Common.{◌≡◌, pos, false, [], ◌∷◌, map, refl}
+use Rattle.design_model.specs.declared.act.Act.TheVariants as act
 use Rattle.design_model.specs.declared.command.Command.TheVariants.{Stitch, Jump, Trim, Stop}
-use Rattle.design_model.specs.Acts.{acts_along}
-use Rattle.design_model.specs.Blocks.{needles_by_block}
+use Rattle.design_model.specs.Acts.{acts_along, bare}
+use Rattle.design_model.specs.Blocks.{blocks_of, needles_by_block}
 use Rattle.design_model.proofs.ActFacts.{at}
 
 -- a design without commands has one block, without needles
@@ -21,3 +22,8 @@ pub known_bare_blocks :
     needles_by_block (acts_along (Stop ∷ Stitch (at (pos 1)) ∷ Stop ∷ Trim ∷ Stop ∷ []))
     ≡ 0 ∷ 1 ∷ 0 ∷ 0 ∷ []
 known_bare_blocks = refl
+
+-- the acts of blocks in order; the stops are in none
+pub known_acts : map bare (blocks_of (acts_along (Stitch (at (pos 9)) ∷ Trim ∷ Stop ∷ Stitch (at (pos 5)) ∷ Stitch (at (pos 6)) ∷ [])))
+    ≡ (act.Needle (at (pos 9)) false ∷ act.Trim ∷ []) ∷ (act.Needle (at (pos 5)) false ∷ act.Needle (at (pos 6)) false ∷ []) ∷ []
+known_acts = refl

@@ -3,7 +3,7 @@ use Rattle.std.proofs.Common.{◌≡◌, ℤ, pos, negsuc, [], ◌∷◌, Some, 
 use Rattle.design_model.specs.declared.command.Command.TheVariants.{Stitch, Jump, Trim, Stop}
 use Rattle.design_model.specs.declared.point.Point.{Point}
 use Rattle.design_model.specs.Acts.{acts_along}
-use Rattle.design_model.specs.Extents.{extent_of_points, height_of, needle_points, width_of}
+use Rattle.design_model.specs.Extents.{Bounds, extent_of_points, height_of, needle_points, width_of}
 
 -- the point with those coordinates
 abbrev pub place : ℤ → ℤ → Point
@@ -38,3 +38,10 @@ known_height = refl
 
 pub known_none : width_of None ≡ height_of None
 known_none = refl
+
+-- a point has an extent
+pub known_some : Bounds (place (pos 3) (pos 4) ∷ []) None → ⊥
+known_some none = some none
+  where
+    some : place (pos 3) (pos 4) ∷ [] ≡ [] → ⊥
+    some is = cc

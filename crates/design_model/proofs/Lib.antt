@@ -1,5 +1,6 @@
 mod ActFacts
 mod LimitFacts
+mod PointFacts
 pub mod ActLemmas
 mod CountFacts
 mod ExtentFacts

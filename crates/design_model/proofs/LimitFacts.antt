@@ -1,12 +1,14 @@
 -- The limits of designs, in numbers, and of the whole numbers that words spell. Points are in tenths
 -- of a millimetre, labels in bytes.
-use Rattle.std.proofs.Common.{◌≡◌, pos, negsuc, true, false, [], ◌∷◌, map, refl, arith}
+use Rattle.std.proofs.Common.{◌≡◌, ◌≢◌, ℕ, ◌-◌, ◌≤◌, pos, negsuc, true, false, IsTrue, List, [], ◌∷◌, length, map, All, Some, None, slice_get, refl, arith}
+use Rattle.std.specs.List.{list_all}
 use Rattle.design_model.specs.declared.command.Command.TheVariants.{Stitch, Jump, Trim, Stop}
 use Rattle.design_model.specs.declared.design.TheConstants.{MAX_COMMANDS, MAX_LABEL, MAX_THREADS}
 use Rattle.design_model.specs.declared.point.Point.{Point}
 use Rattle.design_model.specs.declared.point.TheConstants.{JUMP_LIMIT, NEEDLE_LIMIT}
 use Rattle.design_model.specs.declared.whole_number.TheConstants.{MAX_WHOLE}
-use Rattle.design_model.specs.Commands.{takes_point}
+use Rattle.design_model.specs.Commands.{is_in_range, moved_to, takes_point, target_of}
+use Rattle.design_model.specs.Designs.{DesignValue, KeepsLimits, thread_of}
 use Rattle.design_model.specs.Labels.{IsLabel, IsPrintable}
 
 -- how far a needle and a jump may reach on each axis
@@ -35,7 +37,29 @@ known_jump_point = refl
 pub known_no_point : takes_point Trim far ∷ takes_point Stop far ∷ [] ≡ false ∷ false ∷ []
 known_no_point = refl
 
+-- so far they may lie
+pub known_ranges : map is_in_range (Stitch far ∷ Stitch farther ∷ Jump farther ∷ Jump too_far ∷ Trim ∷ Stop ∷ [])
+    ≡ true ∷ false ∷ true ∷ false ∷ true ∷ true ∷ []
+known_ranges = refl
+
+-- where they lead, and where they lead once they are moved
+pub known_targets : map target_of (Stitch far ∷ Jump farther ∷ Trim ∷ Stop ∷ []) ≡ Some far ∷ Some farther ∷ None ∷ None ∷ []
+known_targets = refl
+
+pub known_moved : map (λ command. moved_to command far) (Stitch farther ∷ Jump farther ∷ Trim ∷ Stop ∷ [])
+    ≡ Stitch far ∷ Jump far ∷ Trim ∷ Stop ∷ []
+known_moved = refl
+
+-- the threads of blocks: two that are kept, and from 1 to 64 by their places
+pub known_threads_of : map (thread_of (record { label = []; threads = 9 ∷ 200 ∷ []; commands = [] })) (0 ∷ 1 ∷ 2 ∷ 63 ∷ 64 ∷ [])
+    ≡ 9 ∷ 200 ∷ 3 ∷ 64 ∷ 1 ∷ []
+known_threads_of = refl
+
 -- how much a design holds
+pub known_full : (d : DesignValue) → IsLabel d.label → length d.threads ≤ 255 → length d.commands ≤ 1000000
+    → IsTrue (list_all is_in_range d.commands) → KeepsLimits d
+known_full d label threads count in_range = record { label = label; threads = threads; count = count; in_range = in_range }
+
 pub known_commands : MAX_COMMANDS ≡ 1000000
 known_commands = refl
 
@@ -65,3 +89,8 @@ known_delete printable = omega (arith, printable.to_tilde)
 -- a label has no space at its end
 pub known_space_at_end : IsLabel (65 ∷ 32 ∷ []) → ⊥
 known_space_at_end label = label.trimmed refl
+
+-- all else of up to 16 such bytes is one
+pub known_labels : (label : List ℕ) → length label ≤ 16 → All IsPrintable label → slice_get label (length label - 1) ≢ Some 32
+    → IsLabel label
+known_labels label short printable trimmed = record { short = short; printable = printable; trimmed = trimmed }
