@@ -1,8 +1,10 @@
 -- Worked values of sections: where lines are cut, and where they aren't.
-use Rattle.std.proofs.Common.{◌≡◌, ℕ, pos, true, false, List, [], ◌∷◌, ◌++◌, refl}
+use Rattle.std.proofs.Common.{◌≡◌, ℕ, ◌≤◌, pos, Bool, true, false, List, [], ◌∷◌, ◌++◌, length, map, All, None, Some, refl, arith}
 use Rattle.design_model.specs.declared.point.Point.{Point}
 use Rattle.line_sections.specs.Lines.{LineValue}
-use Rattle.line_sections.specs.Sections.{all_sections, are_whole, lines_through, segments_of}
+use Rattle.line_sections.specs.ListedPoints.{is_again, mark_of}
+use Rattle.line_sections.specs.Sections.{SectionsHaveSegments, WholeLinesStay, all_sections, are_whole, lines_through, sections_of, segments_of}
+use Rattle.line_sections.specs.Spots.{is_same_spot}
 
 abbrev at : ℕ → ℕ → Point
 at x y = record { x = pos x; y = pos y }
@@ -62,3 +64,30 @@ known_loop = refl
 -- segments by their ends
 pub known_segments : segments_of (at 0 0 ∷ at 3 0 ∷ at 3 4 ∷ []) ≡ (at 0 0, at 3 0) ∷ (at 3 0, at 3 4) ∷ []
 known_segments = refl
+
+-- a line of one point is its section, and one without a point has none
+pub known_point : AreCut (lines_through 3 ((at 1 1 ∷ []) ∷ [] ∷ [])) (lines_through 3 ((at 1 1 ∷ []) ∷ []))
+    × (segments_of (at 1 1 ∷ []) ≡ [])
+known_point = (refl, refl)
+
+-- the same place in another block is another spot, and so is another place
+pub known_spots : map (is_same_spot (record { block = 1; at = at 3 4 })) (record { block = 1; at = at 3 4 }
+    ∷ record { block = 0; at = at 3 4 }
+    ∷ record { block = 1; at = at 4 3 } ∷ []) ≡ true ∷ false ∷ false ∷ []
+known_spots = refl
+
+-- from the second time on a spot was listed again
+pub known_marks : map mark_of (0 ∷ 1 ∷ 2 ∷ 3 ∷ []) ≡ None ∷ Some false ∷ Some true ∷ Some true ∷ []
+known_marks = refl
+
+pub known_again : map is_again (None ∷ Some false ∷ Some true ∷ []) ≡ false ∷ false ∷ true ∷ []
+known_again = refl
+
+-- the law on segments speaks of lines of two points, and that on whole lines of those of one
+pub known_two_points : SectionsHaveSegments → (is_cut : Point → Bool) (p q : Point)
+    → All (λ section. 2 ≤ length section) (sections_of is_cut (p ∷ q ∷ []))
+known_two_points law is_cut p q = law is_cut (p ∷ q ∷ []) (omega arith)
+
+pub known_one_point : WholeLinesStay → (lines : List LineValue) → All (λ line. 1 ≤ length line.points) lines
+    → are_whole lines ≡ true → AreCut lines lines
+known_one_point law = law
