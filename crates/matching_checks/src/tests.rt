@@ -3,7 +3,8 @@ mod tables;
 use crate::properties::{cost, distance, fault};
 use crate::tests::tables::{axis, clusters, random, star};
 use crate::triangles::keeps_triangles;
-use blossom_match::{DistTable, Matching, match_all};
+use blossom_match::{DistTable, Matching, Moat, Moats, Pair, Pairs, match_all};
+use design_model::{Memory, Numbers};
 use std::alloc::Global;
 use std::test::Fail;
 
@@ -106,6 +107,69 @@ fn random_tables_have_the_totals_of_another_program(rt: HostRuntime) -> Result<(
         let m = matched(alloc, &t)?;
         assert_eq!(rt; fault(&t, &m), "", "{n} {seed}");
         assert_eq!(rt; cost(&t, &m), *total, "{n} {seed}");
+    }
+    Ok(())
+}
+
+/// No further member of a moat.
+const NONE: u32 = u32::MAX;
+
+/// A matching of these pairs, and of moats by their widths and up to three members.
+fn made(alloc: Global, pairs: &[[u32; 2]], moats: &[[u32; 4]]) -> Result<Matching, Memory> {
+    let mut m = Matching {
+        pairs: Pairs::new(alloc),
+        moats: Moats::new(alloc),
+    };
+    for [a, b] in pairs {
+        m.pairs.push(Pair { a: *a, b: *b })?;
+    }
+    for [width, x, y, z] in moats {
+        let mut members = Numbers::new(alloc);
+        for member in [*x, *y, *z] {
+            if member != NONE {
+                members.push(member)?;
+            }
+        }
+        m.moats.push(Moat {
+            members,
+            width: *width,
+        })?;
+    }
+    Ok(m)
+}
+
+#[test]
+fn the_first_property_that_fails_is_told(rt: HostRuntime) -> Result<(), Fail> {
+    let alloc = rt.alloc();
+    let t = star(alloc, 4, 1)?;
+    let zero = [1, 0, NONE, NONE];
+    let one = [1, 1, NONE, NONE];
+    let two = [1, 2, NONE, NONE];
+    let three = [1, 3, NONE, NONE];
+    let unpaired = "a place is not in exactly one pair";
+    let even = "a moat is even, or without a width, or holds a place twice";
+    let crossing = "two moats are alike, or neither nested nor disjoint";
+    let heavy = "two places carry too much";
+    let unpaid = "the widths are not twice the cost";
+    let both = [[0, 1], [2, 3]];
+    for (pairs, moats, told) in [
+        (both.as_slice(), [zero, one, two, three].as_slice(), ""),
+        (&[[0, 2], [3, 1]], &[zero, one, two, three], ""),
+        (&[[0, 1]], &[zero, one], unpaired),
+        (&[[0, 1], [1, 2]], &[], unpaired),
+        (&[[0, 1], [2, 3], [4, 5]], &[], unpaired),
+        (&both, &[[1, 0, 1, NONE]], even),
+        (&both, &[[0, 0, NONE, NONE]], even),
+        (&both, &[[1, 0, 0, 1]], even),
+        (&both, &[[1, 4, NONE, NONE]], even),
+        (&both, &[zero, zero], crossing),
+        (&both, &[[1, 0, 1, 2], [1, 1, 2, 3]], crossing),
+        (&both, &[[3, 0, NONE, NONE]], heavy),
+        (&both, &[zero, one, two, three, [1, 0, 1, 2]], heavy),
+        (&both, &[zero, one], unpaid),
+    ] {
+        let m = made(alloc, pairs, moats)?;
+        assert_eq!(rt; fault(&t, &m), told, "{pairs:?} {moats:?}");
     }
     Ok(())
 }
