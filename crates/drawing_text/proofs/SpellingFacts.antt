@@ -1,9 +1,10 @@
 -- A worked value of the plain spelling.
-use Rattle.std.proofs.Common.{◌≡◌, ℤ, pos, negsuc, [], ◌∷◌, ◌++◌, codes, refl}
+use Rattle.std.proofs.Common.{◌≡◌, ℤ, pos, negsuc, [], ◌∷◌, ◌++◌, map, codes, refl}
 use Rattle.std.specs.Fmt.{digits}
 use Rattle.design_model.specs.declared.point.Point.{Point}
 use Rattle.line_graph.specs.Drawings.{DrawingValue}
-use Rattle.drawing_text.specs.Spelling.{plain_spelling, plain_spelling2}
+use Rattle.drawing_text.specs.declared.version.Version.TheVariants as version
+use Rattle.drawing_text.specs.Spelling.{header_text, plain_spelling, plain_spelling2}
 
 abbrev pub place : ℤ → ℤ → Point
 place x y = record { x = x; y = y }
@@ -32,3 +33,8 @@ pub known_spelling2 : plain_spelling2 (record strokes { label = []; threads = 5 
     ≡ codes "redwork 2" ++ 10 ∷ (codes "step 25" ++ 10 ∷ (codes "color 5" ++ 10 ∷ (codes "line 0 0 -3 4" ++ 10 ∷ [])))
 unfolding digits
 known_spelling2 = refl
+
+-- the first line of each version
+pub known_headers : map header_text (version.One ∷ version.Two ∷ version.Three ∷ [])
+    ≡ codes "redwork 1" ∷ codes "redwork 2" ∷ codes "redwork 3" ∷ []
+known_headers = refl
