@@ -1,16 +1,17 @@
 -- Worked values of links, chains and traced drawings.
-use Rattle.std.proofs.Common.{◌≡◌, ◌∷◌, [], ◌++◌, ℕ, true, false, pos, codes, List, Ok, Err, refl}
+use Rattle.std.proofs.Common.{◌≡◌, ◌∷◌, [], ℕ, true, false, pos, codes, List, Ok, Err, refl}
 use Rattle.design_model.specs.declared.command.Command.{Command}
 use Rattle.design_model.specs.declared.command.Command.TheVariants as command
 use Rattle.design_model.specs.declared.point.Point.{Point}
 use Rattle.design_model.specs.Designs.{DesignValue}
 use Rattle.line_sections.specs.Lines.{LineValue}
+use Rattle.line_graph.specs.declared.draw_kind.DrawKind.TheVariants as kind
 use Rattle.line_graph.specs.Drawings.{DrawingValue}
 use Rattle.stitch_trace.specs.declared.trace_fault.TraceFault.TheVariants as fault
 use Rattle.design_model.specs.Acts.{acts_of}
 use Rattle.design_model.specs.Blocks.{blocks_of}
 use Rattle.stitch_trace.specs.declared.links.Link.{Link}
-use Rattle.stitch_trace.specs.Laws.{BlockLink, are_distinct, drawn_links, is_one_step, sewn_links}
+use Rattle.stitch_trace.specs.Laws.{BlockLink, IsCount, are_distinct, drawn_links, is_one_step, sewn_links}
 use Rattle.stitch_trace.specs.Traces.{first_word, traced}
 
 -- a place on the cloth
@@ -111,3 +112,7 @@ pub known_distinct : (are_distinct (link (at 0 0) (at 7 0) ∷ link (at 7 0) (at
     × (are_distinct (link (at 0 0) (at 7 0) ∷ link (at 7 0) (at 7 5) ∷ link (at 0 0) (at 7 0) ∷ []) ≡ false)
     × (are_distinct (link (at 0 0) (at 7 0) ∷ link (at 7 0) (at 7 5) ∷ link (at 7 5) (at 7 0) ∷ []) ≡ false)
 known_distinct = (refl, refl, refl)
+
+-- the law on limits speaks of blocks, of lines and of points, and not of cost
+pub known_counts : IsCount kind.TooManyBlocks × IsCount kind.TooManyLines × IsCount kind.TooManyPoints × (IsCount kind.TooMuchCost → ⊥)
+known_counts = (tt, tt, tt, λ count. count)
