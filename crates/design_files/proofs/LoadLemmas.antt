@@ -1,15 +1,12 @@
 -- What was fed so far of a file, and what it comes to at its end.
-use Rattle.std.proofs.Common.{◌≡◌, ℕ, ◌+◌, ◌≤◌, false, List, [], ◌++◌, length, take, Option, Some, Result, Ok, refl, ap, sym, subst, ◌∙◌, arith, length-append, append_assoc, append-nil}
+use Rattle.std.proofs.Common.{◌≡◌, ℕ, ◌+◌, ◌≤◌, List, [], ◌++◌, length, take, Option, Result, refl, ap, sym, subst, ◌∙◌, length-append, append_assoc}
 use Rattle.std.proofs.lemmas.List.{length-take-le}
-use Rattle.outside_io.specs.declared.limits.TheConstants.{MAX_FILE}
-use Rattle.outside_io.specs.Causes.{Stays}
 use Rattle.outside_io.specs.FileParts.{Begins, IsBegun, IsNextPart}
 use Rattle.outside_io.specs.Files.{Files}
-use Rattle.outside_io.specs.Sights.{StoreSight}
 use Rattle.format_traits.specs.declared.fault.ReadFault.{ReadFault}
 use Rattle.format_traits.specs.declared.loaded.Loaded.{Loaded}
 use Rattle.format_traits.specs.Feeding.{Feeding, IsFed, IsFresh}
-use Rattle.design_files.specs.Loading.{IsFedWith, IsWholeFed}
+use Rattle.design_files.specs.Loading.{IsFedWith}
 
 -- so many first bytes of the file were fed
 pub record IsPartFed (reads : List ℕ → Result Loaded ReadFault) (files : Option Files) (name : List ℕ) (at : ℕ) (f : Feeding) : Type 0 where

@@ -1,8 +1,8 @@
 -- What it means to load a file, and to feed it whole.
-use Rattle.std.specs.Prelude.{◌≡◌, ℕ, ◌+◌, ◌≤◌, false, List, [], ◌++◌, length, Option, Result, Ok, Err}
+use Rattle.std.specs.Prelude.{◌≡◌, ℕ, false, List, ◌++◌, length, Result, Ok, Err}
 use Rattle.outside_io.specs.declared.limits.TheConstants.{MAX_FILE}
 use Rattle.outside_io.specs.declared.whole_files.GetFault.{GetFault}
-use Rattle.outside_io.specs.Causes.{ReadsWhole, Stays}
+use Rattle.outside_io.specs.Causes.{ReadsWhole}
 use Rattle.outside_io.specs.Sights.{StoreSight}
 use Rattle.format_traits.specs.declared.fault.ReadFault.{ReadFault}
 use Rattle.format_traits.specs.declared.loaded.Loaded.{Loaded}

@@ -1,4 +1,4 @@
-use Rattle.std.proofs.Common.{◌≡◌, ℕ, ◌-◌, ◌+◌, ◌≤◌, length}
+use Rattle.std.proofs.Common.{◌≡◌, ◌-◌, ◌+◌, ◌≤◌, length}
 use Rattle.outside_io.specs.Causes.{Stays}
 use Rattle.design_files.proofs.LoadLemmas.{IsPartFed}
 use Rattle.design_files.proofs.loading.feed_file.Given as goal
