@@ -32,11 +32,7 @@ pub(crate) fn keep_event(
     match event {
         Event::Stitch(_) => keep_here(design, at, place, event),
         Event::Jump(_) => keep_here(design, at, place, event),
-        _ => {
-            let there = place_after_cut(place, event);
-            keep_cut(design, at, event, there)?;
-            Ok(there)
-        }
+        _ => keep_cut_copied(design, at, place, event),
     }
 }
 
@@ -51,6 +47,36 @@ fn keep_here(design: &mut Design, at: u64, place: Point, event: Event) -> Result
 {
     let there = place_after(place, event);
     keep_commands(design, at, event, there)?;
+    Ok(there)
+}
+
+/// An event of the record at that offset.
+#[derive(Clone, Copy, Debug, PartialEq, Eq)]
+struct EventAt {
+    at: u64,
+    event: Event,
+}
+
+/// The same for an event that trims or stops, with a copy of it: lent itself, it would live in memory all along the
+/// loop, and the place of the answer would be set up there.
+#[inline(always)]
+fn keep_cut_copied(
+    design: &mut Design,
+    at: u64,
+    place: Point,
+    event: Event,
+) -> Result<Point, ReadFault>
+    requires cuts { cuts event ≡ true }
+    requires place { IsTrue (is_within JUMP_LIMIT place) }
+    requires small { IsTrue (list_all (λ move. is_within GREATEST_STEP move) (moves_in event)) }
+    ensures value { Keeps at (commands_of event place) design.old result design.new }
+    ensures place { IfOk result (λ there. there ≡ place_by event place) }
+    ensures range { IfOk result (λ there. IsTrue (is_within JUMP_LIMIT there)) }
+    ensures others { SameButCommands design.old design.new }
+{
+    let copy = EventAt { at, event };
+    let there = place_after_cut(place, copy.event);
+    keep_cut(design, copy.at, copy.event, there)?;
     Ok(there)
 }
 
