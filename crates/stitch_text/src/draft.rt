@@ -1,4 +1,4 @@
-ghost use Rattle.std.specs.Prelude.{◌≡◌, ◌+◌, ◌<◌, ◌≤◌, length, None, Some, IfOk, IsTrue, OnOk};
+ghost use Rattle.std.specs.Prelude.{◌≡◌, ◌+◌, ◌<◌, ◌≤◌, length, None, Some, false, IfOk, IsTrue, OnOk};
 ghost use Rattle.design_model.specs.declared.design.TheConstants.{MAX_COMMANDS};
 ghost use Rattle.design_model.specs.declared.point.TheConstants.{NEEDLE_LIMIT as needle_limit};
 ghost use Rattle.design_model.specs.ActPlaces.{is_act_in_range};
@@ -14,7 +14,7 @@ ghost use Rattle.stitch_text.specs.Readings.{begun};
 
 use crate::list_line::ListLine;
 use crate::stitch_list::{LIMIT, reach};
-use design_model::{Act, Command, Design, Memory, ModelFault, NEEDLE_LIMIT};
+use design_model::{Act, Command, Design, Memory, ModelFault, NEEDLE_LIMIT, Point};
 use format_traits::{ReadFault, Standing, WriteFault};
 use std::alloc::Global;
 
@@ -66,6 +66,24 @@ impl Draft {
         }
     }
 
+    /// Adds a needle that is sewn on, whose line stands at that offset, or tells why it doesn't fit.
+    #[inline(always)]
+    pub(crate) fn take_sewn(&mut self, at: u64, p: Point) -> Result<Option<ReadFault>, Memory>
+        requires sound { IsSound self.old }
+        requires range { IsTrue (is_within needle_limit p) }
+        ensures value { IfOk result
+            (λ fault. Judges at self.old (Some (line.Needle p false)) fault self.new) }
+        ensures sound { IfOk result (λ _. IsSound self.new) }
+    {
+        self.take(
+            at,
+            Act::Needle {
+                at: p,
+                float: false,
+            },
+        )
+    }
+
     /// Adds a stop, and the thread of the block after it.
     fn take_block(&mut self, at: u64, thread: u8) -> Result<Option<ReadFault>, Memory>
         requires { IsSound self.old }
@@ -80,6 +98,7 @@ impl Draft {
     }
 
     /// Adds an act whose line stands at that offset, or tells why it doesn't fit.
+    #[inline(always)]
     fn take(&mut self, at: u64, act: Act) -> Result<Option<ReadFault>, Memory>
         requires sound { IsSound self.old }
         requires act { IsTrue (is_act_in_range act) }
@@ -96,6 +115,7 @@ impl Draft {
 }
 
 /// Why an act can't stand there, if it can't.
+#[inline(always)]
 fn act_fault(at: u64, before: &Standing, act: Act) -> Option<ReadFault>
     requires place { IsTrue (is_within needle_limit before.now.place) }
     requires act { IsTrue (is_act_in_range act) }
@@ -124,6 +144,7 @@ fn wants_thread(act: Act) -> bool
 }
 
 /// Adds the commands of an act.
+#[inline(always)]
 fn push_act(design: &mut Design, act: Act) -> Result<(), Memory>
     requires room { length design.old.commands + length (commands_of act) ≤ MAX_COMMANDS }
     requires act { IsTrue (is_act_in_range act) }

@@ -4,9 +4,9 @@ ghost use Rattle.stitch_text.specs.ListStages.{IsUnbegun, is_at_acts, is_before_
 
 use crate::draft::Draft;
 use crate::label_line::label_of;
-use crate::list_line::{is_end, line_of, thread_of};
+use crate::list_line::{is_end, line_of, sewn_at, thread_of};
 use crate::list_stage::ListStage;
-use design_model::{Command, Design, Memory};
+use design_model::{Command, Design, Memory, NEEDLE_LIMIT};
 use format_traits::{Decoder, Loaded, ReadFault};
 use std::alloc::Global;
 use std::mem::replace;
@@ -25,7 +25,7 @@ pub struct ListDecoder {
 }
 
 impl ListDecoder {
-    ghost use Rattle.std.specs.Prelude.{◌≡◌, ◌+◌, ◌<◌, ◌^◌, ◌∷◌, [], IfOk, OnOk, length};
+    ghost use Rattle.std.specs.Prelude.{◌≡◌, ◌+◌, ◌<◌, ◌^◌, ◌∷◌, [], IfOk, OnOk, false, length};
     ghost use Rattle.format_traits.specs.Streams.{Takes};
     ghost use Rattle.stitch_text.specs.declared.list_stage.ListStage.TheVariants as stage;
     ghost use Rattle.stitch_text.specs.ListStages.{TakesLine, TakesLines, parts_said, so_far_at, stream_at};
@@ -63,15 +63,30 @@ impl ListDecoder {
             (parts_said self.new.draft self.new.stage) at line.now) }
     {
         match self.stage {
+            ListStage::Acts => self.take_act(at, line),
+            _ => {
+                self.take_other(at, line);
+                Ok(())
+            }
+        }
+    }
+
+    /// The same where no line of acts is due. These are few, and so apart from the loop.
+    #[cold]
+    #[inline(never)]
+    fn take_other(&mut self, at: u64, line: &[u8])
+        requires { is_at_acts self.old.stage ≡ false }
+        ensures { TakesLine (parts_said self.old.draft self.old.stage)
+            (parts_said self.new.draft self.new.stage) at line.now }
+    {
+        match self.stage {
             ListStage::First => self.take_first(at, line),
             ListStage::Label => self.take_label(at, line),
             ListStage::Block => self.take_block(at, line),
-            ListStage::Acts => return self.take_act(at, line),
             ListStage::Long(fault) => self.stage = ListStage::Refused(fault),
             ListStage::Ended => self.stage = ListStage::Refused(ReadFault::Control { at }),
-            ListStage::Refused(_) => {}
+            ListStage::Acts | ListStage::Refused(_) => {}
         }
-        Ok(())
     }
 
     fn take_first(&mut self, at: u64, line: &[u8])
@@ -115,6 +130,30 @@ impl ListDecoder {
     }
 
     fn take_act(&mut self, at: u64, line: &[u8]) -> Result<(), Memory>
+        requires { self.old.stage ≡ stage.Acts }
+        ensures { OnOk result (TakesLine (parts_said self.old.draft stage.Acts)
+            (parts_said self.new.draft self.new.stage) at line.now) }
+    {
+        match sewn_at(line) {
+            Some(p) if p.is_within(NEEDLE_LIMIT) => match self.draft.take_sewn(at, p) {
+                Ok(None) => Ok(()),
+                Ok(Some(fault)) => {
+                    self.stage = ListStage::Refused(fault);
+                    Ok(())
+                }
+                Err(Memory) => {
+                    self.stage = ListStage::Refused(ReadFault::Memory);
+                    Err(Memory)
+                }
+            },
+            _ => self.take_act_apart(at, line),
+        }
+    }
+
+    /// The same for any line of acts.
+    #[cold]
+    #[inline(never)]
+    fn take_act_apart(&mut self, at: u64, line: &[u8]) -> Result<(), Memory>
         requires { self.old.stage ≡ stage.Acts }
         ensures { OnOk result (TakesLine (parts_said self.old.draft stage.Acts)
             (parts_said self.new.draft self.new.stage) at line.now) }

@@ -1,4 +1,5 @@
-ghost use Rattle.std.specs.Prelude.{◌≡◌, ◌∷◌, ◌++◌, [], codes, IfSome};
+ghost use Rattle.std.specs.Prelude.{◌≡◌, ◌∷◌, ◌++◌, [], Some, codes, false, IfSome};
+ghost use Rattle.stitch_text.specs.declared.list_line.ListLine.TheVariants as line_of_list;
 ghost use Rattle.stitch_text.specs.ListLines.{block_said, line_said, needle_said, needle_word, word_said, words_said};
 ghost use Rattle.stitch_text.specs.Readings.{is_end as is_last, thread_said};
 ghost use Rattle.text_parts.specs.Parts.{words_in};
@@ -32,13 +33,25 @@ pub(crate) fn line_of(line: &[u8]) -> Option<ListLine>
     if line.len() > MAX_LINE {
         return None;
     }
-    match after_needle(line) {
-        Some(rest) => sewn_line(rest),
-        None => line_of_any(line),
+    match split_first(line, b' ') {
+        Some((word, rest)) => line_of_words(word, rest),
+        None => line_of_word(line),
     }
 }
 
-/// What stands behind the word of a needle that is sewn on, with which nearly all lines begin.
+// In line, as all that it takes, so that nothing of it passes through memory.
+/// Where a line says a needle that is sewn on, which nearly all lines do.
+#[inline(always)]
+pub(crate) fn sewn_at(line: &[u8]) -> Option<Point>
+    ensures { IfSome result (λ p. line_said line.now ≡ Some (line_of_list.Needle p false)) }
+{
+    match after_needle(line) {
+        Some(rest) if line.len() <= MAX_LINE => point_said(rest),
+        _ => None,
+    }
+}
+
+/// What stands behind the word of a needle that is sewn on.
 fn after_needle(line: &[u8]) -> Option<&[u8]>
     ensures { IfSome result (λ rest. line.now ≡ codes "needle " ++ rest.now) }
 {
@@ -48,21 +61,17 @@ fn after_needle(line: &[u8]) -> Option<&[u8]>
     }
 }
 
-fn sewn_line(rest: &[u8]) -> Option<ListLine>
-    ensures { result ≡ words_said (codes "needle" ∷ words_in rest.now) }
+#[inline(always)]
+fn point_said(rest: &[u8]) -> Option<Point>
+    ensures { IfSome result
+        (λ p. words_said (codes "needle" ∷ words_in rest.now) ≡ Some (line_of_list.Needle p false)) }
 {
-    match split_first(rest, b' ') {
-        Some((x, behind)) => needle_line(false, x, behind),
-        None => None,
-    }
-}
-
-fn line_of_any(line: &[u8]) -> Option<ListLine>
-    ensures { result ≡ words_said (words_in line.now) }
-{
-    match split_first(line, b' ') {
-        Some((word, rest)) => line_of_words(word, rest),
-        None => line_of_word(line),
+    let Some((x, behind)) = split_first(rest, b' ') else {
+        return None;
+    };
+    match needle_line(false, x, behind) {
+        Some(ListLine::Needle { at, float: false }) => Some(at),
+        _ => None,
     }
 }
 
@@ -141,6 +150,7 @@ fn block_of(number: Whole) -> Option<ListLine>
     }
 }
 
+#[inline(always)]
 fn needle_line(float: bool, x: &[u8], behind: &[u8]) -> Option<ListLine>
     ensures { result ≡ words_said (needle_word float ∷ x.now ∷ words_in behind.now) }
 {
@@ -150,6 +160,7 @@ fn needle_line(float: bool, x: &[u8], behind: &[u8]) -> Option<ListLine>
     }
 }
 
+#[inline(always)]
 fn needle(float: bool, x: Whole, y: Whole) -> Option<ListLine>
     ensures { result ≡ needle_said float x y }
 {
