@@ -69,6 +69,9 @@ fn put_lines(text: &mut Bytes, design: &Design) -> Result<(), WriteFault>
 }
 
 /// Adds the line of an act, after which it stands otherwise, or says why a list can't have it.
+// Nearly all acts are needles that are sewn on: what they take stands in the loop, and all else apart, with a copy of
+// the act and of how it stands.
+#[inline(always)]
 fn put_act(
     text: &mut Bytes,
     standing: &mut Standing,
@@ -87,15 +90,96 @@ fn put_act(
     ensures room { OnOk result (standing.new.room ≤ MAX_COMMANDS) }
     ensures stops { OnOk result (standing.new.stops ≤ standing.new.room) }
 {
-    if let Some(fault) = reach().refusal(standing, act.number, act.act) {
+    match act.act {
+        Act::Needle { float: false, .. } if !standing.loose => {
+            put_act_here(text, standing, design, act)
+        }
+        _ => put_act_copied(text, standing, design, act),
+    }
+}
+
+#[inline(always)]
+fn put_act_copied(
+    text: &mut Bytes,
+    standing: &mut Standing,
+    design: &Design,
+    act: NumberedAct,
+) -> Result<(), WriteFault>
+    requires place { IsTrue (is_within NEEDLE_LIMIT standing.old.place) }
+    requires act { IsTrue (is_act_in_range act.act) }
+    requires room { standing.old.room ≤ MAX_COMMANDS }
+    requires stops { standing.old.stops ≤ standing.old.room }
+    ensures value { PutsLine (thread_of design.now) standing.old act text.old result
+        standing.new text.new }
+
+    // What holds of it goes on holding.
+    ensures place { OnOk result (IsTrue (is_within NEEDLE_LIMIT standing.new.place)) }
+    ensures room { OnOk result (standing.new.room ≤ MAX_COMMANDS) }
+    ensures stops { OnOk result (standing.new.stops ≤ standing.new.room) }
+{
+    let copy = NumberedAct {
+        number: act.number,
+        act: act.act,
+    };
+    let mut after = *standing;
+    put_act_apart(text, &mut after, design, copy)?;
+    *standing = after;
+    Ok(())
+}
+
+#[cold]
+#[inline(never)]
+fn put_act_apart(
+    text: &mut Bytes,
+    standing: &mut Standing,
+    design: &Design,
+    act: NumberedAct,
+) -> Result<(), WriteFault>
+    requires place { IsTrue (is_within NEEDLE_LIMIT standing.old.place) }
+    requires act { IsTrue (is_act_in_range act.act) }
+    requires room { standing.old.room ≤ MAX_COMMANDS }
+    requires stops { standing.old.stops ≤ standing.old.room }
+    ensures value { PutsLine (thread_of design.now) standing.old act text.old result
+        standing.new text.new }
+
+    // What holds of it goes on holding.
+    ensures place { OnOk result (IsTrue (is_within NEEDLE_LIMIT standing.new.place)) }
+    ensures room { OnOk result (standing.new.room ≤ MAX_COMMANDS) }
+    ensures stops { OnOk result (standing.new.stops ≤ standing.new.room) }
+{
+    put_act_here(text, standing, design, act)
+}
+
+#[inline(always)]
+fn put_act_here(
+    text: &mut Bytes,
+    standing: &mut Standing,
+    design: &Design,
+    act: NumberedAct,
+) -> Result<(), WriteFault>
+    requires place { IsTrue (is_within NEEDLE_LIMIT standing.old.place) }
+    requires act { IsTrue (is_act_in_range act.act) }
+    requires room { standing.old.room ≤ MAX_COMMANDS }
+    requires stops { standing.old.stops ≤ standing.old.room }
+    ensures value { PutsLine (thread_of design.now) standing.old act text.old result
+        standing.new text.new }
+
+    // What holds of it goes on holding.
+    ensures place { OnOk result (IsTrue (is_within NEEDLE_LIMIT standing.new.place)) }
+    ensures room { OnOk result (standing.new.room ≤ MAX_COMMANDS) }
+    ensures stops { OnOk result (standing.new.stops ≤ standing.new.room) }
+{
+    let before = *standing;
+    if let Some(fault) = reach().refusal(&before, act.number, act.act) {
         return Err(fault);
     }
-    put_line(text, design, standing.stops, act.act)?;
-    *standing = standing.after(LIMIT, act.act);
+    put_line(text, design, before.stops, act.act)?;
+    *standing = before.after(LIMIT, act.act);
     Ok(())
 }
 
 /// Adds the line of an act after so many stops.
+#[inline(always)]
 fn put_line(text: &mut Bytes, design: &Design, stops: u32, act: Act) -> Result<(), Memory>
     requires { stops ≤ MAX_COMMANDS }
     ensures { OnOk result (text.new
