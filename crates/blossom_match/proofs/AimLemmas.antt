@@ -9,8 +9,7 @@ use Rattle.blossom_match.specs.Reaches.{left_by, IsLeft, IsReached}
 use Rattle.blossom_match.specs.Aims.{change_at, Aims, AimsAt, CanLead, Leaves}
 use Rattle.blossom_match.specs.TableValue.{TableValue}
 use Rattle.blossom_match.specs.declared.table.TheConstants.{FAR}
-use Rattle.blossom_match.specs.declared.branches.Branch.{Branch}
-use Rattle.blossom_match.specs.declared.couples.Couple.{Couple}
+use Rattle.blossom_match.specs.Values.{BranchValue, CoupleValue}
 use Rattle.blossom_match.specs.declared.least.Aim.{Aim}
 use Rattle.blossom_match.specs.declared.least.Kind.{Kind}
 use Rattle.blossom_match.proofs.ListLemmas.{drop_here, number_here, take_here}
@@ -55,7 +54,7 @@ aims_next hs reach k ys i o m n low one two =
     (λ x. ap (λ (zs : List ℕ). count x zs) (number_here ys i low) ∙ count-append x (take i ys) (get_or ys i 0 ∷ [])) one two
 
 -- one couple more
-pub aims_couple : (hs reach : List ℕ) (k : Kind) (cs : List Couple) (i : ℕ) (c : Couple) (o m n p : Aim) → i < length cs
+pub aims_couple : (hs reach : List ℕ) (k : Kind) (cs : List CoupleValue) (i : ℕ) (c : CoupleValue) (o m n p : Aim) → i < length cs
     → c ≡ get_or cs i c → Aims hs reach k (couple_members (take i cs)) o m → Aims hs reach k c.first.members m n
     → Aims hs reach k c.second.members n p → Aims hs reach k (couple_members (take (i + 1) cs)) o p
 aims_couple hs reach k cs i c o m n p low is one two three =
@@ -66,52 +65,53 @@ aims_couple hs reach k cs i c o m n p low is one two three =
       arith,
       at x,
       couple_members_push x (take i cs) c,
-      ap (λ (ks : List Couple). count x (couple_members ks)) (take_here cs i c low is),
+      ap (λ (ks : List CoupleValue). count x (couple_members ks)) (take_here cs i c low is),
     ))
     one (aims_join hs reach k c.first.members c.second.members both_ m n p at two three)
 
 -- a couple's places are coupled
-pub couple_within : (x : ℕ) (cs : List Couple) (i : ℕ) (c : Couple) → i < length cs → c ≡ get_or cs i c
+pub couple_within : (x : ℕ) (cs : List CoupleValue) (i : ℕ) (c : CoupleValue) → i < length cs → c ≡ get_or cs i c
     → count x c.first.members + count x c.second.members ≤ count x (couple_members cs)
 couple_within x cs i c low is =
     omega (
       arith,
       couple_members-append x (take i cs) (drop i cs),
-      ap (λ (ks : List Couple). count x (couple_members ks)) (take-append-drop i cs),
-      ap (λ (ks : List Couple). count x (couple_members ks)) (couple_here cs i c low is),
+      ap (λ (ks : List CoupleValue). count x (couple_members ks)) (take-append-drop i cs),
+      ap (λ (ks : List CoupleValue). count x (couple_members ks)) (couple_here cs i c low is),
       count-append x c.first.members (c.second.members ++ couple_members (drop (i + 1) cs)),
       count-append x c.second.members (couple_members (drop (i + 1) cs)),
     )
 
 -- one outer set more
-pub aims_outer : (hs reach : List ℕ) (k : Kind) (base : List ℕ) (tree : List Branch) (i : ℕ) (b : Branch) (o m n : Aim)
+pub aims_outer : (hs reach : List ℕ) (k : Kind) (base : List ℕ) (tree : List BranchValue) (i : ℕ) (b : BranchValue) (o m n : Aim)
     → i < length tree → b ≡ get_or tree i b → Aims hs reach k (outer_members base (take i tree)) o m
     → Aims hs reach k b.outer.members m n → Aims hs reach k (outer_members base (take (i + 1) tree)) o n
 aims_outer hs reach k base tree i b o m n low is one two =
     aims_join hs reach k (outer_members base (take i tree)) b.outer.members (outer_members base (take (i + 1) tree)) o m n
-    (λ x. ap (λ (ks : List Branch). count x (outer_members base ks)) (take_here tree i b low is) ∙ outer_members_push x base (take i tree)
+    (λ x. ap (λ (ks : List BranchValue). count x (outer_members base ks)) (take_here tree i b low is) ∙ outer_members_push x base
+    (take i tree)
     b)
     one two
 
-reached_case : (t : TableValue) (hs : List ℕ) (root : NestValue) (tree : List Branch) (x room : ℕ) → room < FAR
+reached_case : (t : TableValue) (hs : List ℕ) (root : NestValue) (tree : List BranchValue) (x room : ℕ) → room < FAR
     → (room ≡ FAR) ⊎ IsReached t hs root tree x room → IsReached t hs root tree x room
 reached_case t hs root tree x room near (inl far) = absurd (omega (arith, near, far))
 reached_case t hs root tree x room near (inr r) = r
 
 -- the aim is reached
-pub reached : (t : TableValue) (hs : List ℕ) (root : NestValue) (tree : List Branch) (reach : List ℕ) (aim : Aim)
+pub reached : (t : TableValue) (hs : List ℕ) (root : NestValue) (tree : List BranchValue) (reach : List ℕ) (aim : Aim)
     → CanLead t hs root tree reach aim → IsReached t hs root tree aim.to (get_or reach aim.to 0)
 reached t hs root tree reach aim c =
     reached_case t hs root tree aim.to (get_or reach aim.to 0) c.near (c.reaches.is aim.to c.within)
 
 -- one of the branches' outer places leaves so much
-pub record IsBelow (t : TableValue) (hs : List ℕ) (tree : List Branch) (x room : ℕ) : Type 0 where
+pub record IsBelow (t : TableValue) (hs : List ℕ) (tree : List BranchValue) (x room : ℕ) : Type 0 where
   pub a : ℕ
   pub here : 1 ≤ count a (outer_members [] tree)
   pub apart : around a x tree ≡ 0
   pub exact : room ≡ left_by t hs a x
 
-below_case : (n : ℕ) (t : TableValue) (hs : List ℕ) (root : NestValue) (tree : List Branch) (x room : ℕ)
+below_case : (n : ℕ) (t : TableValue) (hs : List ℕ) (root : NestValue) (tree : List BranchValue) (x room : ℕ)
     → (r : IsReached t hs root tree x room) → count r.a root.members ≡ n
     → (count x root.members ≡ 0 → IsLeft t hs root.members x room → ⊥) → IsBelow t hs tree x room
 below_case (suc n) t hs root tree x room r e none =
@@ -124,20 +124,20 @@ below_case zero t hs root tree x room r e none = record {
 }
 
 -- the root's places do not
-pub below_root : (t : TableValue) (hs : List ℕ) (root : NestValue) (tree : List Branch) (x room : ℕ) → IsReached t hs root tree x room
+pub below_root : (t : TableValue) (hs : List ℕ) (root : NestValue) (tree : List BranchValue) (x room : ℕ) → IsReached t hs root tree x room
     → Leaves t hs root x room None → IsBelow t hs tree x room
 below_root t hs root tree x room r none = below_case (count r.a root.members) t hs root tree x room r refl none
 
-next_case : (n : ℕ) (t : TableValue) (hs : List ℕ) (tree : List Branch) (i : ℕ) (b : Branch) (x room : ℕ) → i < length tree
+next_case : (n : ℕ) (t : TableValue) (hs : List ℕ) (tree : List BranchValue) (i : ℕ) (b : BranchValue) (x room : ℕ) → i < length tree
     → b ≡ get_or tree i b → (r : IsBelow t hs (drop i tree) x room) → count r.a b.outer.members ≡ n
     → (count x b.outer.members ≡ 0 → IsLeft t hs b.outer.members x room → ⊥) → IsBelow t hs (drop (i + 1) tree) x room
 next_case (suc n) t hs tree i b x room low is r e none =
     let apart : both r.a x b.outer + around r.a x (drop (i + 1) tree) ≡ 0 =
-    sym (ap (λ (ks : List Branch). around r.a x ks) (drop_here tree i b low is)) ∙ r.apart in
+    sym (ap (λ (ks : List BranchValue). around r.a x ks) (drop_here tree i b low is)) ∙ r.apart in
     absurd (none (omega (arith, apart, e)) (record { a = r.a; here = omega (arith, e); exact = r.exact }))
 next_case zero t hs tree i b x room low is r e none =
     let apart : both r.a x b.outer + around r.a x (drop (i + 1) tree) ≡ 0 =
-    sym (ap (λ (ks : List Branch). around r.a x ks) (drop_here tree i b low is)) ∙ r.apart in
+    sym (ap (λ (ks : List BranchValue). around r.a x ks) (drop_here tree i b low is)) ∙ r.apart in
     record {
       a = r.a;
       here = omega (arith, r.here, e, outer_places r.a tree i b low is);
@@ -146,36 +146,36 @@ next_case zero t hs tree i b x room low is r e none =
     }
 
 -- nor those of this branch
-pub below_next : (t : TableValue) (hs : List ℕ) (tree : List Branch) (i : ℕ) (b : Branch) (x room : ℕ) → i < length tree
+pub below_next : (t : TableValue) (hs : List ℕ) (tree : List BranchValue) (i : ℕ) (b : BranchValue) (x room : ℕ) → i < length tree
     → b ≡ get_or tree i b → IsBelow t hs (drop i tree) x room → Leaves t hs b.outer x room None
     → IsBelow t hs (drop (i + 1) tree) x room
 below_next t hs tree i b x room low is r none = next_case (count r.a b.outer.members) t hs tree i b x room low is r refl none
 
-pub nothing_left : (a : ℕ) (tree : List Branch) (i : ℕ) → length tree ≤ i → count a (outer_members [] (drop i tree)) ≡ 0
-nothing_left a tree i done = ap (λ (ks : List Branch). count a (outer_members [] ks)) (drop_all i tree done)
+pub nothing_left : (a : ℕ) (tree : List BranchValue) (i : ℕ) → length tree ≤ i → count a (outer_members [] (drop i tree)) ≡ 0
+nothing_left a tree i done = ap (λ (ks : List BranchValue). count a (outer_members [] ks)) (drop_all i tree done)
 
 -- no set holds a place of the root and one outside it
-pub root_apart : (a x : ℕ) (root : NestValue) (tree : List Branch) → ((y : ℕ) → count y (outer_members root.members tree) ≤ 1)
+pub root_apart : (a x : ℕ) (root : NestValue) (tree : List BranchValue) → ((y : ℕ) → count y (outer_members root.members tree) ≤ 1)
     → 1 ≤ count a root.members → count x root.members ≡ 0 → holding a x root tree ≡ 0
 root_apart a x root tree once here none =
     let out : count a (outer_members [] tree) ≡ 0 = omega (arith, once a, here, outer-append a root.members [] tree) in
     omega (arith, around_first a x [] tree out, none)
 
 -- nor one of the branch's outer set and one outside it
-pub outer_apart : (a x : ℕ) (root : NestValue) (tree : List Branch) (i : ℕ) (b : Branch)
+pub outer_apart : (a x : ℕ) (root : NestValue) (tree : List BranchValue) (i : ℕ) (b : BranchValue)
     → ((y : ℕ) → count y (outer_members root.members tree) ≤ 1) → i < length tree → b ≡ get_or tree i b
     → 1 ≤ count a b.outer.members → count x b.outer.members ≡ 0 → holding a x root tree ≡ 0
 outer_apart a x root tree i b once low is here none =
     let s = split_here tree i b low is in
     let before = take i tree in
     let after = drop (i + 1) tree in
-    let at = ap (λ (ks : List Branch). count a (outer_members root.members ks)) s ∙ outer-append a root.members before (b ∷ after) in
+    let at = ap (λ (ks : List BranchValue). count a (outer_members root.members ks)) s ∙ outer-append a root.members before (b ∷ after) in
     let on = count-append a b.outer.members (outer_members [] after) in
     let first : count a (outer_members root.members before) ≡ 0 = omega (arith, once a, at, on, here) in
     let last : count a (outer_members [] after) ≡ 0 = omega (arith, once a, at, on, here) in
     omega (
       arith,
-      ap (λ (ks : List Branch). around a x ks) s,
+      ap (λ (ks : List BranchValue). around a x ks) s,
       around_append a x before (b ∷ after),
       around_first a x root.members before first,
       around_first a x [] after last,

@@ -5,21 +5,21 @@ use Rattle.blossom_match.specs.Couples.{IsJoined}
 use Rattle.blossom_match.specs.Sound.{IsFirm, IsFirmCouple}
 use Rattle.blossom_match.specs.Trees.{Augmenting, Augments}
 use Rattle.blossom_match.specs.declared.nest.Link.{Link}
-use Rattle.blossom_match.specs.declared.couples.Couple.{Couple}
-use Rattle.blossom_match.specs.declared.branches.Branch.{Branch}
+use Rattle.blossom_match.specs.Values.{BranchValue, CoupleValue}
 use Rattle.blossom_match.proofs.ListLemmas.{each-left, each-last, each-push}
 use Rattle.blossom_match.proofs.TreeLemmas.{last_of, outer_members_push, inner_members_push, branch_bands_push, couple_members_push, couple_bands_push}
 
 -- what is left to do does the rest
-pub record Pairing (root met : NestValue) (link : Link) (tree : List Branch) (old now : List Couple) (hand : NestValue) (way : Link)
-    (left : List Branch) : Type 0 where
+pub record Pairing (root met : NestValue) (link : Link) (tree : List BranchValue) (old now : List CoupleValue) (hand : NestValue)
+    (way : Link)
+    (left : List BranchValue) : Type 0 where
   pub can : Augmenting hand way root left
-  pub does : (new : List Couple) → Augments root hand way left now new → Augments root met link tree old new
+  pub does : (new : List CoupleValue) → Augments root hand way left now new → Augments root met link tree old new
 
-abbrev couple_of : NestValue → NestValue → Link → Couple
+abbrev couple_of : NestValue → NestValue → Link → CoupleValue
 couple_of s t l = record { first = s; second = t; link = l }
 
-matched : (root hand : NestValue) (way : Link) (bs : List Branch) (b : Branch) (now new : List Couple) →
+matched : (root hand : NestValue) (way : Link) (bs : List BranchValue) (b : BranchValue) (now new : List CoupleValue) →
     Augmenting hand way root (bs ++ b ∷ []) → 1 ≤ count way.from b.outer.members →
     Augments root b.inner b.up bs (now ++ couple_of b.outer hand way ∷ []) new → Augments root hand way (bs ++ b ∷ []) now new
 matched root hand way bs b now new can here a =
@@ -42,7 +42,7 @@ matched root hand way bs b now new can here a =
       sums = λ F add. omega (arith, a.sums F add, couple_bands_push F add now c, branch_bands_push F add bs b);
     }
 
-kept : (root hand : NestValue) (way : Link) (bs : List Branch) (b : Branch) (now new : List Couple) →
+kept : (root hand : NestValue) (way : Link) (bs : List BranchValue) (b : BranchValue) (now new : List CoupleValue) →
     Augmenting hand way root (bs ++ b ∷ []) →
     Augments root hand way bs (now ++ couple_of b.inner b.outer b.pair ∷ []) new → Augments root hand way (bs ++ b ∷ []) now new
 kept root hand way bs b now new can a =
@@ -64,12 +64,13 @@ kept root hand way bs b now new can a =
       sums = λ F add. omega (arith, a.sums F add, couple_bands_push F add now c, branch_bands_push F add bs b);
     }
 
-pub pairing_matched : (root met : NestValue) (link : Link) (tree : List Branch) (old now next : List Couple) (hand : NestValue) (way : Link)
-    (left bs : List Branch) (b : Branch) →
+pub pairing_matched : (root met : NestValue) (link : Link) (tree : List BranchValue) (old now next : List CoupleValue) (hand : NestValue)
+    (way : Link)
+    (left bs : List BranchValue) (b : BranchValue) →
     Pairing root met link tree old now hand way left → left ≡ bs ++ b ∷ [] → 1 ≤ count way.from b.outer.members →
     next ≡ now ++ couple_of b.outer hand way ∷ [] → Pairing root met link tree old next b.inner b.up bs
 pairing_matched root met link tree old now next hand way left bs b p e here f =
-    let can = subst (λ (ks : List Branch). Augmenting hand way root ks) e p.can in
+    let can = subst (λ (ks : List BranchValue). Augmenting hand way root ks) e p.can in
     let l = last_of root.members bs b can.grown in
     record {
       can = record {
@@ -78,16 +79,17 @@ pairing_matched root met link tree old now next hand way left bs b p e here f =
         to = l.up_to;
         once = λ x. omega (arith, can.once x, outer_members_push x root.members bs b, inner_members_push x bs b);
       };
-      does = λ new a. p.does new (subst (λ (ks : List Branch). Augments root hand way ks now new) (sym e)
-          (matched root hand way bs b now new can here (subst (λ (ks : List Couple). Augments root b.inner b.up bs ks new) f a)));
+      does = λ new a. p.does new (subst (λ (ks : List BranchValue). Augments root hand way ks now new) (sym e)
+          (matched root hand way bs b now new can here (subst (λ (ks : List CoupleValue). Augments root b.inner b.up bs ks new) f a)));
     }
 
-pub pairing_kept : (root met : NestValue) (link : Link) (tree : List Branch) (old now next : List Couple) (hand : NestValue) (way : Link)
-    (left bs : List Branch) (b : Branch) →
+pub pairing_kept : (root met : NestValue) (link : Link) (tree : List BranchValue) (old now next : List CoupleValue) (hand : NestValue)
+    (way : Link)
+    (left bs : List BranchValue) (b : BranchValue) →
     Pairing root met link tree old now hand way left → left ≡ bs ++ b ∷ [] → count way.from b.outer.members ≡ 0 →
     next ≡ now ++ couple_of b.inner b.outer b.pair ∷ [] → Pairing root met link tree old next hand way bs
 pairing_kept root met link tree old now next hand way left bs b p e here f =
-    let can = subst (λ (ks : List Branch). Augmenting hand way root ks) e p.can in
+    let can = subst (λ (ks : List BranchValue). Augmenting hand way root ks) e p.can in
     let l = last_of root.members bs b can.grown in
     record {
       can = record {
@@ -96,11 +98,11 @@ pairing_kept root met link tree old now next hand way left bs b p e here f =
         to = can.to;
         once = λ x. omega (arith, can.once x, outer_members_push x root.members bs b, inner_members_push x bs b);
       };
-      does = λ new a. p.does new (subst (λ (ks : List Branch). Augments root hand way ks now new) (sym e)
-          (kept root hand way bs b now new can (subst (λ (ks : List Couple). Augments root hand way bs ks new) f a)));
+      does = λ new a. p.does new (subst (λ (ks : List BranchValue). Augments root hand way ks now new) (sym e)
+          (kept root hand way bs b now new can (subst (λ (ks : List CoupleValue). Augments root hand way bs ks new) f a)));
     }
 
-at_root : (root hand : NestValue) (way : Link) (now : List Couple) → Augmenting hand way root []
+at_root : (root hand : NestValue) (way : Link) (now : List CoupleValue) → Augmenting hand way root []
     → Augments root hand way [] now (now ++ couple_of root hand way ∷ [])
 at_root root hand way now can =
     let one : count way.from root.members ≡ 1 = omega (arith, can.from, can.once way.from) in
@@ -112,14 +114,15 @@ at_root root hand way now can =
       sums = λ F add. omega (arith, couple_bands_push F add now c, add [] []);
     }
 
-pub pairing_done : (root met : NestValue) (link : Link) (tree : List Branch) (old now new : List Couple) (hand : NestValue) (way : Link)
-    (left : List Branch) →
+pub pairing_done : (root met : NestValue) (link : Link) (tree : List BranchValue) (old now new : List CoupleValue) (hand : NestValue)
+    (way : Link)
+    (left : List BranchValue) →
     Pairing root met link tree old now hand way left → length left ≡ 0 → new ≡ now ++ couple_of root hand way ∷ []
     → Augments root met link tree old new
 pairing_done root met link tree old now new hand way [] p none f =
-    p.does new (subst (λ (ks : List Couple). Augments root hand way [] now ks) (sym f) (at_root root hand way now p.can))
+    p.does new (subst (λ (ks : List CoupleValue). Augments root hand way [] now ks) (sym f) (at_root root hand way now p.can))
 pairing_done root met link tree old now new hand way (b ∷ bs) p none f = absurd (omega arith)
 
-pub pairing_start : (root met : NestValue) (link : Link) (tree : List Branch) (old : List Couple) → Augmenting met link root tree
+pub pairing_start : (root met : NestValue) (link : Link) (tree : List BranchValue) (old : List CoupleValue) → Augmenting met link root tree
     → Pairing root met link tree old old met link tree
 pairing_start root met link tree old can = record { can = can; does = λ new a. a }

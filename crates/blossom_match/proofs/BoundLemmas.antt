@@ -16,9 +16,7 @@ use Rattle.blossom_match.specs.declared.table.TheConstants.{FAR}
 use Rattle.blossom_match.specs.declared.least.Aim.{Aim}
 use Rattle.blossom_match.specs.declared.least.Kind.{Kind}
 use Rattle.blossom_match.specs.declared.table.TheConstants.{MAX_DISTANCE}
-use Rattle.blossom_match.specs.declared.couples.Couple.{Couple}
-use Rattle.blossom_match.specs.declared.branches.Branch.{Branch}
-use Rattle.blossom_match.specs.declared.search.Search.{Search}
+use Rattle.blossom_match.specs.Values.{BranchValue, CoupleValue, SearchValue}
 use Rattle.blossom_match.specs.declared.search.Step.{Step}
 use Rattle.blossom_match.specs.declared.least.Change.{Change}
 use Rattle.blossom_match.specs.declared.least.Kind.TheVariants as kind
@@ -39,7 +37,7 @@ load_case (suc n) a b s kept e apart = load_along a b s kept (omega (arith, e, a
 load_either : (a b : ℕ) (s : NestValue) → Kept s → both a b s ≡ 0 → load a b (bands s) ≡ height a (bands s) + height b (bands s)
 load_either a b s kept apart = load_case (count a s.members) a b s kept refl apart
 
-load_branches : (d : TableValue) (h : ℕ → ℕ) (a b : ℕ) (tree : List Branch) → Each (IsFirm d h) tree → count a (inner_members tree) ≡ 0
+load_branches : (d : TableValue) (h : ℕ → ℕ) (a b : ℕ) (tree : List BranchValue) → Each (IsFirm d h) tree → count a (inner_members tree) ≡ 0
     → around a b tree ≡ 0 →
     load a b (branch_bands tree) ≡ height a (branch_bands tree) + height b (branch_bands tree)
 load_branches d h a b [] f none apart = refl
@@ -58,7 +56,8 @@ load_branches d h a b (c ∷ cs) f none apart =
       height-append b (bands c.outer) (branch_bands cs),
     )
 
-load_couples : (d : TableValue) (h : ℕ → ℕ) (a b : ℕ) (cs : List Couple) → Each (IsFirmCouple d h) cs → count a (couple_members cs) ≡ 0 →
+load_couples : (d : TableValue) (h : ℕ → ℕ) (a b : ℕ) (cs : List CoupleValue) → Each (IsFirmCouple d h) cs → count a (couple_members cs) ≡
+    0 →
     load a b (couple_bands cs) ≡ height a (couple_bands cs) + height b (couple_bands cs)
 load_couples d h a b [] f none = refl
 load_couples d h a b (c ∷ cs) f none =
@@ -78,26 +77,27 @@ load_couples d h a b (c ∷ cs) f none =
     )
 
 -- between an outer place and a place that no set holds with it, the heights are the load
-pub loads_apart : (t : TableValue) (h : ℕ → ℕ) (s : Search) (a b : ℕ) → IsSearch t h s → 1 ≤ count a (outers s) → holding_both a b s ≡ 0
+pub loads_apart : (t : TableValue) (h : ℕ → ℕ) (s : SearchValue) (a b : ℕ) → IsSearch t h s → 1 ≤ count a (outers s) → holding_both a b s
+    ≡ 0
     → load_of s a b ≡ height_of s a + height_of s b
 loads_apart t h s a b i ha apart =
     let one = is_one t a in
     omega (
       arith,
       load_either a b s.root i.root.kept (omega (arith, apart)),
-      load_branches t h a b s.tree.items i.tree (omega (arith, i.places a, one, ha)) (omega (arith, apart)),
-      load_couples t h a b s.rest.items i.rest (omega (arith, i.places a, one, ha)),
+      load_branches t h a b s.tree i.tree (omega (arith, i.places a, one, ha)) (omega (arith, apart)),
+      load_couples t h a b s.rest i.rest (omega (arith, i.places a, one, ha)),
     )
 
 -- a place that is not free
-tall_set : (t : TableValue) (h : ℕ → ℕ) (s : Search) (x : ℕ) → IsSearch t h s
-    → 1 ≤ count x (outers s) + count x (couple_members s.rest.items) → h x ≡ height_of s x
+tall_set : (t : TableValue) (h : ℕ → ℕ) (s : SearchValue) (x : ℕ) → IsSearch t h s
+    → 1 ≤ count x (outers s) + count x (couple_members s.rest) → h x ≡ height_of s x
 tall_set t h s x i here = i.tall x (omega (arith, i.places x, is_one t x, here))
 
-pub not_both : (s : Search) (a b : ℕ) → count b (outers s) ≡ 0 → holding_both a b s ≡ 0
-not_both s a b none = omega (arith, around_none a b s.root.members s.tree.items none, base_in b s.root.members s.tree.items, none)
+pub not_both : (s : SearchValue) (a b : ℕ) → count b (outers s) ≡ 0 → holding_both a b s ≡ 0
+not_both s a b none = omega (arith, around_none a b s.root.members s.tree none, base_in b s.root.members s.tree, none)
 
-around_same : (a : ℕ) (base : List ℕ) (tree : List Branch) → count a base + around a a tree ≡ count a (outer_members base tree)
+around_same : (a : ℕ) (base : List ℕ) (tree : List BranchValue) → count a base + around a a tree ≡ count a (outer_members base tree)
 around_same a base [] = omega arith
 around_same a base (c ∷ cs) = omega (arith, around_same a base cs, count-append a c.outer.members (outer_members base cs))
 
@@ -105,16 +105,16 @@ differ_in : (a b : ℕ) (xs ys : List ℕ) → ((x : ℕ) → count x xs + count
 differ_in a b xs ys once ha hb e = omega (arith, once b, hb, ha, ap (λ (x : ℕ). count x xs) e)
 
 -- an outer place and a free one
-pub free_room : (t : TableValue) (h : ℕ → ℕ) (s : Search) (a b : ℕ) → IsSearch t h s → 1 ≤ count a (outers s) → 1 ≤ count b s.free.items
+pub free_room : (t : TableValue) (h : ℕ → ℕ) (s : SearchValue) (a b : ℕ) → IsSearch t h s → 1 ≤ count a (outers s) → 1 ≤ count b s.free
     → h a + h b ≤ 2 * entry t a b
 free_room t h s a b i ha hb =
     i.room a b (place_in t a (omega (arith, i.places a, ha))) hb
-    (differ_in a b (outers s) s.free.items (λ x. omega (arith, i.places x, is_one t x)) ha hb)
+    (differ_in a b (outers s) s.free (λ x. omega (arith, i.places x, is_one t x)) ha hb)
 
-coupled_room : (t : TableValue) (h : ℕ → ℕ) (s : Search) (a b : ℕ) → IsSearch t h s → 1 ≤ count a (outers s)
-    → 1 ≤ count b (couple_members s.rest.items) → h a + h b ≤ 2 * entry t a b
+coupled_room : (t : TableValue) (h : ℕ → ℕ) (s : SearchValue) (a b : ℕ) → IsSearch t h s → 1 ≤ count a (outers s)
+    → 1 ≤ count b (couple_members s.rest) → h a + h b ≤ 2 * entry t a b
 coupled_room t h s a b i ha hb =
-    let ne = differ_in a b (outers s) (couple_members s.rest.items) (λ x. omega (arith, i.places x, is_one t x)) ha hb in
+    let ne = differ_in a b (outers s) (couple_members s.rest) (λ x. omega (arith, i.places x, is_one t x)) ha hb in
     let l = i.loads a b (place_in t a (omega (arith, i.places a, ha))) (place_in t b (omega (arith, i.places b, hb))) ne in
     omega (
       arith,
@@ -125,12 +125,12 @@ coupled_room t h s a b i ha hb =
       tall_set t h s b i (omega (arith, hb)),
     )
 
-pub apart_differ : (s : Search) (a b : ℕ) → 1 ≤ count a (outers s) → holding_both a b s ≡ 0 → a ≢ b
+pub apart_differ : (s : SearchValue) (a b : ℕ) → 1 ≤ count a (outers s) → holding_both a b s ≡ 0 → a ≢ b
 apart_differ s a b ha apart e =
     let same : holding_both a a s ≡ 0 = subst (λ (x : ℕ). holding_both a x s ≡ 0) (sym e) apart in
-    omega (arith, same, ha, around_same a s.root.members s.tree.items)
+    omega (arith, same, ha, around_same a s.root.members s.tree)
 
-outer_room : (t : TableValue) (h : ℕ → ℕ) (s : Search) (a b : ℕ) → IsSearch t h s → 1 ≤ count a (outers s) → 1 ≤ count b (outers s)
+outer_room : (t : TableValue) (h : ℕ → ℕ) (s : SearchValue) (a b : ℕ) → IsSearch t h s → 1 ≤ count a (outers s) → 1 ≤ count b (outers s)
     → holding_both a b s ≡ 0 → h a + h b ≤ 2 * entry t a b
 outer_room t h s a b i ha hb apart =
     let l = i.loads a b (place_in t a (omega (arith, i.places a, ha))) (place_in t b (omega (arith, i.places b, hb)))
@@ -141,19 +141,19 @@ either_room : (P : Type 0) (n m : ℕ) → (1 ≤ n → P) → (1 ≤ m → P) �
 either_room P zero m p q some = q (omega arith)
 either_room P (suc n) m p q some = p (omega arith)
 
-set_in_root : (s : Search) (r : ℕ) → 1 ≤ count r s.root.members → 1 ≤ count r (outers s)
-set_in_root s r here = omega (arith, here, base_in r s.root.members s.tree.items)
+set_in_root : (s : SearchValue) (r : ℕ) → 1 ≤ count r s.root.members → 1 ≤ count r (outers s)
+set_in_root s r here = omega (arith, here, base_in r s.root.members s.tree)
 
-free_limit : (m : ℕ) (t : TableValue) (h : ℕ → ℕ) (s : Search) (x : ℕ) → IsTable t → IsSearch t h s
-    → count x (outers s) + count x (inner_members s.tree.items) + count x (couple_members s.rest.items) ≡ 0 →
-    count x s.free.items ≡ m → h x ≤ 2 * MAX_DISTANCE
+free_limit : (m : ℕ) (t : TableValue) (h : ℕ → ℕ) (s : SearchValue) (x : ℕ) → IsTable t → IsSearch t h s
+    → count x (outers s) + count x (inner_members s.tree) + count x (couple_members s.rest) ≡ 0 →
+    count x s.free ≡ m → h x ≤ 2 * MAX_DISTANCE
 free_limit zero t h s x is i e none =
     omega (
       arith,
       i.tall x none,
-      low x s.root i.root.kept (omega (arith, base_in x s.root.members s.tree.items, e)),
-      low_branches t h x s.root.members s.tree.items i.tree (omega (arith, e)) (omega (arith, e)),
-      low_couples t h x s.rest.items i.rest (omega (arith, e)),
+      low x s.root i.root.kept (omega (arith, base_in x s.root.members s.tree, e)),
+      low_branches t h x s.root.members s.tree i.tree (omega (arith, e)) (omega (arith, e)),
+      low_couples t h x s.rest i.rest (omega (arith, e)),
     )
 free_limit (suc m) t h s x is i e some =
     let r = some_member s.root.members (omega (arith, i.root.kept.odd)) in
@@ -161,10 +161,10 @@ free_limit (suc m) t h s x is i e some =
     let lr = place_in t r.0 (omega (arith, i.places r.0, ho)) in
     omega (arith, free_room t h s r.0 x i ho (omega (arith, some)), is.short r.0 x lr (place_in t x (omega (arith, i.places x, some))))
 
-high_case : (n : ℕ) (t : TableValue) (h : ℕ → ℕ) (s : Search) (x f : ℕ) → IsTable t → IsSearch t h s → 1 ≤ count f s.free.items
-    → count x (outers s) + count x (inner_members s.tree.items) + count x (couple_members s.rest.items) ≡ n →
+high_case : (n : ℕ) (t : TableValue) (h : ℕ → ℕ) (s : SearchValue) (x f : ℕ) → IsTable t → IsSearch t h s → 1 ≤ count f s.free
+    → count x (outers s) + count x (inner_members s.tree) + count x (couple_members s.rest) ≡ n →
     h x ≤ 2 * MAX_DISTANCE
-high_case zero t h s x f is i hf e = free_limit (count x s.free.items) t h s x is i e refl
+high_case zero t h s x f is i hf e = free_limit (count x s.free) t h s x is i e refl
 high_case (suc n) t h s x f is i hf e =
     let lx = place_in t x (omega (arith, i.places x, e)) in
     let lf = place_in t f (omega (arith, i.places f, hf)) in
@@ -175,20 +175,20 @@ high_case (suc n) t h s x f is i hf e =
       hf,
       e,
       ap
-          (λ (y : ℕ). count y (outers s) + count y (inner_members s.tree.items) + count y (couple_members s.rest.items)) g,
+          (λ (y : ℕ). count y (outers s) + count y (inner_members s.tree) + count y (couple_members s.rest)) g,
     ) in
     omega (arith, i.room x f lx hf ne, is.short x f lx lf)
 
 -- while a place is free, no height is more than twice the largest distance
-pub height_limit : (t : TableValue) (h : ℕ → ℕ) (s : Search) (x f : ℕ) → IsTable t → IsSearch t h s → 1 ≤ count f s.free.items
+pub height_limit : (t : TableValue) (h : ℕ → ℕ) (s : SearchValue) (x f : ℕ) → IsTable t → IsSearch t h s → 1 ≤ count f s.free
     → h x ≤ 2 * MAX_DISTANCE
-height_limit t h s x f is i hf = high_case (count x (outers s) + count x (inner_members s.tree.items)
-    + count x (couple_members s.rest.items)) t h s x f is i hf refl
+height_limit t h s x f is i hf = high_case (count x (outers s) + count x (inner_members s.tree)
+    + count x (couple_members s.rest)) t h s x f is i hf refl
 
-due_ring : (t : TableValue) (h : ℕ → ℕ) (s : Search) (c : Change) → RingIsDue s.tree.items c → IsDue t h s c.by c.step
+due_ring : (t : TableValue) (h : ℕ → ℕ) (s : SearchValue) (c : Change) → RingIsDue s.tree c → IsDue t h s c.by c.step
 due_ring t h s c f = subst (λ (st : Step). IsDue t h s c.by st) (sym f.step) f.due
 
-aimed_case : (s : Search) (hs reach : List ℕ) (k : Kind) (aim : Aim) → AimsAt hs reach k (goals s k) aim → IsAimed s hs reach aim
+aimed_case : (s : SearchValue) (hs reach : List ℕ) (k : Kind) (aim : Aim) → AimsAt hs reach k (goals s k) aim → IsAimed s hs reach aim
 aimed_case s hs reach k aim a = record {
   there = subst (λ (j : Kind). 1 ≤ count aim.to (goals s j)) (sym a.kind) a.there;
   near = a.near;
@@ -196,24 +196,24 @@ aimed_case s hs reach k aim a = record {
 }
 
 -- the lesser of two aims leads to such a place too
-still_aimed : (s : Search) (hs reach : List ℕ) (k : Kind) (old new : Aim) → IsAimed s hs reach old
+still_aimed : (s : SearchValue) (hs reach : List ℕ) (k : Kind) (old new : Aim) → IsAimed s hs reach old
     → (new ≡ old) ⊎ AimsAt hs reach k (goals s k) new → IsAimed s hs reach new
 still_aimed s hs reach k old new a (inl e) = subst (λ (aim : Aim). IsAimed s hs reach aim) (sym e) a
 still_aimed s hs reach k old new a (inr b) = aimed_case s hs reach k new b
 
 -- what is known of the aims of a search
-pub record IsAimedAt (t : TableValue) (h : ℕ → ℕ) (s : Search) (hs reach : List ℕ) (first met grown crossed : Aim) : Type 0 where
+pub record IsAimedAt (t : TableValue) (h : ℕ → ℕ) (s : SearchValue) (hs reach : List ℕ) (first met grown crossed : Aim) : Type 0 where
   pub table : IsTable t
   pub search : IsSearch t h s
   pub heights : HeightsAre hs h
   pub size : length hs ≡ t.places
-  pub reaches : Reaches t hs s.root s.tree.items reach
-  pub at_first : AimsAt hs reach kind.Meet s.free.items first
-  pub at_met : Aims hs reach kind.Meet s.free.items first met
-  pub at_grown : Aims hs reach kind.Grow (couple_members s.rest.items) met grown
+  pub reaches : Reaches t hs s.root s.tree reach
+  pub at_first : AimsAt hs reach kind.Meet s.free first
+  pub at_met : Aims hs reach kind.Meet s.free first met
+  pub at_grown : Aims hs reach kind.Grow (couple_members s.rest) met grown
   pub at_crossed : Aims hs reach kind.Shrink (outers s) grown crossed
 
-pub aimed : (t : TableValue) (h : ℕ → ℕ) (s : Search) (hs reach : List ℕ) (first met grown crossed : Aim)
+pub aimed : (t : TableValue) (h : ℕ → ℕ) (s : SearchValue) (hs reach : List ℕ) (first met grown crossed : Aim)
     → IsAimedAt t h s hs reach first met grown crossed → IsAimed s hs reach crossed
 aimed t h s hs reach first met grown crossed a =
     still_aimed s hs reach kind.Shrink grown crossed
@@ -222,22 +222,22 @@ aimed t h s hs reach first met grown crossed a =
     a.at_crossed.is
 
 -- an outer place of another set reaches the place
-pub is_near : (t : TableValue) (h : ℕ → ℕ) (s : Search) (hs reach : List ℕ) (a b : ℕ) → IsTable t → IsSearch t h s
-    → Reaches t hs s.root s.tree.items reach → 1 ≤ count a (outers s) → b < t.places → holding_both a b s ≡ 0
+pub is_near : (t : TableValue) (h : ℕ → ℕ) (s : SearchValue) (hs reach : List ℕ) (a b : ℕ) → IsTable t → IsSearch t h s
+    → Reaches t hs s.root s.tree reach → 1 ≤ count a (outers s) → b < t.places → holding_both a b s ≡ 0
     → (get_or reach b 0 < FAR) × (get_or reach b 0 ≤ 2 * entry t a b - get_or hs a 0)
 is_near t h s hs reach a b is i r ha lb apart =
     let low = r.least a b ha lb apart in
     (omega (arith, low, far_is, is.short a b (place_in t a (omega (arith, i.places a, ha))) lb), low)
 
 -- each free place is reached
-pub free_near : (t : TableValue) (h : ℕ → ℕ) (s : Search) (hs reach : List ℕ) (b : ℕ) → IsTable t → IsSearch t h s
-    → Reaches t hs s.root s.tree.items reach → 1 ≤ count b s.free.items → get_or reach b 0 < FAR
+pub free_near : (t : TableValue) (h : ℕ → ℕ) (s : SearchValue) (hs reach : List ℕ) (b : ℕ) → IsTable t → IsSearch t h s
+    → Reaches t hs s.root s.tree reach → 1 ≤ count b s.free → get_or reach b 0 < FAR
 free_near t h s hs reach b is i r hb =
     let a = some_member s.root.members (omega (arith, i.root.kept.odd)) in
     (is_near t h s hs reach a.0 b is i r (set_in_root s a.0 a.1) (place_in t b (omega (arith, i.places b, hb)))
     (not_both s a.0 b (omega (arith, i.places b, is_one t b, hb)))).0
 
-due_case : (k : Kind) (t : TableValue) (h : ℕ → ℕ) (s : Search) (hs reach : List ℕ) (from to by : ℕ) → IsSearch t h s → HeightsAre hs h
+due_case : (k : Kind) (t : TableValue) (h : ℕ → ℕ) (s : SearchValue) (hs reach : List ℕ) (from to by : ℕ) → IsSearch t h s → HeightsAre hs h
     → 1 ≤ count from (outers s) → holding_both from to s ≡ 0 → get_or reach to 0 ≡ 2 * entry t from to - get_or hs from 0
     → 1 ≤ count to (goals s k) → by ≡ change_at hs reach k to → IsDue t h s by (step_of k (record { from = from; to = to }))
 due_case kind.Meet t h s hs reach from to by i at here apart exact there is =
@@ -255,32 +255,32 @@ due_case kind.Shrink t h s hs reach from to by i at here apart exact there is = 
     exact,
     is,
     outer_room t h s from to i here there apart,
-    two_even t h s.root s.tree.items i.grown i.root i.tree from to (omega (arith, here)) (omega (arith, there)),
+    two_even t h s.root s.tree i.grown i.root i.tree from to (omega (arith, here)) (omega (arith, there)),
   ),
 )
 
-due_aimed : (t : TableValue) (h : ℕ → ℕ) (s : Search) (hs reach : List ℕ) (aim : Aim) (c : Change) → IsSearch t h s → HeightsAre hs h
-    → IsAimed s hs reach aim → LeadsTo t hs s.root s.tree.items reach aim c → IsDue t h s c.by c.step
+due_aimed : (t : TableValue) (h : ℕ → ℕ) (s : SearchValue) (hs reach : List ℕ) (aim : Aim) (c : Change) → IsSearch t h s → HeightsAre hs h
+    → IsAimed s hs reach aim → LeadsTo t hs s.root s.tree reach aim c → IsDue t h s c.by c.step
 due_aimed t h s hs reach aim c i at is l =
     subst (λ (st : Step). IsDue t h s c.by st) (sym l.step)
     (due_case aim.kind t h s hs reach l.from aim.to c.by i at l.here l.apart l.exact is.there (l.by ∙ is.by))
 
-due_now : (t : TableValue) (h : ℕ → ℕ) (s : Search) (old new : Change) → IsDue t h s old.by old.step
-    → (new ≡ old) ⊎ RingIsDue s.tree.items new → IsDue t h s new.by new.step
+due_now : (t : TableValue) (h : ℕ → ℕ) (s : SearchValue) (old new : Change) → IsDue t h s old.by old.step
+    → (new ≡ old) ⊎ RingIsDue s.tree new → IsDue t h s new.by new.step
 due_now t h s old new due (inl e) = subst (λ (c : Change). IsDue t h s c.by c.step) (sym e) due
 due_now t h s old new due (inr f) = due_ring t h s new f
 
 -- the least of all changes leaves room everywhere, and its step is due
-pub bounds_of : (t : TableValue) (h : ℕ → ℕ) (s : Search) (hs reach : List ℕ) (first met grown crossed : Aim) (c new : Change)
-    → IsAimedAt t h s hs reach first met grown crossed → LeadsTo t hs s.root s.tree.items reach crossed c
-    → Narrows s.tree.items c new → Bounds t h s new
+pub bounds_of : (t : TableValue) (h : ℕ → ℕ) (s : SearchValue) (hs reach : List ℕ) (first met grown crossed : Aim) (c new : Change)
+    → IsAimedAt t h s hs reach first met grown crossed → LeadsTo t hs s.root s.tree reach crossed c
+    → Narrows s.tree c new → Bounds t h s new
 bounds_of t h s hs reach first met grown crossed c new a l n =
     let i = a.search in
     let at = a.heights in
     let near = λ (x y : ℕ) (hx : 1 ≤ count x (outers s)) (ly : y < t.places) (apart : holding_both x y s ≡ 0).
     is_near t h s hs reach x y a.table i a.reaches hx ly apart in
     record {
-      one = λ x y hx hy. either_room (h x + h y + new.by ≤ 2 * entry t x y) (count y (couple_members s.rest.items)) (count y s.free.items)
+      one = λ x y hx hy. either_room (h x + h y + new.by ≤ 2 * entry t x y) (count y (couple_members s.rest)) (count y s.free)
           (λ here.
           let k = near x y hx (place_in t y (omega (arith, i.places y, here))) (not_both s x y (omega (
             arith,

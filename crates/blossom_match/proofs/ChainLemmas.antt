@@ -9,8 +9,7 @@ use Rattle.blossom_match.specs.Sound.{IsFirm, IsFirmPart, IsSymmetric, IsTight}
 use Rattle.blossom_match.specs.Trees.{around, both, branch_bands, inner_bands, outer_members, inner_members, IsGrown}
 use Rattle.blossom_match.specs.Shrinks.{part_of, Shrinking, Chaining}
 use Rattle.blossom_match.specs.declared.nest.Link.{Link}
-use Rattle.blossom_match.specs.declared.nest.Part.{Part}
-use Rattle.blossom_match.specs.declared.branches.Branch.{Branch}
+use Rattle.blossom_match.specs.Values.{BranchValue, PartValue}
 use Rattle.blossom_match.proofs.ListLemmas.{each-append, each-left, each-last}
 use Rattle.blossom_match.proofs.SumLemmas.{adds_none, count-append, size-append}
 use Rattle.blossom_match.proofs.RingLemmas.{members_in-append}
@@ -18,7 +17,7 @@ use Rattle.blossom_match.proofs.OpenLemmas.{bands_in-append}
 use Rattle.blossom_match.proofs.ClosingLemmas.{leads_on}
 use Rattle.blossom_match.proofs.TreeLemmas.{last_of, outer_members_push, inner_members_push, branch_bands_push, inner_bands_push, grown_more}
 
-members_more : (x : ℕ) (chain : List Part) (p q : Part) → count x (members_in ((chain ++ p ∷ []) ++ q ∷ []))
+members_more : (x : ℕ) (chain : List PartValue) (p q : PartValue) → count x (members_in ((chain ++ p ∷ []) ++ q ∷ []))
     ≡ count x (members_in chain) + count x p.nest.members + count x q.nest.members
 members_more x chain p q =
     omega (
@@ -30,7 +29,7 @@ members_more x chain p q =
       count-append x q.nest.members [],
     )
 
-bands_more : (F : List Band → ℕ) → Adds F → (chain : List Part) (p q : Part) → F (bands_in ((chain ++ p ∷ []) ++ q ∷ []))
+bands_more : (F : List Band → ℕ) → Adds F → (chain : List PartValue) (p q : PartValue) → F (bands_in ((chain ++ p ∷ []) ++ q ∷ []))
     ≡ F (bands_in chain) + F (bands p.nest) + F (bands q.nest)
 bands_more F add chain p q =
     omega (
@@ -44,25 +43,25 @@ bands_more F add chain p q =
     )
 
 -- the sets of two trees
-pub around_append : (a b : ℕ) (xs ys : List Branch) → around a b (xs ++ ys) ≡ around a b xs + around a b ys
+pub around_append : (a b : ℕ) (xs ys : List BranchValue) → around a b (xs ++ ys) ≡ around a b xs + around a b ys
 around_append a b [] ys = omega arith
 around_append a b (c ∷ xs) ys = omega (arith, around_append a b xs ys)
 
-pub around_push : (a b : ℕ) (bs : List Branch) (c : Branch) → around a b (bs ++ c ∷ []) ≡ around a b bs + both a b c.outer
+pub around_push : (a b : ℕ) (bs : List BranchValue) (c : BranchValue) → around a b (bs ++ c ∷ []) ≡ around a b bs + both a b c.outer
 around_push a b [] c = omega arith
 around_push a b (k ∷ bs) c = omega (arith, around_push a b bs c)
 
 pub tight_back : (d : TableValue) (h : ℕ → ℕ) (l : Link) → IsSymmetric d → IsTight d h l → IsTight d h (back_of l)
 tight_back d h l sy t = omega (arith, sy l.from l.to, t)
 
-pub chaining_left : (link : Link) (root : NestValue) (tree left bs : List Branch) (b : Branch) (chain next : List Part)
-    (aside : List Branch) (way : Link) (to : ℕ) →
+pub chaining_left : (link : Link) (root : NestValue) (tree left bs : List BranchValue) (b : BranchValue) (chain next : List PartValue)
+    (aside : List BranchValue) (way : Link) (to : ℕ) →
     Chaining link root tree left chain aside way to → left ≡ bs ++ b ∷ [] → 1 ≤ count way.from b.outer.members → count to b.outer.members
     ≡ 0 →
     Kept b.inner → Kept b.outer → next ≡ part_of b.inner b.pair ∷ part_of b.outer way ∷ chain →
     Chaining link root tree bs next aside b.up to
 chaining_left link root tree left bs b chain next aside way to c e here away ci co f =
-    let c = subst (λ (ks : List Branch). Chaining link root tree ks chain aside way to) e c in
+    let c = subst (λ (ks : List BranchValue). Chaining link root tree ks chain aside way to) e c in
     let l = last_of root.members bs b c.grown in
     let o = λ (x : ℕ). outer_members_push x root.members bs b in
     let one : count way.from b.outer.members ≡ 1 = omega (
@@ -73,7 +72,7 @@ chaining_left link root tree left bs b chain next aside way to c e here away ci 
           root.members bs b,
     ) in
     let longer = part_of b.inner b.pair ∷ part_of b.outer way ∷ chain in
-    subst (λ (ks : List Part). Chaining link root tree bs ks aside b.up to) (sym f) (record {
+    subst (λ (ks : List PartValue). Chaining link root tree bs ks aside b.up to) (sym f) (record {
       grown = l.grown;
       leads = (l.up_to, l.pair_from, (l.pair_to, one, c.leads));
       from = l.above;
@@ -122,14 +121,14 @@ chaining_left link root tree left bs b chain next aside way to c e here away ci 
       );
     })
 
-pub chaining_right : (link : Link) (root : NestValue) (tree left bs : List Branch) (b : Branch) (chain next : List Part)
-    (aside : List Branch) (way : Link) (to : ℕ) →
+pub chaining_right : (link : Link) (root : NestValue) (tree left bs : List BranchValue) (b : BranchValue) (chain next : List PartValue)
+    (aside : List BranchValue) (way : Link) (to : ℕ) →
     Chaining link root tree left chain aside way to → left ≡ bs ++ b ∷ [] → count way.from b.outer.members ≡ 0
     → 1 ≤ count to b.outer.members →
     Kept b.inner → Kept b.outer → next ≡ (chain ++ part_of b.outer (back_of b.pair) ∷ []) ++ part_of b.inner (back_of b.up) ∷ [] →
     Chaining link root tree bs next aside way b.up.from
 chaining_right link root tree left bs b chain next aside way to c e away here ci co f =
-    let c = subst (λ (ks : List Branch). Chaining link root tree ks chain aside way to) e c in
+    let c = subst (λ (ks : List BranchValue). Chaining link root tree ks chain aside way to) e c in
     let l = last_of root.members bs b c.grown in
     let o = λ (x : ℕ). outer_members_push x root.members bs b in
     let one : count to b.outer.members ≡ 1 = omega (arith, c.once to, c.places to, outer_members_push to root.members bs b) in
@@ -138,7 +137,7 @@ chaining_right link root tree left bs b chain next aside way to c e away here ci
     let longer = (chain ++ p ∷ []) ++ q ∷ [] in
     let more = λ (x : ℕ). members_more x chain p q in
     let size : length longer ≡ length chain + 2 = omega (arith, length-append (chain ++ p ∷ []) (q ∷ []), length-append chain (p ∷ [])) in
-    subst (λ (ks : List Part). Chaining link root tree bs ks aside way b.up.from) (sym f) (record {
+    subst (λ (ks : List PartValue). Chaining link root tree bs ks aside way b.up.from) (sym f) (record {
       grown = l.grown;
       leads = leads_on way (chain ++ p ∷ []) b.pair.from q (leads_on way chain to p c.leads one l.pair_to) l.pair_from l.up_to;
       from = omega (arith, c.from, outer_members_push way.from root.members bs b);
@@ -146,8 +145,8 @@ chaining_right link root tree left bs b chain next aside way to c e away here ci
       even = omega (arith, c.even, size);
       begun = λ none. absurd (omega (arith, size));
       apart = omega (arith, c.apart, around_push link.from link.to bs b);
-      kept = each-append (λ (k : Part). Kept k.nest) (chain ++ p ∷ []) (q ∷ [])
-          (each-append (λ (k : Part). Kept k.nest) chain (p ∷ []) c.kept (co, tt)) (ci, tt);
+      kept = each-append (λ (k : PartValue). Kept k.nest) (chain ++ p ∷ []) (q ∷ [])
+          (each-append (λ (k : PartValue). Kept k.nest) chain (p ∷ []) c.kept (co, tt)) (ci, tt);
       hung = grown_more (members_in chain ++ outer_members root.members (bs ++ b ∷ [])) (members_in longer ++ outer_members root.members bs)
           (reverse aside)
           (λ x. omega (
@@ -172,13 +171,13 @@ chaining_right link root tree left bs b chain next aside way to c e away here ci
       );
     })
 
-pub chaining_aside : (link : Link) (root : NestValue) (tree left bs : List Branch) (b : Branch) (chain : List Part)
-    (aside next : List Branch) (way : Link) (to : ℕ) →
+pub chaining_aside : (link : Link) (root : NestValue) (tree left bs : List BranchValue) (b : BranchValue) (chain : List PartValue)
+    (aside next : List BranchValue) (way : Link) (to : ℕ) →
     Chaining link root tree left chain aside way to → left ≡ bs ++ b ∷ [] → count way.from b.outer.members ≡ 0 → count to b.outer.members
     ≡ 0 →
     next ≡ aside ++ b ∷ [] → Chaining link root tree bs chain next way to
 chaining_aside link root tree left bs b chain aside next way to c e away off f =
-    let c = subst (λ (ks : List Branch). Chaining link root tree ks chain aside way to) e c in
+    let c = subst (λ (ks : List BranchValue). Chaining link root tree ks chain aside way to) e c in
     let l = last_of root.members bs b c.grown in
     let o = λ (x : ℕ). outer_members_push x root.members bs b in
     let base = members_in chain ++ outer_members root.members bs in
@@ -192,7 +191,7 @@ chaining_aside link root tree left bs b chain aside next way to c e away off f =
       begun = c.begun;
       apart = omega (arith, c.apart, around_push link.from link.to bs b);
       kept = c.kept;
-      hung = subst (λ (ks : List Branch). IsGrown base ks) (sym rev) (
+      hung = subst (λ (ks : List BranchValue). IsGrown base ks) (sym rev) (
         omega (arith, l.above, count-append b.up.from (members_in chain) (outer_members root.members bs)),
         l.up_to,
         l.pair_from,
@@ -222,7 +221,7 @@ chaining_aside link root tree left bs b chain aside next way to c e away off f =
         arith,
         c.sums F add,
         branch_bands_push F add bs b,
-        ap (λ (ks : List Branch). F (branch_bands ks)) rev,
+        ap (λ (ks : List BranchValue). F (branch_bands ks)) rev,
         add
             (bands b.inner) (bands b.outer ++ branch_bands (reverse aside)),
         add (bands b.outer) (branch_bands (reverse aside)),
@@ -232,24 +231,24 @@ chaining_aside link root tree left bs b chain aside next way to c e away off f =
         c.fewer,
         inner_bands_push (λ (ks : List Band). length ks) size-append bs b,
         ap
-            (λ (ks : List Branch). length (inner_bands ks)) rev,
+            (λ (ks : List BranchValue). length (inner_bands ks)) rev,
         size-append (bands b.inner) (inner_bands (reverse aside)),
       );
       firm = λ d h sy w t. let r = c.firm d h sy w t in (
         each-left (IsFirm d h) bs (b ∷ []) r.0,
-        subst (λ (ks : List Branch). Each (IsFirm d h) ks) (sym rev)
+        subst (λ (ks : List BranchValue). Each (IsFirm d h) ks) (sym rev)
             (each-last (IsFirm d h) bs b r.0, r.1),
         r.2,
         r.3,
       );
     }
 
-pub chaining_start : (link : Link) (root : NestValue) (tree : List Branch) (chain : List Part) (aside : List Branch)
+pub chaining_start : (link : Link) (root : NestValue) (tree : List BranchValue) (chain : List PartValue) (aside : List BranchValue)
     → Shrinking link root tree → chain ≡ [] → aside ≡ [] →
     Chaining link root tree tree chain aside link link.to
 chaining_start link root tree chain aside s e f =
-    subst (λ (ks : List Part). Chaining link root tree tree ks aside link link.to) (sym e)
-    (subst (λ (ks : List Branch). Chaining link root tree tree [] ks link link.to) (sym f) (record {
+    subst (λ (ks : List PartValue). Chaining link root tree tree ks aside link link.to) (sym e)
+    (subst (λ (ks : List BranchValue). Chaining link root tree tree [] ks link link.to) (sym f) (record {
       grown = s.grown;
       leads = refl;
       from = s.from;

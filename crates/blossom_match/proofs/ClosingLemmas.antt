@@ -10,79 +10,79 @@ use Rattle.blossom_match.specs.Sound.{IsFirm, IsFirmPart, IsSound, IsTight}
 use Rattle.blossom_match.specs.Shrinks.{Leads}
 use Rattle.blossom_match.specs.Trees.{outer_members, inner_members, IsGrown}
 use Rattle.blossom_match.specs.declared.nest.Link.{Link}
-use Rattle.blossom_match.specs.declared.nest.Part.{Part}
-use Rattle.blossom_match.specs.declared.branches.Branch.{Branch}
+use Rattle.blossom_match.specs.Values.{BranchValue, PartValue}
 use Rattle.blossom_match.proofs.ListLemmas.{each-append, each-map}
 use Rattle.blossom_match.proofs.SumLemmas.{count-append, height-append, low, none_tall, IsPaid-append}
 use Rattle.blossom_match.proofs.RingLemmas.{made_kept, none_in}
 use Rattle.blossom_match.proofs.RowLemmas.{ring_near}
 use Rattle.blossom_match.proofs.TreeLemmas.{outer_members_base}
 
-pub leads_on : (way : Link) (ps : List Part) (to : ℕ) (p : Part) → Leads way ps to → count to p.nest.members ≡ 1
+pub leads_on : (way : Link) (ps : List PartValue) (to : ℕ) (p : PartValue) → Leads way ps to → count to p.nest.members ≡ 1
     → count p.next.from p.nest.members ≡ 1 →
     Leads way (ps ++ p ∷ []) p.next.to
 leads_on way [] to p l here from = (subst (λ (x : ℕ). count x p.nest.members ≡ 1) (sym l) here, from, refl)
 leads_on way (q ∷ ps) to p l here from = (l.0, l.1, leads_on q.next ps to p l.2 here from)
 
-linked_to : (p : Part) (ps : List Part) (to : ℕ) (top : Part) → count p.next.from p.nest.members ≡ 1 → Leads p.next ps to
+linked_to : (p : PartValue) (ps : List PartValue) (to : ℕ) (top : PartValue) → count p.next.from p.nest.members ≡ 1 → Leads p.next ps to
     → count to top.nest.members ≡ 1 → Linked p (ps ++ top ∷ [])
 linked_to p [] to top from l here = ((from, subst (λ (x : ℕ). count x top.nest.members ≡ 1) (sym l) here), tt)
 linked_to p (q ∷ ps) to top from l here = ((from, l.0), linked_to q ps to top l.1 l.2 here)
 
 -- the set at the top and the chain below it are a ring
-pub chain_closes : (top : Part) (ps : List Part) (to : ℕ) → Leads top.next ps to → count top.next.from top.nest.members ≡ 1
+pub chain_closes : (top : PartValue) (ps : List PartValue) (to : ℕ) → Leads top.next ps to → count top.next.from top.nest.members ≡ 1
     → count to top.nest.members ≡ 1 →
     IsLinkedRing (top ∷ ps)
 chain_closes top ps to l from here = linked_to top ps to top from l here
 
 -- in each part heights are those over all sets
-abbrev pub IsLocal : (ℕ → ℕ) → Part → Type 0
+abbrev pub IsLocal : (ℕ → ℕ) → PartValue → Type 0
 IsLocal h p = (x : ℕ) → 1 ≤ count x p.nest.members → height x (bands p.nest) ≡ h x
 
-abbrev pub AllLocal : (ℕ → ℕ) → List Part → Type 0
+abbrev pub AllLocal : (ℕ → ℕ) → List PartValue → Type 0
 AllLocal h ps = Each (IsLocal h) ps
 
 -- the links of a chain, but for the last part's
-abbrev pub ChainTight : TableValue → (ℕ → ℕ) → Part → List Part → Type 0
+abbrev pub ChainTight : TableValue → (ℕ → ℕ) → PartValue → List PartValue → Type 0
 ChainTight d h p [] = Unit {0}
 ChainTight d h p (q ∷ qs) = IsTight d h p.next × ChainTight d h q qs
 
-pub tight_is_paid : (d : TableValue) (h : ℕ → ℕ) (p : Part) (qs : List Part) → Linked p qs → IsLocal h p → AllLocal h qs
+pub tight_is_paid : (d : TableValue) (h : ℕ → ℕ) (p : PartValue) (qs : List PartValue) → Linked p qs → IsLocal h p → AllLocal h qs
     → ChainTight d h p qs → IsPaid d (tolls_along p qs)
 tight_is_paid d h p [] l a b t = tt
 tight_is_paid d h p (q ∷ qs) l a b t =
     (omega (arith, t.0, a p.next.from (omega (arith, l.0.0)), b.0 p.next.to (omega (arith, l.0.1))), tight_is_paid d h q qs l.1 b.0 b.1 t.1)
 
-pub paid_is_tight : (d : TableValue) (h : ℕ → ℕ) (p : Part) (qs : List Part) → Linked p qs → IsLocal h p → AllLocal h qs
+pub paid_is_tight : (d : TableValue) (h : ℕ → ℕ) (p : PartValue) (qs : List PartValue) → Linked p qs → IsLocal h p → AllLocal h qs
     → IsPaid d (tolls_along p qs) → ChainTight d h p qs
 paid_is_tight d h p [] l a b t = tt
 paid_is_tight d h p (q ∷ qs) l a b t =
     (omega (arith, t.0, a p.next.from (omega (arith, l.0.0)), b.0 p.next.to (omega (arith, l.0.1))), paid_is_tight d h q qs l.1 b.0 b.1 t.1)
 
-chain_on : (d : TableValue) (h : ℕ → ℕ) (p top : Part) (qs : List Part) → Each (λ (k : Part). IsTight d h k.next) (p ∷ qs)
+chain_on : (d : TableValue) (h : ℕ → ℕ) (p top : PartValue) (qs : List PartValue) → Each (λ (k : PartValue). IsTight d h k.next) (p ∷ qs)
     → ChainTight d h p (qs ++ top ∷ [])
 chain_on d h p top [] t = (t.0, tt)
 chain_on d h p top (q ∷ qs) t = (t.0, chain_on d h q top qs t.1)
 
-AllLocal_on : (h : ℕ → ℕ) (qs : List Part) (p : Part) → AllLocal h qs → IsLocal h p → AllLocal h (qs ++ p ∷ [])
+AllLocal_on : (h : ℕ → ℕ) (qs : List PartValue) (p : PartValue) → AllLocal h qs → IsLocal h p → AllLocal h (qs ++ p ∷ [])
 AllLocal_on h [] p a b = (b, tt)
 AllLocal_on h (q ∷ qs) p a b = (a.0, AllLocal_on h qs p a.1 b)
 
 -- the tolls of a new ring are paid where all its links are tight
-pub ring_is_paid : (d : TableValue) (h : ℕ → ℕ) (p : Part) (ps : List Part) → IsLinkedRing (p ∷ ps) → AllLocal h (p ∷ ps)
-    → Each (λ (k : Part). IsTight d h k.next) (p ∷ ps) → IsPaid d (ring_tolls (p ∷ ps))
+pub ring_is_paid : (d : TableValue) (h : ℕ → ℕ) (p : PartValue) (ps : List PartValue) → IsLinkedRing (p ∷ ps) → AllLocal h (p ∷ ps)
+    → Each (λ (k : PartValue). IsTight d h k.next) (p ∷ ps) → IsPaid d (ring_tolls (p ∷ ps))
 ring_is_paid d h p ps l a t = tight_is_paid d h p (ps ++ p ∷ []) l a.0 (AllLocal_on h ps p a.1 a.0) (chain_on d h p p ps t)
 
-paid_inside : (d : TableValue) (h : ℕ → ℕ) (ps : List Part) → Each (IsFirmPart d h) ps → IsPaid d (tolls_in ps)
+paid_inside : (d : TableValue) (h : ℕ → ℕ) (ps : List PartValue) → Each (IsFirmPart d h) ps → IsPaid d (tolls_in ps)
 paid_inside d h [] f = tt
 paid_inside d h (p ∷ ps) f = IsPaid-append d p.nest.tolls (tolls_in ps) f.0.nest.paid (paid_inside d h ps f.1)
 
-near_inside : (d : TableValue) (h : ℕ → ℕ) (ps : List Part) → Each (IsFirmPart d h) ps → Each (IsNear d) (rows_in ps)
+near_inside : (d : TableValue) (h : ℕ → ℕ) (ps : List PartValue) → Each (IsFirmPart d h) ps → Each (IsNear d) (rows_in ps)
 near_inside d h [] f = tt
 near_inside d h (p ∷ ps) f = each-append (IsNear d) (rows_of p.nest) (rows_in ps) f.0.nest.near (near_inside d h ps f.1)
 
 -- a member of the first part is in no other; a member of another is not in it
-local_case : (n : ℕ) (d : TableValue) (h : ℕ → ℕ) (x : ℕ) (p : Part) (ps : List Part) → count x p.nest.members ≡ n → AllKept (p ∷ ps)
+local_case : (n : ℕ) (d : TableValue) (h : ℕ → ℕ) (x : ℕ) (p : PartValue) (ps : List PartValue) → count x p.nest.members ≡ n → AllKept
+    (p ∷ ps)
     → IsSound d h p.nest →
     count x (members_in (p ∷ ps)) ≤ 1 → (count x p.nest.members ≡ 0 → height x (bands_in ps) ≡ h x) → height x (bands_in (p ∷ ps)) ≡ h x
 local_case zero d h x p ps e kept s once rest =
@@ -92,7 +92,7 @@ local_case (suc n) d h x p ps e kept s once rest =
     omega (arith, height-append x (bands p.nest) (bands_in ps), s.local x (omega (arith, e)), none)
 
 -- a member of one of the parts has the height there that it has over all sets
-local_in : (d : TableValue) (h : ℕ → ℕ) (x : ℕ) (ps : List Part) → AllKept ps → Each (IsFirmPart d h) ps → count x (members_in ps) ≤ 1
+local_in : (d : TableValue) (h : ℕ → ℕ) (x : ℕ) (ps : List PartValue) → AllKept ps → Each (IsFirmPart d h) ps → count x (members_in ps) ≤ 1
     → 1 ≤ count x (members_in ps) → height x (bands_in ps) ≡ h x
 local_in d h x [] kept f once some = absurd (omega arith)
 local_in d h x (p ∷ ps) kept f once some =
@@ -101,15 +101,16 @@ local_in d h x (p ∷ ps) kept f once some =
     (λ none. local_in d h x ps kept.1 f.1 (omega (arith, c)) (omega (arith, c, none)))
 
 -- the set that a ring of firm parts makes is sound
-pub ring_sound : (d : TableValue) (h : ℕ → ℕ) (p : Part) (ps : List Part) → IsRing (p ∷ ps) → ((x : ℕ) → count x (members_in (p ∷ ps)) ≤ 1)
+pub ring_sound : (d : TableValue) (h : ℕ → ℕ) (key : ℕ) (p : PartValue) (ps : List PartValue) → IsRing (p ∷ ps) →
+    ((x : ℕ) → count x (members_in (p ∷ ps)) ≤ 1)
     → Each (IsFirmPart d h) (p ∷ ps) →
     ((x y : ℕ) → 1 ≤ count x (members_in (p ∷ ps)) → 1 ≤ count y (members_in (p ∷ ps)) → (h x + h y) % 2 ≡ 0)
-    → IsSound d h (ring_of (p ∷ ps))
-ring_sound d h p ps ring once firm even = record {
-  kept = made_kept (members_in (p ∷ ps)) 0 (ring_row (p ∷ ps)) (p ∷ ps) (refl, ring);
+    → IsSound d h (ring_of key (p ∷ ps))
+ring_sound d h key p ps ring once firm even = record {
+  kept = made_kept key (members_in (p ∷ ps)) 0 (ring_row (p ∷ ps)) (p ∷ ps) (refl, ring);
   paid = IsPaid-append d (ring_tolls (p ∷ ps)) (tolls_in (p ∷ ps))
       (ring_is_paid d h p ps ring.linked (each-map (IsFirmPart d h) (IsLocal h) (λ q f. f.nest.local) (p ∷ ps) firm)
-      (each-map (IsFirmPart d h) (λ (k : Part). IsTight d h k.next) (λ q f. f.next) (p ∷ ps) firm))
+      (each-map (IsFirmPart d h) (λ (k : PartValue). IsTight d h k.next) (λ q f. f.next) (p ∷ ps) firm))
       (paid_inside d h (p ∷ ps) firm);
   near = (
     ring_near d h p ps firm once (λ x some. local_in d h x (p ∷ ps) ring.kept firm (once x) some),
@@ -128,7 +129,8 @@ even_case zero k m o one two some = two (omega arith)
 even_case (suc n) k m o one two some = one (omega arith)
 
 -- all members of the tree's sets have heights that are even or odd as that of r is
-pub tree_even : (d : TableValue) (h : ℕ → ℕ) (r : ℕ) (base : List ℕ) (tree : List Branch) → IsGrown base tree → Each (IsFirm d h) tree →
+pub tree_even : (d : TableValue) (h : ℕ → ℕ) (r : ℕ) (base : List ℕ) (tree : List BranchValue) → IsGrown base tree → Each (IsFirm d h)
+    tree →
     ((x : ℕ) → 1 ≤ count x base → (h r + h x) % 2 ≡ 0) → (x : ℕ) → 1 ≤ count x (outer_members base tree) + count x (inner_members tree)
     → (h r + h x) % 2 ≡ 0
 tree_even d h r base [] g f even x some = even x (omega (arith, some))

@@ -4,33 +4,39 @@ use Rattle.std.proofs.lemmas.List.{take-append-drop}
 use Rattle.blossom_match.specs.Bands.{count}
 use Rattle.blossom_match.specs.Couples.{couple_members, CoupleHolds, FirstCoupleHolds}
 use Rattle.blossom_match.specs.Trees.{TakesOut}
-use Rattle.blossom_match.specs.declared.couples.Couple.{Couple}
+use Rattle.blossom_match.specs.Values.{CoupleValue}
 use Rattle.blossom_match.proofs.SumLemmas.{count-append}
 
 -- the couple at the index comes first among those that are left
-pub couple_here : (cs : List Couple) (i : ℕ) (c : Couple) → i < length cs → c ≡ get_or cs i c → drop i cs ≡ c ∷ drop (i + 1) cs
-couple_here cs i c lt is = rw add-one (drop-cons cs i c lt ∙ ap (λ (k : Couple). k ∷ drop (suc i) cs) (sym is))
+pub couple_here : (cs : List CoupleValue) (i : ℕ) (c : CoupleValue) → i < length cs → c ≡ get_or cs i c → drop i cs ≡ c ∷ drop (i + 1) cs
+couple_here cs i c lt is = rw add-one (drop-cons cs i c lt ∙ ap (λ (k : CoupleValue). k ∷ drop (suc i) cs) (sym is))
 
-pub couple_later : (x : ℕ) (cs : List Couple) (i : ℕ) (c : Couple) → i < length cs → c ≡ get_or cs i c → count x c.first.members ≡ 0
+pub couple_later : (x : ℕ) (cs : List CoupleValue) (i : ℕ) (c : CoupleValue) → i < length cs → c ≡ get_or cs i c → count x c.first.members
+    ≡ 0
     → count x c.second.members ≡ 0 →
     1 ≤ count x (couple_members (drop i cs)) → 1 ≤ count x (couple_members (drop (i + 1) cs))
 couple_later x cs i c lt is off none some =
     omega (
       arith,
-      ap (λ (ks : List Couple). count x (couple_members ks)) (couple_here cs i c lt is),
+      ap (λ (ks : List CoupleValue). count x (couple_members ks)) (couple_here cs i c lt is),
       count-append x c.first.members (c.second.members ++ couple_members (drop (i + 1) cs)),
       count-append x c.second.members (couple_members (drop (i + 1) cs)),
     )
 
-pub taken_out : (x : ℕ) (old new : List Couple) (i : ℕ) (c : Couple) → i < length old → c ≡ get_or old i c → new
+pub taken_out : (x : ℕ) (old new : List CoupleValue) (i : ℕ) (c : CoupleValue) → i < length old → c ≡ get_or old i c → new
     ≡ take i old ++ drop (suc i) old → CoupleHolds x old i →
     TakesOut x old new c
 taken_out x old new i c lt is now holds =
-    let here : drop i old ≡ c ∷ drop (suc i) old = drop-cons old i c lt ∙ ap (λ (k : Couple). k ∷ drop (suc i) old) (sym is) in
+    let here : drop i old ≡ c ∷ drop (suc i) old = drop-cons old i c lt ∙ ap (λ (k : CoupleValue). k ∷ drop (suc i) old) (sym is) in
     record {
       before = take i old;
       after = drop (suc i) old;
-      was = sym (take-append-drop i old) ∙ ap (λ (ks : List Couple). take i old ++ ks) here;
+      was = sym (take-append-drop i old) ∙ ap (λ (ks : List CoupleValue). take i old ++ ks) here;
       now = now;
       here = subst (FirstCoupleHolds x) here holds;
     }
+
+-- the couple at the index holds the place
+pub couple_holds : (x : ℕ) (cs : List CoupleValue) (i : ℕ) (c : CoupleValue) → i < length cs → c ≡ get_or cs i c
+    → 1 ≤ count x c.first.members + count x c.second.members → CoupleHolds x cs i
+couple_holds x cs i c low is here = subst (FirstCoupleHolds x) (sym (couple_here cs i c low is)) here

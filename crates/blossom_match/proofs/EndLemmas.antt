@@ -17,11 +17,12 @@ use Rattle.blossom_match.specs.Taken.{IsOddIn, LieIn, TakesCouples}
 use Rattle.blossom_match.specs.Matchings.{AreLaminar, IsMatching, IsOddMoat}
 use Rattle.blossom_match.specs.TableValue.{TableValue}
 use Rattle.blossom_match.specs.Tables.{entry, IsMetric}
-use Rattle.blossom_match.specs.declared.couples.Couple.{Couple}
+use Rattle.blossom_match.specs.Values.{CoupleValue, SearchValue}
 use Rattle.blossom_match.specs.declared.matching.Moat.{Moat}
 use Rattle.blossom_match.specs.declared.matching.Pair.{Pair}
 use Rattle.blossom_match.specs.declared.least.Change.{Change}
-use Rattle.blossom_match.specs.declared.search.Search.{Search}
+use Rattle.blossom_match.specs.Slots.{couples_in}
+use Rattle.blossom_match.specs.States.{search_value}
 use Rattle.blossom_match.specs.declared.phase.Stepped.{Stepped}
 use Rattle.blossom_match.specs.declared.phase.Stepped.TheVariants.{More, Done}
 use Rattle.blossom_match.proofs.SumLemmas.{count-append, hit_same}
@@ -45,41 +46,42 @@ places_more x n xs new e f =
     ∙ below_case (ltb x n) (eqb x n) (ltb x (n + 1)) x n refl refl refl
 
 -- a free place has a cell
-pub place_there : (t : TableValue) (place : ℕ) (couples : List Couple) (free heights : List ℕ)
+pub place_there : (t : TableValue) (place : ℕ) (couples : List CoupleValue) (free heights : List ℕ)
     → Stands t couples (free ++ place ∷ []) heights → place < length heights
 place_there t place couples free heights st =
     omega (arith, st.size, place_in t place (omega (arith, st.standing.places place, count-append place free (place ∷ []), hit_same place)))
 
-pub begins : (t : TableValue) (place : ℕ) (couples : List Couple) (free heights : List ℕ) (s : Search)
+pub begins : (t : TableValue) (place : ℕ) (couples : List CoupleValue) (free heights : List ℕ) (s : SearchValue)
     → Stands t couples (free ++ place ∷ []) heights → 1 ≤ length free → Begins t place couples free heights s → CanSearch t s
 begins t place couples free heights s st some b =
     let high = λ (hs : List ℕ) (x : ℕ). get_or hs x 0 in
-    let at = subst (λ (hs : List ℕ). IsStanding t (high hs) s.rest.items (s.free.items ++ place ∷ [])) (sym b.heights)
-    (subst (λ (cs : List Couple). IsStanding t (high heights) cs (s.free.items ++ place ∷ [])) (sym b.rest)
+    let at = subst (λ (hs : List ℕ). IsStanding t (high hs) s.rest (s.free ++ place ∷ [])) (sym b.heights)
+    (subst (λ (cs : List CoupleValue). IsStanding t (high heights) cs (s.free ++ place ∷ [])) (sym b.rest)
     (subst (λ (xs : List ℕ). IsStanding t (high heights) couples (xs ++ place ∷ [])) (sym b.free) st.standing)) in
     record {
       search = begun t (height_at s) place s b.table at
-          (subst (λ (hs : List ℕ). s.root ≡ single_of t place (high hs place)) (sym b.heights) b.root)
+          (subst (λ (hs : List ℕ). s.root ≡ single_of s.root.key t place (high hs place)) (sym b.heights) b.root)
           b.tree;
       size = ap (λ (hs : List ℕ). length hs) b.heights ∙ st.size;
       some = omega (arith, some, ap (λ (xs : List ℕ). length xs) b.free);
     }
 
-pub can_step : (t : TableValue) (s wide : Search) (c : Change) → IsMetric t → CanSearch t s → Bounds t (height_at s) s c → Widens s c wide
+pub can_step : (t : TableValue) (s wide : SearchValue) (c : Change) → IsMetric t → CanSearch t s → Bounds t (height_at s) s c → Widens s c
+    wide
     → CanStepAt t wide c.step
 can_step t s wide c m can bounds w =
     let on = w.search t m can bounds in
     record { search = on.search; ready = on.ready; size = on.size }
 
-pub can_widen_now : (t : TableValue) (s : Search) (c : Change) → IsMetric t → CanSearch t s → Bounds t (height_at s) s c → CanWiden s c
+pub can_widen_now : (t : TableValue) (s : SearchValue) (c : Change) → IsMetric t → CanSearch t s → Bounds t (height_at s) s c → CanWiden s c
 can_widen_now t s c m can bounds = record { t = t; metric = m; can = can; bounds = bounds }
 
-pub goes : (t : TableValue) (s wide : Search) (c : Change) (next : Stepped) → IsMetric t → CanSearch t s → Bounds t (height_at s) s c
+pub goes : (t : TableValue) (s wide : SearchValue) (c : Change) (next : Stepped) → IsMetric t → CanSearch t s → Bounds t (height_at s) s c
     → Widens s c wide → Leads t wide c.step next → Goes t s next
 goes t s wide c (More r) m can bounds w l =
     let on = w.search t m can bounds in
     let free = l.free ∙ w.free in
-    let same = subst (λ (hs : List ℕ). IsSearch t (λ (x : ℕ). get_or hs x 0) r) (sym l.heights)
+    let same = subst (λ (hs : List ℕ). IsSearch t (λ (x : ℕ). get_or hs x 0) (search_value r)) (sym l.heights)
     (l.search t (height_at wide) on.search on.ready) in (
       record {
         search = same;
@@ -92,7 +94,8 @@ goes t s wide c (More r) m can bounds w l =
     )
 goes t s wide c (Done r) m can bounds w l =
     let on = w.search t m can bounds in
-    let same = subst (λ (hs : List ℕ). IsStanding t (λ (x : ℕ). get_or hs x 0) r.couples.items r.free.items) (sym l.heights)
+    let same = subst (λ (hs : List ℕ). IsStanding t (λ (x : ℕ). get_or hs x 0) (couples_in r.sets r.couples.items) r.free.items)
+    (sym l.heights)
     l.standing in (
       record { standing = same; size = ap (λ (hs : List ℕ). length hs) l.heights ∙ on.size },
       omega
@@ -100,7 +103,7 @@ goes t s wide c (Done r) m can bounds w l =
     )
 
 -- each couple's links are paid
-settled : (d : TableValue) (h : ℕ → ℕ) (cs : List Couple) → Each IsJoined cs → Each (IsFirmCouple d h) cs → Each (IsSettled d) cs
+settled : (d : TableValue) (h : ℕ → ℕ) (cs : List CoupleValue) → Each IsJoined cs → Each (IsFirmCouple d h) cs → Each (IsSettled d) cs
 settled d h [] j f = tt
 settled d h (c ∷ cs) j f = (
   record {
@@ -157,7 +160,7 @@ load_same a (s ∷ bs) =
     let e : apart (count a s.members) (count a s.members) ≡ 0 = omega arith in
     omega (arith, load_same a bs, ap (λ (k : ℕ). s.width * k) e)
 
-load_case : (p : Bool) (t : TableValue) (h : ℕ → ℕ) (cs : List Couple) (a b : ℕ) → eqb a b ≡ p → IsStanding t h cs [] → a < t.places
+load_case : (p : Bool) (t : TableValue) (h : ℕ → ℕ) (cs : List CoupleValue) (a b : ℕ) → eqb a b ≡ p → IsStanding t h cs [] → a < t.places
     → b < t.places → load a b (couple_bands cs) ≤ 2 * entry t a b
 load_case true t h cs a b e st la lb =
     let same : a ≡ b = eqb-true a b e in
@@ -165,7 +168,7 @@ load_case true t h cs a b e st la lb =
 load_case false t h cs a b e st la lb = st.loads a b la lb (eqb-false a b e)
 
 -- what is taken out of couples that hold all places is a matching with moats
-pub matched : (t : TableValue) (cs : List Couple) (pairs : List Pair) (moats : List Moat) → IsMatched t cs
+pub matched : (t : TableValue) (cs : List CoupleValue) (pairs : List Pair) (moats : List Moat) → IsMatched t cs
     → TakesCouples cs [] pairs [] moats → IsMatching t pairs moats
 matched t cs pairs moats s k =
     let st = s.stands.standing in
@@ -180,5 +183,5 @@ matched t cs pairs moats s k =
       paid = omega (arith, k.widths, k.paid t (settled t (λ x. get_or s.heights x 0) cs st.joined st.firm));
     }
 
-pub once_each : (t : TableValue) (cs : List Couple) → IsMatched t cs → (x : ℕ) → count x (couple_members cs) ≤ 1
+pub once_each : (t : TableValue) (cs : List CoupleValue) → IsMatched t cs → (x : ℕ) → count x (couple_members cs) ≤ 1
 once_each t cs s x = omega (arith, s.stands.standing.places x, is_one t x)

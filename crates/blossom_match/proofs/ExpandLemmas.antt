@@ -11,9 +11,7 @@ use Rattle.blossom_match.specs.Sound.{IsFirm, IsFirmCouple, IsFirmPart, IsSound,
 use Rattle.blossom_match.specs.Trees.{outer_members, inner_members, IsGrown}
 use Rattle.blossom_match.specs.Lays.{CanLay, Expanding, Expands, FirstComesApart, GoesEvenly, Lays, WayInto, GrowsAt}
 use Rattle.blossom_match.specs.declared.nest.Link.{Link}
-use Rattle.blossom_match.specs.declared.nest.Part.{Part}
-use Rattle.blossom_match.specs.declared.couples.Couple.{Couple}
-use Rattle.blossom_match.specs.declared.branches.Branch.{Branch}
+use Rattle.blossom_match.specs.Values.{BranchValue, CoupleValue, PartValue}
 use Rattle.blossom_match.proofs.ListLemmas.{each-append, each-left, each-right, each-last}
 use Rattle.blossom_match.proofs.SumLemmas.{count-append, height-append, low, none_tall, size-append, IsPaid-left, IsPaid-right}
 use Rattle.blossom_match.proofs.RingLemmas.{none_in}
@@ -22,7 +20,7 @@ use Rattle.blossom_match.proofs.MirrorLemmas.{linked_left}
 use Rattle.blossom_match.proofs.TreeLemmas.{last_of, outer_members_push, inner_members_push, outer_members_base, branch_bands_push, branch_bands-append, inner_bands_push, inner_bands-append, couple_bands-append, couple_members-append, grown_more, grown-append, outer-append, inner-append}
 
 -- in a ring without a width each part alone makes the heights of its members
-parts_local : (h : ℕ → ℕ) (ps : List Part) → AllKept ps → ((x : ℕ) → count x (members_in ps) ≤ 1)
+parts_local : (h : ℕ → ℕ) (ps : List PartValue) → AllKept ps → ((x : ℕ) → count x (members_in ps) ≤ 1)
     → ((x : ℕ) → 1 ≤ count x (members_in ps) → height x (bands_in ps) ≡ h x) → AllLocal h ps
 parts_local h [] kept once at = tt
 parts_local h (p ∷ ps) kept once at =
@@ -39,16 +37,17 @@ parts_local h (p ∷ ps) kept once at =
           (λ x here. omega (arith, at x (omega (arith, c x, here)), s x, low x p.nest kept.0 (omega (arith, c x, once x, here)))),
     )
 
-AllLocal_on : (h : ℕ → ℕ) (qs : List Part) (p : Part) → AllLocal h qs → IsLocal h p → AllLocal h (qs ++ p ∷ [])
+AllLocal_on : (h : ℕ → ℕ) (qs : List PartValue) (p : PartValue) → AllLocal h qs → IsLocal h p → AllLocal h (qs ++ p ∷ [])
 AllLocal_on h [] p a b = (b, tt)
 AllLocal_on h (q ∷ qs) p a b = (a.0, AllLocal_on h qs p a.1 b)
 
-links_tight : (d : TableValue) (h : ℕ → ℕ) (p e : Part) (qs : List Part) → ChainTight d h p (qs ++ e ∷ [])
-    → Each (λ (k : Part). IsTight d h k.next) (p ∷ qs)
+links_tight : (d : TableValue) (h : ℕ → ℕ) (p e : PartValue) (qs : List PartValue) → ChainTight d h p (qs ++ e ∷ [])
+    → Each (λ (k : PartValue). IsTight d h k.next) (p ∷ qs)
 links_tight d h p e [] t = (t.0, tt)
 links_tight d h p e (q ∷ qs) t = (t.0, links_tight d h q e qs t.1)
 
-firm_each : (d : TableValue) (h : ℕ → ℕ) (ps : List Part) → AllKept ps → AllLocal h ps → Each (λ (k : Part). IsTight d h k.next) ps
+firm_each : (d : TableValue) (h : ℕ → ℕ) (ps : List PartValue) → AllKept ps → AllLocal h ps → Each (λ (k : PartValue). IsTight d h k.next)
+    ps
     → IsPaid d (tolls_in ps) → Each (IsNear d) (rows_in ps) →
     ((x y : ℕ) → 1 ≤ count x (members_in ps) → 1 ≤ count y (members_in ps) → (h x + h y) % 2 ≡ 0) → Each (IsFirmPart d h) ps
 firm_each d h [] kept at t paid near even = tt
@@ -70,31 +69,32 @@ firm_each d h (p ∷ ps) kept at t paid near even =
     )
 
 -- the parts of a sound ring without a width are firm
-parts_firm : (d : TableValue) (h : ℕ → ℕ) (near : List ℕ) (ps : List Part) → IsRing ps → ((x : ℕ) → count x (members_in ps) ≤ 1)
-    → IsSound d h (nest_of (members_in ps) 0 near ps) → Each (IsFirmPart d h) ps
-parts_firm d h near [] ring once s = tt
-parts_firm d h near (p ∷ ps) ring once s =
+parts_firm : (d : TableValue) (h : ℕ → ℕ) (key : ℕ) (near : List ℕ) (ps : List PartValue) → IsRing ps →
+    ((x : ℕ) → count x (members_in ps) ≤ 1)
+    → IsSound d h (nest_of key (members_in ps) 0 near ps) → Each (IsFirmPart d h) ps
+parts_firm d h key near [] ring once s = tt
+parts_firm d h key near (p ∷ ps) ring once s =
     let at = parts_local h (p ∷ ps) ring.kept once (λ x here. omega (arith, s.local x here)) in
     let tight = paid_is_tight d h p (ps ++ p ∷ []) ring.linked at.0 (AllLocal_on h ps p at.1 at.0)
     (IsPaid-left d (ring_tolls (p ∷ ps)) (tolls_in (p ∷ ps)) s.paid) in
     firm_each d h (p ∷ ps) ring.kept at (links_tight d h p p ps tight)
     (IsPaid-right d (ring_tolls (p ∷ ps)) (tolls_in (p ∷ ps)) s.paid) s.near.1 s.even
 
-drop_past : (xs ys : List Branch) → drop (length xs) (xs ++ ys) ≡ ys
+pub drop_past : (xs ys : List BranchValue) → drop (length xs) (xs ++ ys) ≡ ys
 drop_past [] ys = refl
 drop_past (x ∷ xs) ys = drop_past xs ys
 
-pub apart_within : (at : ℕ) (tree : List Branch) → FirstComesApart (drop at tree) → at < length tree
+pub apart_within : (at : ℕ) (tree : List BranchValue) → FirstComesApart (drop at tree) → at < length tree
 apart_within zero [] a = absurd a
 apart_within zero (b ∷ bs) a = omega arith
 apart_within (suc at) [] a = absurd a
 apart_within (suc at) (b ∷ bs) a = omega (arith, apart_within at bs a)
 
-grown-left : (base : List ℕ) (xs ys : List Branch) → IsGrown base (xs ++ ys) → IsGrown base xs
+grown-left : (base : List ℕ) (xs ys : List BranchValue) → IsGrown base (xs ++ ys) → IsGrown base xs
 grown-left base [] ys g = tt
 grown-left base (b ∷ xs) ys g = (g.0, g.1, g.2, g.3, grown-left (b.outer.members ++ base) xs ys g.4)
 
-pub grown-right : (base : List ℕ) (xs ys : List Branch) → IsGrown base (xs ++ ys) → IsGrown (outer_members base xs) ys
+pub grown-right : (base : List ℕ) (xs ys : List BranchValue) → IsGrown base (xs ++ ys) → IsGrown (outer_members base xs) ys
 grown-right base [] ys g = g
 grown-right base (b ∷ xs) ys g =
     grown_more (outer_members (b.outer.members ++ base) xs) (b.outer.members ++ outer_members base xs) ys
@@ -102,7 +102,7 @@ grown-right base (b ∷ xs) ys g =
     (grown-right (b.outer.members ++ base) xs ys g.4)
 
 -- the tree as the branches before, the one that comes apart and those after it
-pub record SplitAt (root : NestValue) (old bs : List Branch) (b : Branch) (later : List Branch) : Type 0 where
+pub record SplitAt (root : NestValue) (old bs : List BranchValue) (b : BranchValue) (later : List BranchValue) : Type 0 where
   pub is : old ≡ (bs ++ b ∷ []) ++ later
   pub zero_wide : b.inner.width ≡ 0
   pub some : 0 < length b.inner.below
@@ -114,30 +114,32 @@ pub record SplitAt (root : NestValue) (old bs : List Branch) (b : Branch) (later
   pub after : IsGrown (outer_members root.members (bs ++ b ∷ [])) later
   pub once : (x : ℕ) → count x b.inner.members ≤ 1
 
-split_size : (root : NestValue) (old kept bs : List Branch) (b : Branch) (at : ℕ) → Expanding root old at → kept ≡ take (at + 1) old
+split_size : (root : NestValue) (old kept bs : List BranchValue) (b : BranchValue) (at : ℕ) → Expanding root old at → kept ≡ take (at + 1)
+    old
     → kept ≡ bs ++ b ∷ [] → length bs ≡ at
 split_size root old kept bs b at ex e g =
     omega (
       arith,
       apart_within at old ex.apart,
       length-take (at + 1) old,
-      ap (λ (ks : List Branch). length ks) e,
-      ap (λ (ks : List Branch). length ks) g,
+      ap (λ (ks : List BranchValue). length ks) e,
+      ap (λ (ks : List BranchValue). length ks) g,
       length-append bs (b ∷ []),
     )
 
-pub split_at : (root : NestValue) (old kept bs : List Branch) (b : Branch) (later : List Branch) (at : ℕ) → Expanding root old at → kept
+pub split_at : (root : NestValue) (old kept bs : List BranchValue) (b : BranchValue) (later : List BranchValue) (at : ℕ) → Expanding root
+    old at → kept
     ≡ take (at + 1) old → later ≡ drop (at + 1) old →
     kept ≡ bs ++ b ∷ [] → SplitAt root old bs b later
 split_at root old kept bs b later at ex e f g =
     let is : old ≡ (bs ++ b ∷ []) ++ later =
-    sym (take-append-drop (at + 1) old) ∙ ap (λ (ks : List Branch). ks ++ drop (at + 1) old) (sym e ∙ g)
-    ∙ ap (λ (ks : List Branch). (bs ++ b ∷ []) ++ ks) (sym f) in
+    sym (take-append-drop (at + 1) old) ∙ ap (λ (ks : List BranchValue). ks ++ drop (at + 1) old) (sym e ∙ g)
+    ∙ ap (λ (ks : List BranchValue). (bs ++ b ∷ []) ++ ks) (sym f) in
     let size = split_size root old kept bs b at ex e g in
-    let rest : drop at old ≡ b ∷ later = ap (λ (ks : List Branch). drop at ks) (is ∙ append_assoc bs (b ∷ []) later)
+    let rest : drop at old ≡ b ∷ later = ap (λ (ks : List BranchValue). drop at ks) (is ∙ append_assoc bs (b ∷ []) later)
     ∙ ap (λ (i : ℕ). drop i (bs ++ b ∷ later)) (sym size) ∙ drop_past bs (b ∷ later) in
     let apart = subst FirstComesApart rest ex.apart in
-    let grown = subst (λ (ks : List Branch). IsGrown root.members ks) is ex.grown in
+    let grown = subst (λ (ks : List BranchValue). IsGrown root.members ks) is ex.grown in
     let l = last_of root.members bs b (grown-left root.members (bs ++ b ∷ []) later grown) in
     record {
       is = is;
@@ -152,14 +154,14 @@ split_at root old kept bs b later at ex e f g =
       once = λ x. omega (
         arith,
         ex.once x,
-        ap (λ (ks : List Branch). count x (inner_members ks)) is,
+        ap (λ (ks : List BranchValue). count x (inner_members ks)) is,
         inner-append x
             (bs ++ b ∷ []) later,
         inner_members_push x bs b,
       );
     }
 
-into_ring : (way : Link) (ring : List Part) → IsRing ring → FirstHolds way.to ring → ((x : ℕ) → count x (members_in ring) ≤ 1)
+into_ring : (way : Link) (ring : List PartValue) → IsRing ring → FirstHolds way.to ring → ((x : ℕ) → count x (members_in ring) ≤ 1)
     → WayInto way ring
 into_ring way [] r first once = absurd first
 into_ring way (p ∷ ps) r first once = (
@@ -168,11 +170,12 @@ into_ring way (p ∷ ps) r first once = (
       ps (p ∷ []) r.linked,
 )
 
-pub can_lay : (root : NestValue) (old bs : List Branch) (b : Branch) (later : List Branch) (parts ring : List Part)
+pub can_lay : (key : ℕ) (root : NestValue) (old bs : List BranchValue) (b : BranchValue) (later : List BranchValue)
+    (parts ring : List PartValue)
     → SplitAt root old bs b later →
-    b.inner ≡ nest_of (members_in parts) b.inner.width b.inner.near parts → GoesEvenly b.up.to b.pair.from parts ring
+    b.inner ≡ nest_of key (members_in parts) b.inner.width b.inner.near parts → GoesEvenly b.up.to b.pair.from parts ring
     → CanLay root bs ring b.up b.pair b.outer
-can_lay root old bs b later parts ring s made g =
+can_lay key root old bs b later parts ring s made g =
     let once = λ (x : ℕ). ap (λ (v : NestValue). count x v.members) made in
     record {
       grown = s.before;
@@ -184,22 +187,23 @@ can_lay root old bs b later parts ring s made g =
       once = λ x. omega (arith, g.places x, once x, s.once x);
     }
 
-pub expanded : (root : NestValue) (old bs : List Branch) (b : Branch) (later mid new : List Branch) (parts ring : List Part)
-    (was cs now : List Couple) → SplitAt root old bs b later →
-    IsRing parts → b.inner ≡ nest_of (members_in parts) b.inner.width b.inner.near parts → GoesEvenly b.up.to b.pair.from parts ring
+pub expanded : (key : ℕ) (root : NestValue) (old bs : List BranchValue) (b : BranchValue) (later mid new : List BranchValue)
+    (parts ring : List PartValue)
+    (was cs now : List CoupleValue) → SplitAt root old bs b later →
+    IsRing parts → b.inner ≡ nest_of key (members_in parts) b.inner.width b.inner.near parts → GoesEvenly b.up.to b.pair.from parts ring
     → Lays root bs ring b.up b.pair b.outer mid cs →
-    now ≡ was ++ cs → new ≡ mid ++ later → Expands root old new was now
-expanded root old bs b later mid new parts ring was cs now s is made g l e f =
-    let flat : b.inner ≡ nest_of (members_in parts) 0 b.inner.near parts =
-    made ∙ ap (λ (w : ℕ). nest_of (members_in parts) w b.inner.near parts) s.zero_wide in
+    now ≡ was ++ cs → new ≡ mid ++ later → Expands key root old new was now
+expanded key root old bs b later mid new parts ring was cs now s is made g l e f =
+    let flat : b.inner ≡ nest_of key (members_in parts) 0 b.inner.near parts =
+    made ∙ ap (λ (w : ℕ). nest_of key (members_in parts) w b.inner.near parts) s.zero_wide in
     let inside = λ (x : ℕ). ap (λ (v : NestValue). count x v.members) made in
     let tree = bs ++ b ∷ [] in
-    let band : Band = record { members = members_in parts; width = 0 } in
+    let band : Band = record { key = key; members = members_in parts; width = 0 } in
     let sizes = λ (ks : List Band). length ks in
     let at = λ (F : List Band → ℕ) (add : Adds F). ap (λ (v : NestValue). F (bands v)) flat in
-    subst (λ (ks : List Branch). Expands root old ks was now) (sym f)
-    (subst (λ (cs : List Couple). Expands root old (mid ++ later) was cs) (sym e)
-    (subst (λ (ks : List Branch). Expands root ks (mid ++ later) was (was ++ cs)) (sym s.is) (record {
+    subst (λ (ks : List BranchValue). Expands key root old ks was now) (sym f)
+    (subst (λ (cs : List CoupleValue). Expands key root old (mid ++ later) was cs) (sym e)
+    (subst (λ (ks : List BranchValue). Expands key root ks (mid ++ later) was (was ++ cs)) (sym s.is) (record {
       grown = grown-append root.members mid later l.grown (grown_more (outer_members root.members tree)
           (outer_members root.members mid) later
           (λ x. omega (arith, l.more x, outer_members_push x root.members bs b)) s.after);
@@ -244,12 +248,13 @@ expanded root old bs b later mid new parts ring was cs now s is made g l e f =
           let k = each-last (IsFirm d h) bs b front in
           let sound = subst (λ (v : NestValue). IsSound d h v) flat k.inner in
           let r = l.firm d h (each-left (IsFirm d h) bs (b ∷ []) front) k.up k.pair
-          (g.firm d h sy (parts_firm d h b.inner.near parts is (λ x. omega (arith, inside x, s.once x)) sound)) k.outer in
+          (g.firm d h sy (parts_firm d h key b.inner.near parts is (λ x. omega (arith, inside x, s.once x)) sound)) k.outer in
           (each-append (IsFirm d h) mid later r.0 (each-right (IsFirm d h) tree later t), each-append (IsFirmCouple d h) was cs c r.1);
     })))
 
-pub grows_at : (root : NestValue) (old kept bs : List Branch) (b : Branch) (later mid new : List Branch) (ring : List Part)
-    (cs : List Couple) (at : ℕ) → Expanding root old at → kept ≡ take (at + 1) old → later ≡ drop (at + 1) old → kept ≡ bs ++ b ∷ []
+pub grows_at : (root : NestValue) (old kept bs : List BranchValue) (b : BranchValue) (later mid new : List BranchValue)
+    (ring : List PartValue)
+    (cs : List CoupleValue) (at : ℕ) → Expanding root old at → kept ≡ take (at + 1) old → later ≡ drop (at + 1) old → kept ≡ bs ++ b ∷ []
     → Lays root bs ring b.up b.pair b.outer mid cs → new ≡ mid ++ later → GrowsAt at old new
 grows_at root old kept bs b later mid new ring cs at ex e f g l m =
     let s = split_at root old kept bs b later at ex e f g in
@@ -260,8 +265,8 @@ grows_at root old kept bs b later mid new ring cs at ex e f g l m =
       last = l.last;
       later = later;
       was = s.is ∙ append_assoc bs (b ∷ []) later;
-      now = m ∙ ap (λ (ks : List Branch). ks ++ later) l.is ∙ append_assoc bs (l.added ++ l.last ∷ []) later
-          ∙ ap (λ (ks : List Branch). bs ++ ks) (append_assoc l.added (l.last ∷ []) later);
+      now = m ∙ ap (λ (ks : List BranchValue). ks ++ later) l.is ∙ append_assoc bs (l.added ++ l.last ∷ []) later
+          ∙ ap (λ (ks : List BranchValue). bs ++ ks) (append_assoc l.added (l.last ∷ []) later);
       same = l.same;
       size = split_size root old kept bs b at ex e g;
     }

@@ -13,10 +13,7 @@ use Rattle.blossom_match.specs.Searches.{height_at, height_of, outers, Ends, IsS
 use Rattle.blossom_match.specs.TableValue.{TableValue}
 use Rattle.blossom_match.specs.Tables.{entry, IsTable}
 use Rattle.blossom_match.specs.declared.nest.Link.{Link}
-use Rattle.blossom_match.specs.declared.couples.Couple.{Couple}
-use Rattle.blossom_match.specs.declared.branches.Branch.{Branch}
-use Rattle.blossom_match.specs.declared.search.Search.{Search}
-use Rattle.blossom_match.specs.declared.search.Standing.{Standing}
+use Rattle.blossom_match.specs.Values.{BranchValue, CoupleValue, SearchValue, StandingValue}
 use Rattle.blossom_match.specs.declared.search.Step.TheVariants.{Meet}
 use Rattle.blossom_match.proofs.SumLemmas.{count-append, height-append, hit_is, hit_same, load-append, load-comm, load_alone, low, none_hold, NoneHold-append}
 use Rattle.blossom_match.proofs.RingLemmas.{made_kept}
@@ -25,19 +22,19 @@ use Rattle.blossom_match.proofs.TableLemmas.{entry-comm}
 use Rattle.blossom_match.proofs.TreeLemmas.{base_in}
 
 -- all widths between two places
-abbrev pub load_of : Search → ℕ → ℕ → ℕ
-load_of s a b = load a b (bands s.root) + load a b (branch_bands s.tree.items) + load a b (couple_bands s.rest.items)
+abbrev pub load_of : SearchValue → ℕ → ℕ → ℕ
+load_of s a b = load a b (bands s.root) + load a b (branch_bands s.tree) + load a b (couple_bands s.rest)
 
-pub load_of-comm : (s : Search) (a b : ℕ) → load_of s a b ≡ load_of s b a
+pub load_of-comm : (s : SearchValue) (a b : ℕ) → load_of s a b ≡ load_of s b a
 load_of-comm s a b = omega (
   arith,
   load-comm a b (bands s.root),
-  load-comm a b (branch_bands s.tree.items),
+  load-comm a b (branch_bands s.tree),
   load-comm a b
-      (couple_bands s.rest.items),
+      (couple_bands s.rest),
 )
 
-none_branches : (d : TableValue) (h : ℕ → ℕ) (x : ℕ) (base : List ℕ) (tree : List Branch) → Each (IsFirm d h) tree
+none_branches : (d : TableValue) (h : ℕ → ℕ) (x : ℕ) (base : List ℕ) (tree : List BranchValue) → Each (IsFirm d h) tree
     → count x (outer_members base tree) ≡ 0 → count x (inner_members tree) ≡ 0 → NoneHold x (branch_bands tree)
 none_branches d h x base [] f none empty = tt
 none_branches d h x base (b ∷ bs) f none empty =
@@ -47,7 +44,7 @@ none_branches d h x base (b ∷ bs) f none empty =
     (NoneHold-append x (bands b.outer) (branch_bands bs) (none_hold x b.outer f.0.outer.kept (omega (arith, o, none)))
     (none_branches d h x base bs f.1 (omega (arith, o, none)) (omega (arith, i, empty))))
 
-none_couples : (d : TableValue) (h : ℕ → ℕ) (x : ℕ) (cs : List Couple) → Each (IsFirmCouple d h) cs → count x (couple_members cs) ≡ 0
+none_couples : (d : TableValue) (h : ℕ → ℕ) (x : ℕ) (cs : List CoupleValue) → Each (IsFirmCouple d h) cs → count x (couple_members cs) ≡ 0
     → NoneHold x (couple_bands cs)
 none_couples d h x [] f none = tt
 none_couples d h x (c ∷ cs) f none =
@@ -58,47 +55,47 @@ none_couples d h x (c ∷ cs) f none =
     (none_couples d h x cs f.1 (omega (arith, o, i, none))))
 
 -- to a free place the load is the height
-load_free : (t : TableValue) (h : ℕ → ℕ) (s : Search) (x f : ℕ) → IsSearch t h s → 1 ≤ count f s.free.items → load_of s x f ≡ height_of s x
+load_free : (t : TableValue) (h : ℕ → ℕ) (s : SearchValue) (x f : ℕ) → IsSearch t h s → 1 ≤ count f s.free → load_of s x f ≡ height_of s x
 load_free t h s x f i hf =
     let one = is_one t f in
     let o : count f (outers s) ≡ 0 = omega (arith, i.places f, one, hf) in
     omega (
       arith,
-      load_alone x f (bands s.root) (none_hold f s.root i.root.kept (omega (arith, base_in f s.root.members s.tree.items, o))),
-      load_alone x f (branch_bands s.tree.items) (none_branches t h f s.root.members s.tree.items i.tree o
+      load_alone x f (bands s.root) (none_hold f s.root i.root.kept (omega (arith, base_in f s.root.members s.tree, o))),
+      load_alone x f (branch_bands s.tree) (none_branches t h f s.root.members s.tree i.tree o
           (omega (arith, i.places f, one, hf))),
-      load_alone x f (couple_bands s.rest.items) (none_couples t h f s.rest.items i.rest (omega (arith, i.places f, one, hf))),
+      load_alone x f (couple_bands s.rest) (none_couples t h f s.rest i.rest (omega (arith, i.places f, one, hf))),
     )
 
 -- a free place is in no set
-low_free : (t : TableValue) (h : ℕ → ℕ) (s : Search) (x : ℕ) → IsSearch t h s → 1 ≤ count x s.free.items → height_of s x ≡ 0
+low_free : (t : TableValue) (h : ℕ → ℕ) (s : SearchValue) (x : ℕ) → IsSearch t h s → 1 ≤ count x s.free → height_of s x ≡ 0
 low_free t h s x i some =
     let one = is_one t x in
     omega (
       arith,
-      low x s.root i.root.kept (omega (arith, i.places x, one, base_in x s.root.members s.tree.items, some)),
-      low_branches t h x s.root.members s.tree.items i.tree (omega (arith, i.places x, one, some))
+      low x s.root i.root.kept (omega (arith, i.places x, one, base_in x s.root.members s.tree, some)),
+      low_branches t h x s.root.members s.tree i.tree (omega (arith, i.places x, one, some))
           (omega (arith, i.places x, one, some)),
-      low_couples t h x s.rest.items i.rest (omega (arith, i.places x, one, some)),
+      low_couples t h x s.rest i.rest (omega (arith, i.places x, one, some)),
     )
 
-under_case : (n : ℕ) (t : TableValue) (h : ℕ → ℕ) (s : Search) (x : ℕ) → IsSearch t h s → count x s.free.items ≡ n → height_of s x ≤ h x
+under_case : (n : ℕ) (t : TableValue) (h : ℕ → ℕ) (s : SearchValue) (x : ℕ) → IsSearch t h s → count x s.free ≡ n → height_of s x ≤ h x
 under_case zero t h s x i e = omega (arith, i.tall x e)
 under_case (suc n) t h s x i e = omega (arith, low_free t h s x i (omega (arith, e)))
 
 -- the sets make no place higher than it is
-pub under : (t : TableValue) (h : ℕ → ℕ) (s : Search) (x : ℕ) → IsSearch t h s → height_of s x ≤ h x
-under t h s x i = under_case (count x s.free.items) t h s x i refl
+pub under : (t : TableValue) (h : ℕ → ℕ) (s : SearchValue) (x : ℕ) → IsSearch t h s → height_of s x ≤ h x
+under t h s x i = under_case (count x s.free) t h s x i refl
 
 -- one place with its height is a sound set
-pub single_sound : (d : TableValue) (h : ℕ → ℕ) (x : ℕ) → IsTable d → x < d.places → IsSound d h (single_of d x (h x))
-single_sound d h x is low =
+pub single_sound : (key : ℕ) (d : TableValue) (h : ℕ → ℕ) (x : ℕ) → IsTable d → x < d.places → IsSound d h (single_of key d x (h x))
+single_sound key d h x is low =
     let at = λ (y : ℕ) (here : 1 ≤ hit y x + 0). hit_is y x (omega (arith, here)) in
     record {
-      kept = made_kept (x ∷ []) (h x) (single_row d x) [] refl;
+      kept = made_kept key (x ∷ []) (h x) (single_row d x) [] refl;
       paid = tt;
       near = (single_near d x is low, tt);
-      local = λ y here. subst (λ (z : ℕ). height z (bands (single_of d x (h x))) ≡ h z) (sym (at y here))
+      local = λ y here. subst (λ (z : ℕ). height z (bands (single_of key d x (h x))) ≡ h z) (sym (at y here))
           (omega (arith, ap (λ (k : ℕ). h x * k) (hit_same x)));
       even = λ y z hy hz. omega (arith, ap h (at y hy), ap h (at z hz));
     }
@@ -112,9 +109,13 @@ load_case false true a b f w old top e g ne base left right = omega (arith, righ
 load_case false false a b f w old top e g ne base left right = omega (arith, base)
 
 -- the load with the set of one place more
-single_load : (t : TableValue) (a b f w old top : ℕ) → a ≢ b → old ≤ top → (a ≡ f → old + w ≤ top) → (b ≡ f → old + w ≤ top)
-    → old + load a b (bands (single_of t f w)) ≤ top
-single_load t a b f w old top ne base left right = omega (arith, load_case (eqb a f) (eqb b f) a b f w old top refl refl ne base left right)
+single_load : (key : ℕ) (t : TableValue) (a b f w old top : ℕ) → a ≢ b → old ≤ top → (a ≡ f → old + w ≤ top) → (b ≡ f → old + w ≤ top)
+    → old + load a b (bands (single_of key t f w)) ≤ top
+single_load key t a b f w old top ne base left right = omega (
+  arith,
+  load_case (eqb a f) (eqb b f) a b f w old top refl refl ne base left
+      right,
+)
 
 tall_case : (p : Bool) (x f w top old left was : ℕ) → eqb x f ≡ p → left + cond p 1 0 ≡ was → left ≡ 0 → (was ≡ 0 → top ≡ old)
     → (x ≡ f → (top ≡ w) × (old ≡ 0)) →
@@ -125,28 +126,28 @@ tall_case true x f w top old left was e n none tall same =
 tall_case false x f w top old left was e n none tall same = omega (arith, tall (omega (arith, n, none)))
 
 -- the height with the set of one place more
-single_tall : (t : TableValue) (x f w top old left was : ℕ) → left + hit x f ≡ was → left ≡ 0 → (was ≡ 0 → top ≡ old)
+single_tall : (key : ℕ) (t : TableValue) (x f w top old left was : ℕ) → left + hit x f ≡ was → left ≡ 0 → (was ≡ 0 → top ≡ old)
     → (x ≡ f → (top ≡ w) × (old ≡ 0))
-    → top ≡ old + height x (bands (single_of t f w))
-single_tall t x f w top old left was n none tall same = omega (arith, tall_case (eqb x f) x f w top old left was refl n none tall same)
+    → top ≡ old + height x (bands (single_of key t f w))
+single_tall key t x f w top old left was n none tall same = omega (arith, tall_case (eqb x f) x f w top old left was refl n none tall same)
 
 -- a free place and any other have room in a search
-load_room : (t : TableValue) (h : ℕ → ℕ) (s : Search) (x f : ℕ) → IsSearch t h s → x < t.places → 1 ≤ count f s.free.items → x ≢ f
+load_room : (t : TableValue) (h : ℕ → ℕ) (s : SearchValue) (x f : ℕ) → IsSearch t h s → x < t.places → 1 ≤ count f s.free → x ≢ f
     → load_of s x f + h f ≤ 2 * entry t x f
 load_room t h s x f i lx hf ne = omega (arith, load_free t h s x f i hf, under t h s x i, i.room x f lx hf ne)
 
-met_standing : (t : TableValue) (h : ℕ → ℕ) (link : Link) (s : Search) (r : Standing) (m : NestValue)
-    → Augments s.root m link s.tree.items s.rest.items r.couples.items → IsTable t → m ≡ single_of t link.to (h link.to) →
-    ((x : ℕ) → count x r.free.items + hit x link.to ≡ count x s.free.items) → IsSearch t h s → 1 ≤ count link.to s.free.items
+met_standing : (t : TableValue) (h : ℕ → ℕ) (link : Link) (s : SearchValue) (r : StandingValue) (m : NestValue)
+    → Augments s.root m link s.tree s.rest r.couples → IsTable t → m ≡ single_of m.key t link.to (h link.to) →
+    ((x : ℕ) → count x r.free + hit x link.to ≡ count x s.free) → IsSearch t h s → 1 ≤ count link.to s.free
     → 2 * entry t link.from link.to ≡ h link.from + h link.to →
-    IsStanding t h r.couples.items r.free.items
+    IsStanding t h r.couples r.free
 met_standing t h link s r m aug is e counts i here tight =
     let f = link.to in
     let at = λ (F : List Band → ℕ). ap (λ (v : NestValue). F (bands v)) e in
     record {
       tall = λ x none. omega (
         arith,
-        single_tall t x f (h f) (h x) (height_of s x) (count x r.free.items) (count x s.free.items) (counts x) none (i.tall x)
+        single_tall m.key t x f (h f) (h x) (height_of s x) (count x r.free) (count x s.free) (counts x) none (i.tall x)
             (λ g. (ap h g, ap (height_of s) g ∙ low_free t h s f i here)),
         aug.sums (height x) (height-append x),
         at (height x),
@@ -155,11 +156,11 @@ met_standing t h link s r m aug is e counts i here tight =
       places = λ x. omega (arith, i.places x, aug.places x, ap (λ (v : NestValue). count x v.members) e, counts x);
       joined = aug.joined i.joined;
       firm = aug.firm t h tight i.root (subst (λ (v : NestValue). IsSound t h v) (sym e)
-          (single_sound t h f is (place_in t f (omega (arith, i.places f, here)))))
+          (single_sound m.key t h f is (place_in t f (omega (arith, i.places f, here)))))
           i.tree i.rest;
       loads = λ a b la lb ne. omega (
         arith,
-        single_load t a b f (h f) (load_of s a b) (2 * entry t a b) ne (i.loads a b la lb ne)
+        single_load m.key t a b f (h f) (load_of s a b) (2 * entry t a b) ne (i.loads a b la lb ne)
             (λ g. omega (
               arith,
               load_of-comm s a b,
@@ -172,26 +173,27 @@ met_standing t h link s r m aug is e counts i here tight =
       );
     }
 
-pub met : (t : TableValue) (link : Link) (s : Search) (r : Standing) (m : NestValue) → CanStepAt t s (Meet link)
-    → Augments s.root m link s.tree.items s.rest.items r.couples.items → IsTable t → m ≡ single_of t link.to (height_at s link.to) →
-    ((x : ℕ) → count x r.free.items + hit x link.to ≡ count x s.free.items) → length r.free.items + 1 ≡ length s.free.items
-    → r.heights.items ≡ s.heights.items → Ends t s (Meet link) r
+pub met : (t : TableValue) (link : Link) (s : SearchValue) (r : StandingValue) (m : NestValue) → CanStepAt t s (Meet link)
+    → Augments s.root m link s.tree s.rest r.couples → IsTable t → m ≡ single_of m.key t link.to (height_at s link.to) →
+    ((x : ℕ) → count x r.free + hit x link.to ≡ count x s.free) → length r.free + 1 ≡ length s.free
+    → r.heights ≡ s.heights → Ends t s (Meet link) r
 met t link s r m can aug is e counts fewer same = record {
   standing = met_standing t (height_at s) link s r m aug is e counts can.search can.ready.1 can.ready.2;
   fewer = fewer;
   heights = same;
 }
 
-low_standing : (t : TableValue) (h : ℕ → ℕ) (cs : List Couple) (free : List ℕ) (x : ℕ) → IsStanding t h cs free → 1 ≤ count x free
+low_standing : (t : TableValue) (h : ℕ → ℕ) (cs : List CoupleValue) (free : List ℕ) (x : ℕ) → IsStanding t h cs free → 1 ≤ count x free
     → height x (couple_bands cs) ≡ 0
 low_standing t h cs free x i some = low_couples t h x cs i.firm (omega (arith, i.places x, is_one t x, some))
 
-lower_case : (n : ℕ) (t : TableValue) (h : ℕ → ℕ) (cs : List Couple) (free : List ℕ) (x : ℕ) → IsStanding t h cs free → count x free ≡ n
+lower_case : (n : ℕ) (t : TableValue) (h : ℕ → ℕ) (cs : List CoupleValue) (free : List ℕ) (x : ℕ) → IsStanding t h cs free → count x free
+    ≡ n
     → height x (couple_bands cs) ≤ h x
 lower_case zero t h cs free x i e = omega (arith, i.tall x e)
 lower_case (suc n) t h cs free x i e = omega (arith, low_standing t h cs free x i (omega (arith, e)))
 
-standing_room : (t : TableValue) (h : ℕ → ℕ) (cs : List Couple) (free : List ℕ) (x f : ℕ) → IsStanding t h cs free → x < t.places
+standing_room : (t : TableValue) (h : ℕ → ℕ) (cs : List CoupleValue) (free : List ℕ) (x f : ℕ) → IsStanding t h cs free → x < t.places
     → 1 ≤ count f free → x ≢ f → load x f (couple_bands cs) + h f ≤ 2 * entry t x f
 standing_room t h cs free x f i lx hf ne =
     omega (
@@ -202,20 +204,20 @@ standing_room t h cs free x f i lx hf ne =
     )
 
 -- a search from a free place
-pub begun : (t : TableValue) (h : ℕ → ℕ) (place : ℕ) (s : Search) → IsTable t
-    → IsStanding t h s.rest.items (s.free.items ++ place ∷ []) → s.root ≡ single_of t place (h place) → s.tree.items ≡ [] → IsSearch t h s
+pub begun : (t : TableValue) (h : ℕ → ℕ) (place : ℕ) (s : SearchValue) → IsTable t
+    → IsStanding t h s.rest (s.free ++ place ∷ []) → s.root ≡ single_of s.root.key t place (h place) → s.tree ≡ [] → IsSearch t h s
 begun t h place s is i e f =
-    let cs = s.rest.items in
-    let at = λ (x : ℕ). count-append x s.free.items (place ∷ []) in
-    let here : 1 ≤ count place (s.free.items ++ place ∷ []) = omega (arith, at place, hit_same place) in
+    let cs = s.rest in
+    let at = λ (x : ℕ). count-append x s.free (place ∷ []) in
+    let here : 1 ≤ count place (s.free ++ place ∷ []) = omega (arith, at place, hit_same place) in
     let sums = λ (F : List Band → ℕ). ap (λ (v : NestValue). F (bands v)) e in
-    let none_hung = λ (F : List Band → ℕ). ap (λ (bs : List Branch). F (branch_bands bs)) f in
+    let none_hung = λ (F : List Band → ℕ). ap (λ (bs : List BranchValue). F (branch_bands bs)) f in
     record {
       tall = λ x none. omega (
         arith,
-        single_tall t x place (h place) (h x) (height x (couple_bands cs)) (count x s.free.items) (count x (s.free.items ++ place ∷ []))
+        single_tall s.root.key t x place (h place) (h x) (height x (couple_bands cs)) (count x s.free) (count x (s.free ++ place ∷ []))
             (omega (arith, at x)) none (i.tall x)
-            (λ g. (ap h g, ap (λ (z : ℕ). height z (couple_bands cs)) g ∙ low_standing t h cs (s.free.items ++ place ∷ []) place i here)),
+            (λ g. (ap h g, ap (λ (z : ℕ). height z (couple_bands cs)) g ∙ low_standing t h cs (s.free ++ place ∷ []) place i here)),
         sums (height x),
         none_hung (height x),
       );
@@ -224,29 +226,29 @@ begun t h place s is i e f =
         arith,
         i.places x,
         at x,
-        ap (λ (v : NestValue). count x (outer_members v.members s.tree.items)) e,
+        ap (λ (v : NestValue). count x (outer_members v.members s.tree)) e,
         ap
-            (λ (bs : List Branch). count x (outer_members (place ∷ []) bs)) f,
-        ap (λ (bs : List Branch). count x (inner_members bs)) f,
+            (λ (bs : List BranchValue). count x (outer_members (place ∷ []) bs)) f,
+        ap (λ (bs : List BranchValue). count x (inner_members bs)) f,
       );
-      grown = subst (λ (bs : List Branch). IsGrown s.root.members bs) (sym f) tt;
+      grown = subst (λ (bs : List BranchValue). IsGrown s.root.members bs) (sym f) tt;
       joined = i.joined;
       root = subst (λ (v : NestValue). IsSound t h v) (sym e)
-          (single_sound t h place is (place_in t place (omega (arith, i.places place, here))));
-      tree = subst (λ (bs : List Branch). Each (IsFirm t h) bs) (sym f) tt;
+          (single_sound s.root.key t h place is (place_in t place (omega (arith, i.places place, here))));
+      tree = subst (λ (bs : List BranchValue). Each (IsFirm t h) bs) (sym f) tt;
       rest = i.firm;
       loads = λ a b la lb ne. omega (
         arith,
-        single_load t a b place (h place) (load a b (couple_bands cs)) (2 * entry t a b) ne (i.loads a b la lb ne)
+        single_load s.root.key t a b place (h place) (load a b (couple_bands cs)) (2 * entry t a b) ne (i.loads a b la lb ne)
             (λ g. omega (
               arith,
               load-comm a b (couple_bands cs),
               entry-comm t a b,
               subst (λ (z : ℕ). load b z (couple_bands cs) + h place ≤ 2 * entry t b z) (sym g)
-                  (standing_room t h cs (s.free.items ++ place ∷ []) b place i lb here (λ k. ne (g ∙ sym k))),
+                  (standing_room t h cs (s.free ++ place ∷ []) b place i lb here (λ k. ne (g ∙ sym k))),
             ))
             (λ g. subst (λ (z : ℕ). load a z (couple_bands cs) + h place ≤ 2 * entry t a z) (sym g)
-            (standing_room t h cs (s.free.items ++ place ∷ []) a place i la here (λ k. ne (k ∙ sym g)))),
+            (standing_room t h cs (s.free ++ place ∷ []) a place i la here (λ k. ne (k ∙ sym g)))),
         sums (load a b),
         none_hung (load a b),
       );

@@ -8,48 +8,48 @@ use Rattle.blossom_match.specs.Couples.{couples_along, IsJoined}
 use Rattle.blossom_match.specs.Sound.{IsFirm, IsFirmCouple, IsFirmPart}
 use Rattle.blossom_match.specs.Lays.{EvenlyHolds, WayInto, CanLay, Lays}
 use Rattle.blossom_match.specs.declared.nest.Link.{Link}
-use Rattle.blossom_match.specs.declared.nest.Part.{Part}
-use Rattle.blossom_match.specs.declared.couples.Couple.{Couple}
-use Rattle.blossom_match.specs.declared.branches.Branch.{Branch}
+use Rattle.blossom_match.specs.Values.{BranchValue, CoupleValue, PartValue}
 use Rattle.blossom_match.proofs.ListLemmas.{each-push}
 use Rattle.blossom_match.proofs.SumLemmas.{count-append, size-append}
 use Rattle.blossom_match.proofs.OpenLemmas.{members_coupled, bands_coupled}
 use Rattle.blossom_match.proofs.TreeLemmas.{grown_push, outer_members_push, inner_members_push, branch_bands_push, inner_bands_push}
 
-pub record Laying (root : NestValue) (old : List Branch) (ring : List Part) (up pair : Link) (outer : NestValue) (now : List Branch)
-    (left : List Part) (way : Link) : Type 0 where
+pub record Laying (root : NestValue) (old : List BranchValue) (ring : List PartValue) (up pair : Link) (outer : NestValue)
+    (now : List BranchValue)
+    (left : List PartValue) (way : Link) : Type 0 where
   pub can : CanLay root now left way pair outer
-  pub does : (new : List Branch) (cs : List Couple) → Lays root now left way pair outer new cs → Lays root old ring up pair outer new cs
+  pub does : (new : List BranchValue) (cs : List CoupleValue) → Lays root now left way pair outer new cs → Lays root old ring up pair
+      outer new cs
 
-pub laying_start : (root : NestValue) (old : List Branch) (ring left : List Part) (up pair : Link) (outer : NestValue)
+pub laying_start : (root : NestValue) (old : List BranchValue) (ring left : List PartValue) (up pair : Link) (outer : NestValue)
     → CanLay root old ring up pair outer → left ≡ ring →
     Laying root old ring up pair outer old left up
 laying_start root old ring left up pair outer can e =
-    subst (λ (ps : List Part). Laying root old ring up pair outer old ps up) (sym e) (record { can = can; does = λ new cs l. l })
+    subst (λ (ps : List PartValue). Laying root old ring up pair outer old ps up) (sym e) (record { can = can; does = λ new cs l. l })
 
-not_here : (x : ℕ) (p q : Part) (ps : List Part) → EvenlyHolds x (p ∷ q ∷ ps) → count x p.nest.members ≡ 0 → EvenlyHolds x ps
+not_here : (x : ℕ) (p q : PartValue) (ps : List PartValue) → EvenlyHolds x (p ∷ q ∷ ps) → count x p.nest.members ≡ 0 → EvenlyHolds x ps
 not_here x p q ps (inl h) none = absurd (omega arith)
 not_here x p q ps (inr h) none = h
 
-pub never_alone : (root : NestValue) (now : List Branch) (p : Part) (way pair : Link) (outer : NestValue)
+pub never_alone : (root : NestValue) (now : List BranchValue) (p : PartValue) (way pair : Link) (outer : NestValue)
     → CanLay root now (p ∷ []) way pair outer → count pair.from p.nest.members ≡ 0 → ⊥
 never_alone root now p way pair outer can none = omega (arith, can.exit)
 
-pub never_empty : (root : NestValue) (now : List Branch) (way pair : Link) (outer : NestValue) → CanLay root now [] way pair outer → ⊥
+pub never_empty : (root : NestValue) (now : List BranchValue) (way pair : Link) (outer : NestValue) → CanLay root now [] way pair outer → ⊥
 never_empty root now way pair outer can = can.exit
 
-abbrev branch_of : Link → NestValue → Link → NestValue → Branch
+abbrev branch_of : Link → NestValue → Link → NestValue → BranchValue
 branch_of u i p o = record { up = u; inner = i; pair = p; outer = o }
 
-into_next : (q : Part) (ps : List Part) (x : ℕ) → EvenlyHolds x ps → Linked q ps → WayInto q.next ps
+into_next : (q : PartValue) (ps : List PartValue) (x : ℕ) → EvenlyHolds x ps → Linked q ps → WayInto q.next ps
 into_next q [] x e l = absurd e
 into_next q (r ∷ ps) x e l = (l.0.1, l.1)
 
-source_of : (q : Part) (ps : List Part) (x : ℕ) → EvenlyHolds x ps → Linked q ps → count q.next.from q.nest.members ≡ 1
+source_of : (q : PartValue) (ps : List PartValue) (x : ℕ) → EvenlyHolds x ps → Linked q ps → count q.next.from q.nest.members ≡ 1
 source_of q [] x e l = absurd e
 source_of q (r ∷ ps) x e l = l.0.0
 
-pub can_more : (root : NestValue) (now : List Branch) (p q : Part) (ps : List Part) (way pair : Link) (outer : NestValue)
+pub can_more : (root : NestValue) (now : List BranchValue) (p q : PartValue) (ps : List PartValue) (way pair : Link) (outer : NestValue)
     → CanLay root now (p ∷ q ∷ ps) way pair outer →
     count pair.from p.nest.members ≡ 0 → CanLay root (now ++ branch_of way p.nest p.next q.nest ∷ []) ps q.next pair outer
 can_more root now p q ps way pair outer c none =
@@ -71,8 +71,9 @@ can_more root now p q ps way pair outer c none =
       );
     }
 
-does_more : (root : NestValue) (now : List Branch) (p q : Part) (ps : List Part) (way pair : Link) (outer : NestValue) (new : List Branch)
-    (cs : List Couple) →
+does_more : (root : NestValue) (now : List BranchValue) (p q : PartValue) (ps : List PartValue) (way pair : Link) (outer : NestValue)
+    (new : List BranchValue)
+    (cs : List CoupleValue) →
     Lays root (now ++ branch_of way p.nest p.next q.nest ∷ []) ps q.next pair outer new cs
     → Lays root now (p ∷ q ∷ ps) way pair outer new cs
 does_more root now p q ps way pair outer new cs l =
@@ -114,31 +115,32 @@ does_more root now p q ps way pair outer new cs l =
           parts.1.0.next a parts.1.1 o;
     }
 
-pub laying_more : (root : NestValue) (old : List Branch) (ring : List Part) (up pair : Link) (outer : NestValue) (now : List Branch)
-    (left after rest : List Part) (p q : Part) (way : Link) (next : List Branch) →
+pub laying_more : (root : NestValue) (old : List BranchValue) (ring : List PartValue) (up pair : Link) (outer : NestValue)
+    (now : List BranchValue)
+    (left after rest : List PartValue) (p q : PartValue) (way : Link) (next : List BranchValue) →
     Laying root old ring up pair outer now left way → left ≡ p ∷ after → after ≡ q ∷ rest → count pair.from p.nest.members ≡ 0 →
     next ≡ now ++ branch_of way p.nest p.next q.nest ∷ [] → Laying root old ring up pair outer next rest q.next
 laying_more root old ring up pair outer now left after rest p q way next l e f none g =
-    let is : left ≡ p ∷ q ∷ rest = e ∙ ap (λ (ps : List Part). p ∷ ps) f in
-    let m = subst (λ (ps : List Part). Laying root old ring up pair outer now ps way) is l in
-    subst (λ (bs : List Branch). Laying root old ring up pair outer bs rest q.next) (sym g) (record {
+    let is : left ≡ p ∷ q ∷ rest = e ∙ ap (λ (ps : List PartValue). p ∷ ps) f in
+    let m = subst (λ (ps : List PartValue). Laying root old ring up pair outer now ps way) is l in
+    subst (λ (bs : List BranchValue). Laying root old ring up pair outer bs rest q.next) (sym g) (record {
       can = can_more root now p q rest way pair outer m.can none;
       does = λ new cs k. m.does new cs (does_more root now p q rest way pair outer new cs k);
     })
 
-coupled_joined : (p : Part) (ps : List Part) → length ps % 2 ≡ 0 → Linked p ps → Each IsJoined (couples_along ps)
+coupled_joined : (p : PartValue) (ps : List PartValue) → length ps % 2 ≡ 0 → Linked p ps → Each IsJoined (couples_along ps)
 coupled_joined p [] even l = tt
 coupled_joined p (q ∷ []) even l = absurd (omega arith)
 coupled_joined p (q ∷ r ∷ ps) even l =
     let less : length ps % 2 ≡ 0 = omega arith in
     (record { from = l.1.0.0; to = l.1.0.1 }, coupled_joined r ps less l.1.1)
 
-coupled_firm : (d : TableValue) (h : ℕ → ℕ) (ps : List Part) → Each (IsFirmPart d h) ps → Each (IsFirmCouple d h) (couples_along ps)
+coupled_firm : (d : TableValue) (h : ℕ → ℕ) (ps : List PartValue) → Each (IsFirmPart d h) ps → Each (IsFirmCouple d h) (couples_along ps)
 coupled_firm d h [] t = tt
 coupled_firm d h (q ∷ []) t = tt
 coupled_firm d h (q ∷ r ∷ ps) t = (record { link = t.0.next; first = t.0.nest; second = t.1.0.nest }, coupled_firm d h ps t.1.1)
 
-lays_last : (root : NestValue) (now : List Branch) (p : Part) (ps : List Part) (way pair : Link) (outer : NestValue)
+lays_last : (root : NestValue) (now : List BranchValue) (p : PartValue) (ps : List PartValue) (way pair : Link) (outer : NestValue)
     → CanLay root now (p ∷ ps) way pair outer →
     1 ≤ count pair.from p.nest.members → Lays root now (p ∷ ps) way pair outer (now ++ branch_of way p.nest pair outer ∷ [])
     (couples_along ps)
@@ -176,13 +178,12 @@ lays_last root now p ps way pair outer c here =
       );
     }
 
-pub laid : (root : NestValue) (old : List Branch) (ring : List Part) (up pair : Link) (outer top : NestValue) (now : List Branch)
-    (left rest : List Part) (p : Part) (way : Link) (new : List Branch) (cs : List Couple) →
-    top ≡ outer → Laying root old ring up pair outer now left way → left ≡ p ∷ rest → 1 ≤ count pair.from p.nest.members →
-    new ≡ now ++ branch_of way p.nest pair top ∷ [] → cs ≡ couples_along rest → Lays root old ring up pair outer new cs
-laid root old ring up pair outer top now left rest p way new cs s l e here f g =
-    let m = subst (λ (ps : List Part). Laying root old ring up pair outer now ps way) e l in
-    let f2 : new ≡ now ++ branch_of way p.nest pair outer ∷ [] = f ∙ ap (λ (t : NestValue). now ++ branch_of way p.nest pair t ∷ []) s in
+pub laid : (root : NestValue) (old : List BranchValue) (ring : List PartValue) (up pair : Link) (outer : NestValue) (now : List BranchValue)
+    (left rest : List PartValue) (p : PartValue) (way : Link) (new : List BranchValue) (cs : List CoupleValue) →
+    Laying root old ring up pair outer now left way → left ≡ p ∷ rest → 1 ≤ count pair.from p.nest.members →
+    new ≡ now ++ branch_of way p.nest pair outer ∷ [] → cs ≡ couples_along rest → Lays root old ring up pair outer new cs
+laid root old ring up pair outer now left rest p way new cs l e here f g =
+    let m = subst (λ (ps : List PartValue). Laying root old ring up pair outer now ps way) e l in
     let done = m.does _ _ (lays_last root now p rest way pair outer m.can here) in
-    let moved = subst (λ (bs : List Branch). Lays root old ring up pair outer bs (couples_along rest)) (sym f2) done in
-    subst (λ (ks : List Couple). Lays root old ring up pair outer new ks) (sym g) moved
+    let moved = subst (λ (bs : List BranchValue). Lays root old ring up pair outer bs (couples_along rest)) (sym f) done in
+    subst (λ (ks : List CoupleValue). Lays root old ring up pair outer new ks) (sym g) moved

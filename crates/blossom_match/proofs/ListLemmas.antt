@@ -1,5 +1,8 @@
 -- Facts of each item of joined lists.
-use Rattle.std.proofs.Common.{◌≡◌, ℕ, suc, zero, List, [], ◌∷◌, ◌++◌, take, drop, length, ◌+◌, ◌<◌, get_or, drop-cons, add-one, arith, refl, sym, ap, subst, ◌∙◌}
+use Rattle.std.proofs.Common.{◌≡◌, ℕ, suc, zero, List, [], ◌∷◌, ◌++◌, take, drop, map, reverse, length, ◌+◌, ◌<◌, get_or, drop-cons, add-one, arith, refl, sym, ap, subst, ◌∙◌}
+use Rattle.std.proofs.lemmas.List.{length-map, map-append}
+use Rattle.std.proofs.lemmas.Grind.{reverse_onto}
+use Rattle.std.proofs.Math.ListN.{get_or-map}
 use Rattle.std.proofs.Math.Seq.{take-append_seam}
 use Rattle.blossom_match.specs.Lists.{Each, EachPair}
 
@@ -66,6 +69,65 @@ pub each_here : {X : Type 0} (P : X → Type 0) (xs : List X) (i : ℕ) (x : X) 
 each_here {X} P xs i x p low is = (subst (λ (ks : List X). Each P ks) (drop_here xs i x low is) (each-drop P i xs p)).0
 
 -- what a vector has behind a call on its slice
-pub written : (len : ℕ) (new old : List ℕ) → length new ≡ len → take len (new ++ drop (length new) old) ≡ new
+pub written : {X : Type 0} (len : ℕ) (new old : List X) → length new ≡ len → take len (new ++ drop (length new) old) ≡ new
 written len new old size = subst (λ (n : ℕ). take n (new ++ drop (length new) old) ≡ new) size (take-append_seam new (drop (length new)
     old))
+
+-- what holds of each item's image holds of each item of the images
+pub each-mapped : {X Y : Type 0} (P : Y → Type 0) (f : X → Y) (xs : List X) → Each P (map f xs) → Each (λ (x : X). P (f x)) xs
+each-mapped P f [] p = tt
+each-mapped P f (x ∷ xs) p = (p.0, each-mapped P f xs p.1)
+
+-- the image of the item at the index
+pub mapped_at : {X Y : Type 0} (f : X → Y) (xs : List X) (i : ℕ) (x : X) → x ≡ get_or xs i x → f x ≡ get_or (map f xs) i (f x)
+mapped_at f xs i x is = ap f is ∙ sym (get_or-map f xs i x)
+
+pub mapped_low : {X Y : Type 0} (f : X → Y) (xs : List X) (i : ℕ) → i < length xs → i < length (map f xs)
+mapped_low f xs i low = omega (arith, length-map xs f)
+
+pub mapped_last : {X Y : Type 0} (f : X → Y) (xs ys : List X) (x : X) → xs ≡ ys ++ x ∷ [] → map f xs ≡ map f ys ++ f x ∷ []
+mapped_last {X} f xs ys x e = ap (λ (zs : List X). map f zs) e ∙ map-append f ys (x ∷ [])
+
+pub mapped_take : {X Y : Type 0} (f : X → Y) (i : ℕ) (xs : List X) → take i (map f xs) ≡ map f (take i xs)
+mapped_take f zero xs = refl
+mapped_take f (suc i) [] = refl
+mapped_take {X} {Y} f (suc i) (x ∷ xs) = ap (λ (zs : List Y). f x ∷ zs) (mapped_take f i xs)
+
+pub mapped_drop : {X Y : Type 0} (f : X → Y) (i : ℕ) (xs : List X) → drop i (map f xs) ≡ map f (drop i xs)
+mapped_drop f zero xs = refl
+mapped_drop f (suc i) [] = refl
+mapped_drop f (suc i) (x ∷ xs) = mapped_drop f i xs
+
+pub mapped_reverse : {X Y : Type 0} (f : X → Y) (xs : List X) → map f (reverse xs) ≡ reverse (map f xs)
+mapped_reverse f [] = refl
+mapped_reverse {X} {Y} f (x ∷ xs) =
+    ap (λ (zs : List X). map f zs) (reverse_onto xs x []) ∙ map-append f (reverse xs) (x ∷ [])
+    ∙ ap (λ (zs : List Y). zs ++ f x ∷ []) (mapped_reverse f xs) ∙ sym (reverse_onto (map f xs) (f x) [])
+
+pub get_or_self : {X : Type 0} (xs : List X) (i : ℕ) (d : X) → get_or xs i d ≡ get_or xs i (get_or xs i d)
+get_or_self [] i d = refl
+get_or_self (x ∷ xs) zero d = refl
+get_or_self (x ∷ xs) (suc i) d = get_or_self xs i d
+
+pub mapped_item : {X Y : Type 0} (f : X → Y) (xs : List X) (i : ℕ) (d : X)
+    → f (get_or xs i d) ≡ get_or (map f xs) i (f (get_or xs i d))
+mapped_item f xs i d = mapped_at f xs i (get_or xs i d) (get_or_self xs i d)
+
+pub mapped_cut : {X Y : Type 0} (f : X → Y) (n at : ℕ) (xs : List X) → map f (take n (drop at xs)) ≡ take n (drop at (map f xs))
+mapped_cut {X} {Y} f n at xs = sym (mapped_take f n (drop at xs)) ∙ ap (λ (ys : List Y). take n ys) (sym (mapped_drop f at xs))
+
+pub mapped_removed : {X Y : Type 0} (f : X → Y) (xs ys : List X) (i : ℕ) → ys ≡ take i xs ++ drop (suc i) xs
+    → map f ys ≡ take i (map f xs) ++ drop (suc i) (map f xs)
+mapped_removed {X} {Y} f xs ys i e =
+    ap (λ (zs : List X). map f zs) e ∙ map-append f (take i xs) (drop (suc i) xs)
+    ∙ ap (λ (zs : List Y). zs ++ map f (drop (suc i) xs)) (sym (mapped_take f i xs))
+    ∙ ap (λ (zs : List Y). take i (map f xs) ++ zs) (sym (mapped_drop f (suc i) xs))
+
+pub none_left : {X : Type 0} (xs : List X) → length xs ≡ 0 → xs ≡ []
+none_left [] none = refl
+none_left (x ∷ xs) none = absurd (omega (arith, none))
+
+pub mapped_two : {X Y : Type 0} (f : X → Y) (xs ys : List X) (x y : X) → xs ≡ (ys ++ x ∷ []) ++ y ∷ []
+    → map f xs ≡ (map f ys ++ f x ∷ []) ++ f y ∷ []
+mapped_two {X} {Y} f xs ys x y e =
+    mapped_last f xs (ys ++ x ∷ []) y e ∙ ap (λ (zs : List Y). zs ++ f y ∷ []) (map-append f ys (x ∷ []))

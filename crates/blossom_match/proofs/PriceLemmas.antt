@@ -10,11 +10,8 @@ use Rattle.blossom_match.specs.Phases.{Begins, Stands}
 use Rattle.blossom_match.specs.Prices.{AreHalves, CanPair, FindsTight, LeavesRoom, Lies, Pairs}
 use Rattle.blossom_match.specs.TableValue.{TableValue}
 use Rattle.blossom_match.specs.Tables.{entry}
-use Rattle.blossom_match.specs.declared.couples.Couple.{Couple}
-use Rattle.blossom_match.specs.declared.branches.Branch.{Branch}
+use Rattle.blossom_match.specs.Values.{BranchValue, CoupleValue, SearchValue, StandingValue}
 use Rattle.blossom_match.specs.Bands.{NestValue}
-use Rattle.blossom_match.specs.declared.search.Search.{Search}
-use Rattle.blossom_match.specs.declared.search.Standing.{Standing}
 use Rattle.blossom_match.specs.declared.search.Step.TheVariants.{Meet}
 use Rattle.blossom_match.proofs.SumLemmas.{count-append, hit_same}
 use Rattle.blossom_match.proofs.SearchLemmas.{is_one, place_in}
@@ -30,11 +27,12 @@ no_place : (t : TableValue) (x : ℕ) → is_place t x ≡ 0 → t.places ≤ x
 no_place t x none = place_case (ltb x t.places) x t.places refl (omega (arith, none))
 
 -- all places free at half of their least distances
-pub half_free : (t : TableValue) (couples : List Couple) (free heights : List ℕ) → couples ≡ [] → ((x : ℕ) → count x free ≡ is_place t x)
+pub half_free : (t : TableValue) (couples : List CoupleValue) (free heights : List ℕ) → couples ≡ [] →
+    ((x : ℕ) → count x free ≡ is_place t x)
     → AreHalves t heights → length heights ≡ t.places →
     Stands t couples free heights
 half_free t couples free heights e places half size = record {
-  standing = subst (λ (cs : List Couple). IsStanding t (λ (x : ℕ). get_or heights x 0) cs free) (sym e) (record {
+  standing = subst (λ (cs : List CoupleValue). IsStanding t (λ (x : ℕ). get_or heights x 0) cs free) (sym e) (record {
     tall = λ x none. get_or-eq_default heights 0 (omega (arith, size, no_place t x (omega (arith, places x, none))));
     room = λ a f la hf ne.
         let lf = place_in t f (omega (arith, hf, places f)) in
@@ -48,7 +46,7 @@ half_free t couples free heights e places half size = record {
 }
 
 -- a free place has room for its price, and lower heights
-pub free_lies : (t : TableValue) (couples : List Couple) (free heights : List ℕ) (place : ℕ) → Stands t couples free heights
+pub free_lies : (t : TableValue) (couples : List CoupleValue) (free heights : List ℕ) (place : ℕ) → Stands t couples free heights
     → 1 ≤ count place free → Lies t heights free place
 free_lies t couples free heights place st here =
     let i = st.standing in
@@ -84,7 +82,7 @@ room_case false false t hs place price a f e g low la lf ne room old =
     omega (arith, o, u, old)
 
 -- a free place may have any price that leaves room
-pub risen : (t : TableValue) (couples : List Couple) (free heights new : List ℕ) (place price : ℕ) → Stands t couples free heights
+pub risen : (t : TableValue) (couples : List CoupleValue) (free heights new : List ℕ) (place price : ℕ) → Stands t couples free heights
     → 1 ≤ count place free → LeavesRoom t heights place price → new ≡ set heights place price →
     length new ≡ length heights → Stands t couples free new
 risen t couples free heights new place price st here room e size =
@@ -111,7 +109,7 @@ risen t couples free heights new place price st here room e size =
     }
 
 -- the free places in another order
-reordered : (t : TableValue) (couples : List Couple) (free other heights : List ℕ) → ((x : ℕ) → count x other ≡ count x free)
+reordered : (t : TableValue) (couples : List CoupleValue) (free other heights : List ℕ) → ((x : ℕ) → count x other ≡ count x free)
     → Stands t couples free heights → Stands t couples other heights
 reordered t couples free other heights same st =
     let i = st.standing in
@@ -139,12 +137,12 @@ some_left x [] some = absurd (omega (arith, some))
 some_left x (y ∷ xs) some = omega arith
 
 -- the search of the one place can meet the other
-record CanMeet (t : TableValue) (place other : ℕ) (s : Search) : Type 0 where
+record CanMeet (t : TableValue) (place other : ℕ) (s : SearchValue) : Type 0 where
   search : IsSearch t (height_at s) s
   ready : IsReady t (height_at s) s (Meet (record { from = place; to = other }))
-  size : length s.heights.items ≡ t.places
+  size : length s.heights ≡ t.places
 
-can_meet : (t : TableValue) (place other : ℕ) (couples : List Couple) (free left heights : List ℕ) (s : Search)
+can_meet : (t : TableValue) (place other : ℕ) (couples : List CoupleValue) (free left heights : List ℕ) (s : SearchValue)
     → ((x : ℕ) → count x left + hit x place ≡ count x free) →
     Stands t couples free heights → FindsTight t heights free place other → Begins t place couples left heights s → CanMeet t place other s
 can_meet t place other couples free left heights s counts st f b =
@@ -157,9 +155,9 @@ can_meet t place other couples free left heights s counts st f b =
         omega (
           arith,
           hit_same place,
-          ap (λ (v : NestValue). count place (outer_members v.members s.tree.items)) b.root,
+          ap (λ (v : NestValue). count place (outer_members v.members s.tree)) b.root,
           ap
-              (λ (bs : List Branch). count place (outer_members (place ∷ []) bs)) b.tree,
+              (λ (bs : List BranchValue). count place (outer_members (place ∷ []) bs)) b.tree,
         ),
         omega (arith, here, ap (λ (xs : List ℕ). count other xs) b.free),
         subst (λ (hs : List ℕ). 2 * entry t place other ≡ get_or hs place 0 + get_or hs other 0) (sym b.heights) (sym f.pair.tight),
@@ -167,23 +165,24 @@ can_meet t place other couples free left heights s counts st f b =
       size = can.size;
     }
 
-pub pair_step : (t : TableValue) (place other : ℕ) (from : Standing) (left : List ℕ) (s : Search) → CanPair t place other from
-    → ((x : ℕ) → count x left + hit x place ≡ count x from.free.items) →
-    Begins t place from.couples.items left from.heights.items s → CanStepAt t s (Meet (record { from = place; to = other }))
+pub pair_step : (t : TableValue) (place other : ℕ) (from : StandingValue) (left : List ℕ) (s : SearchValue) → CanPair t place other from
+    → ((x : ℕ) → count x left + hit x place ≡ count x from.free) →
+    Begins t place from.couples left from.heights s → CanStepAt t s (Meet (record { from = place; to = other }))
 pair_step t place other from left s can counts b =
-    let m = can_meet t place other from.couples.items from.free.items left from.heights.items s counts can.stands can.found b in
+    let m = can_meet t place other from.couples from.free left from.heights s counts can.stands can.found b in
     record { search = m.search; ready = m.ready; size = m.size }
 
-pub paired : (t : TableValue) (place other : ℕ) (from : Standing) (left : List ℕ) (s : Search) (r : Standing) → CanPair t place other from
-    → ((x : ℕ) → count x left + hit x place ≡ count x from.free.items) → length left + 1 ≡ length from.free.items →
-    Begins t place from.couples.items left from.heights.items s → Ends t s (Meet (record { from = place; to = other })) r
+pub paired : (t : TableValue) (place other : ℕ) (from : StandingValue) (left : List ℕ) (s : SearchValue) (r : StandingValue) → CanPair t
+    place other from
+    → ((x : ℕ) → count x left + hit x place ≡ count x from.free) → length left + 1 ≡ length from.free →
+    Begins t place from.couples left from.heights s → Ends t s (Meet (record { from = place; to = other })) r
     → Pairs t from r
 paired t place other from left s r k counts fewer b e = record {
   stands =
-      let can = can_meet t place other from.couples.items from.free.items left from.heights.items s counts k.stands k.found b in
-      let same : r.heights.items ≡ s.heights.items = e.heights in
+      let can = can_meet t place other from.couples from.free left from.heights s counts k.stands k.found b in
+      let same : r.heights ≡ s.heights = e.heights in
       record {
-        standing = subst (λ (hs : List ℕ). IsStanding t (λ (x : ℕ). get_or hs x 0) r.couples.items r.free.items) (sym same)
+        standing = subst (λ (hs : List ℕ). IsStanding t (λ (x : ℕ). get_or hs x 0) r.couples r.free) (sym same)
             e.standing;
         size = ap (λ (hs : List ℕ). length hs) same ∙ can.size;
       };

@@ -3,7 +3,7 @@ use Rattle.std.proofs.Common.{◌≡◌, ℕ, ◌+◌, ◌-◌, ◌*◌, ◌<◌
 use Rattle.std.proofs.lemmas.Bool.{eqb-true, eqb-false, eq-eqb}
 use Rattle.blossom_match.specs.Bands.{count}
 use Rattle.blossom_match.specs.Trees.{inner_members, outer_members}
-use Rattle.blossom_match.specs.declared.branches.Branch.{Branch}
+use Rattle.blossom_match.specs.Values.{BranchValue}
 use Rattle.blossom_match.proofs.ListLemmas.{drop_here}
 use Rattle.blossom_match.proofs.SumLemmas.{count-append}
 
@@ -63,22 +63,22 @@ lowers i m w ms now old all lt is fits e =
     omega (arith, fits, e, ap (λ (k : ℕ). w * k) one)
 
 -- the places of the branches from one on
-pub outer_places : (x : ℕ) (tree : List Branch) (i : ℕ) (b : Branch) → i < length tree → b ≡ get_or tree i b →
+pub outer_places : (x : ℕ) (tree : List BranchValue) (i : ℕ) (b : BranchValue) → i < length tree → b ≡ get_or tree i b →
     count x (outer_members [] (drop i tree)) ≡ count x b.outer.members + count x (outer_members [] (drop (i + 1) tree))
 outer_places x tree i b low is =
     omega (
       arith,
-      ap (λ (ks : List Branch). count x (outer_members [] ks)) (drop_here tree i b low is),
+      ap (λ (ks : List BranchValue). count x (outer_members [] ks)) (drop_here tree i b low is),
       count-append x b.outer.members
           (outer_members [] (drop (i + 1) tree)),
     )
 
-pub inner_places : (x : ℕ) (tree : List Branch) (i : ℕ) (b : Branch) → i < length tree → b ≡ get_or tree i b →
+pub inner_places : (x : ℕ) (tree : List BranchValue) (i : ℕ) (b : BranchValue) → i < length tree → b ≡ get_or tree i b →
     count x (inner_members (drop i tree)) ≡ count x b.inner.members + count x (inner_members (drop (i + 1) tree))
 inner_places x tree i b low is =
     omega (
       arith,
-      ap (λ (ks : List Branch). count x (inner_members ks)) (drop_here tree i b low is),
+      ap (λ (ks : List BranchValue). count x (inner_members ks)) (drop_here tree i b low is),
       count-append x b.inner.members
           (inner_members (drop (i + 1) tree)),
     )

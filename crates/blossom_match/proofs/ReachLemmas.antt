@@ -1,5 +1,5 @@
 -- What the outer places leave for each place.
-use Rattle.std.proofs.Common.{◌≡◌, ◌≢◌, ℕ, ◌+◌, ◌≤◌, ◌<◌, ◌⊎◌, inl, inr, suc, zero, List, [], ◌∷◌, ◌++◌, length, take, drop, get_or, arith, refl, sym, ap, subst, ◌∙◌, length-append, append_assoc}
+use Rattle.std.proofs.Common.{◌≡◌, ◌≢◌, ℕ, ◌+◌, ◌-◌, ◌≤◌, ◌<◌, ◌⊎◌, inl, inr, suc, zero, List, [], ◌∷◌, ◌++◌, length, take, drop, get_or, arith, refl, sym, ap, subst, ◌∙◌, length-append, append_assoc}
 use Rattle.std.proofs.lemmas.List.{take-append-drop}
 use Rattle.std.proofs.Math.Seq.{drop-append_seam, take-append_seam}
 use Rattle.blossom_match.specs.Lays.{GrowsAt}
@@ -9,12 +9,11 @@ use Rattle.blossom_match.specs.Rows.{Merges}
 use Rattle.blossom_match.specs.Sound.{IsFirm}
 use Rattle.blossom_match.specs.Trees.{around, both, outer_members}
 use Rattle.blossom_match.specs.Bounds.{holding}
-use Rattle.blossom_match.specs.Reaches.{left_by, CanTake, HasRow, IsLeft, IsReachable, IsReached, Reaches, ReachesMore, ReachesOn, TakesSet}
+use Rattle.blossom_match.specs.Reaches.{left_by, CanTake, HasRow, IsLeft, IsReachable, IsReached, Reaches, ReachesOn, TakesSet}
 use Rattle.blossom_match.specs.TableValue.{TableValue}
 use Rattle.blossom_match.specs.declared.table.TheConstants.{FAR}
-use Rattle.blossom_match.specs.declared.branches.Branch.{Branch}
-use Rattle.blossom_match.specs.declared.search.Search.{Search}
-use Rattle.blossom_match.proofs.ListLemmas.{each-last, each-map, each_here, take_here, each-left, each-right}
+use Rattle.blossom_match.specs.Values.{BranchValue, SearchValue}
+use Rattle.blossom_match.proofs.ListLemmas.{each-map, each_here, take_here, each-left, each-right}
 use Rattle.blossom_match.proofs.SumLemmas.{count-append}
 use Rattle.blossom_match.proofs.RaisedLemmas.{at_drop, outer_places}
 use Rattle.blossom_match.proofs.RowLemmas.{not_hit, takes_near}
@@ -52,13 +51,14 @@ root_reached t hs root reach new size far k = record {
 }
 
 -- outer sets that do not hold one of the places do not hold both
-pub around_first : (a b : ℕ) (base : List ℕ) (bs : List Branch) → count a (outer_members base bs) ≡ 0 → around a b bs ≡ 0
+pub around_first : (a b : ℕ) (base : List ℕ) (bs : List BranchValue) → count a (outer_members base bs) ≡ 0 → around a b bs ≡ 0
 around_first a b base [] none = refl
 around_first a b base (c ∷ cs) none =
     let n = count-append a c.outer.members (outer_members base cs) in
     omega (arith, around_first a b base cs (omega (arith, n, none)), n, none)
 
-set_least : (n m : ℕ) (t : TableValue) (hs : List ℕ) (root : NestValue) (bs : List Branch) (b : Branch) (reach new : List ℕ) (a x : ℕ)
+set_least : (n m : ℕ) (t : TableValue) (hs : List ℕ) (root : NestValue) (bs : List BranchValue) (b : BranchValue) (reach new : List ℕ)
+    (a x : ℕ)
     → count x b.outer.members ≡ n → count a b.outer.members ≡ m → 1 ≤ count a (outer_members root.members bs) + m → x < t.places
     → holding a x root bs + both a x b.outer ≡ 0 → Reaches t hs root bs reach → TakesSet t hs b.outer.members reach new
     → get_or new x 0 ≤ left_by t hs a x
@@ -73,7 +73,7 @@ set_least zero zero t hs root bs b reach new a x e f ha lx apart r k =
     omega (arith, k.less x lx, r.least a x (omega (arith, ha)) lx (omega (arith, apart)))
 
 -- one branch more
-old_reached : (t : TableValue) (hs : List ℕ) (root : NestValue) (bs : List Branch) (b : Branch) (x old now : ℕ)
+old_reached : (t : TableValue) (hs : List ℕ) (root : NestValue) (bs : List BranchValue) (b : BranchValue) (x old now : ℕ)
     → ((y : ℕ) → count y (outer_members root.members bs) + count y b.outer.members ≤ 1) → now ≡ old
     → (old ≡ FAR) ⊎ IsReached t hs root bs x old → (now ≡ FAR) ⊎ IsReached t hs root (bs ++ b ∷ []) x now
 old_reached t hs root bs b x old now once e (inl far) = inl (e ∙ far)
@@ -84,7 +84,7 @@ old_reached t hs root bs b x old now once e (inr r) = inr (record {
   exact = e ∙ r.exact;
 })
 
-new_reached : (t : TableValue) (hs : List ℕ) (root : NestValue) (bs : List Branch) (b : Branch) (x old now : ℕ)
+new_reached : (t : TableValue) (hs : List ℕ) (root : NestValue) (bs : List BranchValue) (b : BranchValue) (x old now : ℕ)
     → ((y : ℕ) → count y (outer_members root.members bs) + count y b.outer.members ≤ 1) → count x b.outer.members ≡ 0
     → (old ≡ FAR) ⊎ IsReached t hs root bs x old → (now ≡ old) ⊎ IsLeft t hs b.outer.members x now
     → (now ≡ FAR) ⊎ IsReached t hs root (bs ++ b ∷ []) x now
@@ -105,7 +105,7 @@ new_reached t hs root bs b x old now once none was (inr l) =
       exact = l.exact;
     })
 
-set_case : (n : ℕ) (t : TableValue) (hs : List ℕ) (root : NestValue) (bs : List Branch) (b : Branch) (reach new : List ℕ) (x : ℕ)
+set_case : (n : ℕ) (t : TableValue) (hs : List ℕ) (root : NestValue) (bs : List BranchValue) (b : BranchValue) (reach new : List ℕ) (x : ℕ)
     → count x b.outer.members ≡ n → ((y : ℕ) → count y (outer_members root.members bs) + count y b.outer.members ≤ 1) → x < t.places
     → Reaches t hs root bs reach → TakesSet t hs b.outer.members reach new
     → (get_or new x 0 ≡ FAR) ⊎ IsReached t hs root (bs ++ b ∷ []) x (get_or new x 0)
@@ -115,7 +115,7 @@ set_case zero t hs root bs b reach new x e once lx r k =
     new_reached t hs root bs b x (get_or reach x 0) (get_or new x 0) once e (r.is x lx) (k.is x lx e)
 
 -- one outer set more
-set_reached : (t : TableValue) (hs : List ℕ) (root : NestValue) (bs : List Branch) (b : Branch) (reach new : List ℕ)
+set_reached : (t : TableValue) (hs : List ℕ) (root : NestValue) (bs : List BranchValue) (b : BranchValue) (reach new : List ℕ)
     → ((y : ℕ) → count y (outer_members root.members bs) + count y b.outer.members ≤ 1)
     → Reaches t hs root bs reach → TakesSet t hs b.outer.members reach new → Reaches t hs root (bs ++ b ∷ []) new
 set_reached t hs root bs b reach new once r k = record {
@@ -126,7 +126,8 @@ set_reached t hs root bs b reach new once r k = record {
   is = λ x lx. set_case (count x b.outer.members) t hs root bs b reach new x refl once lx r k;
 }
 
-once_here : (root : NestValue) (tree : List Branch) (i : ℕ) (b : Branch) → ((y : ℕ) → count y (outer_members root.members tree) ≤ 1)
+once_here : (root : NestValue) (tree : List BranchValue) (i : ℕ) (b : BranchValue) →
+    ((y : ℕ) → count y (outer_members root.members tree) ≤ 1)
     → i < length tree → b ≡ get_or tree i b
     → (y : ℕ) → count y (outer_members root.members (take i tree)) + count y b.outer.members ≤ 1
 once_here root tree i b once low is y =
@@ -134,20 +135,21 @@ once_here root tree i b once low is y =
     omega (
       arith,
       once y,
-      ap (λ (ks : List Branch). count y (outer_members root.members ks)) s,
+      ap (λ (ks : List BranchValue). count y (outer_members root.members ks)) s,
       outer-append y root.members (take i tree) (b ∷ drop (i + 1) tree),
       count-append y b.outer.members (outer_members [] (drop (i + 1) tree)),
     )
 
 -- the row of the next branch has a cell for each place
-pub fits_row : (tree : List Branch) (i : ℕ) (b : Branch) (first cells : List ℕ)
-    → Each (λ (k : Branch). HasRow (length first) k.outer) tree → i < length tree → b ≡ get_or tree i b → length cells ≡ length first
+pub fits_row : (tree : List BranchValue) (i : ℕ) (b : BranchValue) (first cells : List ℕ)
+    → Each (λ (k : BranchValue). HasRow (length first) k.outer) tree → i < length tree → b ≡ get_or tree i b → length cells ≡ length first
     → HasRow (length cells) b.outer
 fits_row tree i b first cells rows low is size =
-    each_here (λ (k : Branch). HasRow (length first) k.outer) tree i b rows low is ∙ sym size
+    each_here (λ (k : BranchValue). HasRow (length first) k.outer) tree i b rows low is ∙ sym size
 
 -- the branches so far and the next one, beside others
-pub reaches_next : (t : TableValue) (hs : List ℕ) (root : NestValue) (before tree : List Branch) (i : ℕ) (b : Branch) (reach new : List ℕ)
+pub reaches_next : (t : TableValue) (hs : List ℕ) (root : NestValue) (before tree : List BranchValue) (i : ℕ) (b : BranchValue)
+    (reach new : List ℕ)
     → ((x : ℕ) → count x (outer_members root.members (before ++ tree)) ≤ 1) → Each (IsFirm t (λ (a : ℕ). get_or hs a 0)) tree
     → i < length tree → b ≡ get_or tree i b → Reaches t hs root (before ++ take i tree) reach → length new ≡ length reach
     → Merges b.outer.near b.outer.width reach new → Reaches t hs root (before ++ take (i + 1) tree) new
@@ -158,18 +160,18 @@ reaches_next t hs root before tree i b reach new once firm low is r size merged 
       once y,
       outer-append y base before tree,
       outer-append y base before (take i tree),
-      ap (λ (ks : List Branch). count y (outer_members [] ks)) (split_here tree i b low is),
+      ap (λ (ks : List BranchValue). count y (outer_members [] ks)) (split_here tree i b low is),
       outer-append y [] (take i tree) (b ∷ drop (i + 1) tree),
       count-append y b.outer.members (outer_members [] (drop (i + 1) tree)),
     ) in
     let is_next : (before ++ take i tree) ++ b ∷ [] ≡ before ++ take (i + 1) tree =
-    append_assoc before (take i tree) (b ∷ []) ∙ ap (λ (ks : List Branch). before ++ ks) (sym (take_here tree i b low is)) in
-    subst (λ (ks : List Branch). Reaches t hs root ks new) is_next
+    append_assoc before (take i tree) (b ∷ []) ∙ ap (λ (ks : List BranchValue). before ++ ks) (sym (take_here tree i b low is)) in
+    subst (λ (ks : List BranchValue). Reaches t hs root ks new) is_next
     (set_reached t hs root (before ++ take i tree) b reach new few r
     (takes_near t hs b.outer reach new (each_here (IsFirm t (λ (a : ℕ). get_or hs a 0)) tree i b firm low is).outer
     (λ y. omega (arith, few y)) size r.short merged))
 
-same_case : (t : TableValue) (hs : List ℕ) (root : NestValue) (xs ys : List Branch) (x room : ℕ)
+same_case : (t : TableValue) (hs : List ℕ) (root : NestValue) (xs ys : List BranchValue) (x room : ℕ)
     → ((y : ℕ) → count y (outer_members root.members ys) ≡ count y (outer_members root.members xs))
     → ((a x : ℕ) → around a x ys ≡ around a x xs) → (room ≡ FAR) ⊎ IsReached t hs root xs x room
     → (room ≡ FAR) ⊎ IsReached t hs root ys x room
@@ -178,7 +180,7 @@ same_case t hs root xs ys x room outs holds (inr l) =
     inr (record { a = l.a; here = omega (arith, outs l.a, l.here); apart = omega (arith, holds l.a x, l.apart); exact = l.exact })
 
 -- the order of the outer sets is nothing to what they leave
-reaches_same : (t : TableValue) (hs : List ℕ) (root : NestValue) (xs ys : List Branch) (reach : List ℕ)
+reaches_same : (t : TableValue) (hs : List ℕ) (root : NestValue) (xs ys : List BranchValue) (reach : List ℕ)
     → ((y : ℕ) → count y (outer_members root.members ys) ≡ count y (outer_members root.members xs))
     → ((a x : ℕ) → around a x ys ≡ around a x xs) → Reaches t hs root xs reach → Reaches t hs root ys reach
 reaches_same t hs root xs ys reach outs holds r = record {
@@ -188,76 +190,89 @@ reaches_same t hs root xs ys reach outs holds r = record {
   is = λ x lx. same_case t hs root xs ys x (get_or reach x 0) outs holds (r.is x lx);
 }
 
-drop_before : (xs ys : List Branch) (n : ℕ) → length xs ≡ n → drop n (xs ++ ys) ≡ ys
+drop_before : (xs ys : List BranchValue) (n : ℕ) → length xs ≡ n → drop n (xs ++ ys) ≡ ys
 drop_before xs ys n e = subst (λ (k : ℕ). drop k (xs ++ ys) ≡ ys) e (drop-append_seam xs ys)
 
-take_before : (xs ys : List Branch) (n : ℕ) → n ≡ length xs → take n (xs ++ ys) ≡ xs
+take_before : (xs ys : List BranchValue) (n : ℕ) → n ≡ length xs → take n (xs ++ ys) ≡ xs
 take_before xs ys n e = subst (λ (k : ℕ). take k (xs ++ ys) ≡ xs) (sym e) (take-append_seam xs ys)
 
 -- the branches that come out of a set are those from the index on
-added_is : (at more : ℕ) (old new : List Branch) → (g : GrowsAt at old new) → more + length old ≡ length new
+added_is : (at more : ℕ) (old new : List BranchValue) → (g : GrowsAt at old new) → more + length old ≡ length new
     → take more (drop at new) ≡ g.added
 added_is at more old new g size =
-    let rest = ap (λ (ks : List Branch). drop at ks) g.now ∙ drop_before g.before (g.added ++ g.last ∷ g.later) at g.size in
+    let rest = ap (λ (ks : List BranchValue). drop at ks) g.now ∙ drop_before g.before (g.added ++ g.last ∷ g.later) at g.size in
     let n : more ≡ length g.added = omega (
       arith,
       size,
-      ap (λ (ks : List Branch). length ks) g.was,
-      ap (λ (ks : List Branch). length ks) g.now,
+      ap (λ (ks : List BranchValue). length ks) g.was,
+      ap (λ (ks : List BranchValue). length ks) g.now,
       length-append g.before (g.branch ∷ g.later),
       length-append g.before (g.added ++ g.last ∷ g.later),
       length-append g.added (g.last ∷ g.later),
     ) in
-    ap (λ (ks : List Branch). take more ks) rest ∙ take_before g.added (g.last ∷ g.later) more n
+    ap (λ (ks : List BranchValue). take more ks) rest ∙ take_before g.added (g.last ∷ g.later) more n
 
-pub grown_size : (at : ℕ) (old new : List Branch) → GrowsAt at old new → length old ≤ length new
+pub grown_size : (at : ℕ) (old new : List BranchValue) → GrowsAt at old new → length old ≤ length new
 grown_size at old new g =
     omega (
       arith,
-      ap (λ (ks : List Branch). length ks) g.was,
-      ap (λ (ks : List Branch). length ks) g.now,
+      ap (λ (ks : List BranchValue). length ks) g.was,
+      ap (λ (ks : List BranchValue). length ks) g.now,
+      length-append g.before (g.branch ∷ g.later),
+      length-append g.before (g.added ++ g.last ∷ g.later),
+      length-append g.added (g.last ∷ g.later),
+    )
+
+-- the branches more stand from the index on
+pub grown_past : (at : ℕ) (old new : List BranchValue) → GrowsAt at old new → at + (length new - length old) ≤ length new
+grown_past at old new g =
+    omega (
+      arith,
+      g.size,
+      ap (λ (ks : List BranchValue). length ks) g.was,
+      ap (λ (ks : List BranchValue). length ks) g.now,
       length-append g.before (g.branch ∷ g.later),
       length-append g.before (g.added ++ g.last ∷ g.later),
       length-append g.added (g.last ∷ g.later),
     )
 
 -- once an inner set has come apart and its outer parts are taken in
-pub reaches_apart : (t : TableValue) (hs : List ℕ) (root : NestValue) (at more : ℕ) (old new : List Branch) (reach next : List ℕ)
+pub reaches_apart : (t : TableValue) (hs : List ℕ) (root : NestValue) (at more : ℕ) (old new : List BranchValue) (reach next : List ℕ)
     → (g : GrowsAt at old new) → more + length old ≡ length new → CanTake t hs root new → Reaches t hs root old reach
     → ReachesOn (take more (drop at new)) reach next → Reaches t hs root new next
 reaches_apart t hs root at more old new reach next g size can r on =
     let base = root.members in
-    let on = subst (λ (ks : List Branch). ReachesOn ks reach next) (added_is at more old new g size) on in
+    let on = subst (λ (ks : List BranchValue). ReachesOn ks reach next) (added_is at more old new g size) on in
     let outs : (y : ℕ) → count y (outer_members base new) ≡ count y (outer_members base (old ++ g.added)) = λ y. omega (
       arith,
-      ap (λ (ks : List Branch). count y (outer_members base ks)) g.now,
+      ap (λ (ks : List BranchValue). count y (outer_members base ks)) g.now,
       outer-append y base g.before (g.added ++ g.last ∷ g.later),
       outer-append y [] g.added (g.last ∷ g.later),
       count-append y g.last.outer.members (outer_members [] g.later),
       ap (λ (v : NestValue). count y v.members) g.same,
       outer-append y base old g.added,
-      ap (λ (ks : List Branch). count y (outer_members base ks)) g.was,
+      ap (λ (ks : List BranchValue). count y (outer_members base ks)) g.was,
       outer-append y base g.before (g.branch ∷ g.later),
       count-append y g.branch.outer.members (outer_members [] g.later),
     ) in
     let holds : (a x : ℕ) → around a x new ≡ around a x (old ++ g.added) = λ a x. omega (
       arith,
-      ap (λ (ks : List Branch). around a x ks) g.now,
+      ap (λ (ks : List BranchValue). around a x ks) g.now,
       around_append a x g.before (g.added ++ g.last ∷ g.later),
       around_append a x g.added (g.last ∷ g.later),
       ap (λ (v : NestValue). both a x v) g.same,
       around_append a x old g.added,
-      ap (λ (ks : List Branch). around a x ks) g.was,
+      ap (λ (ks : List BranchValue). around a x ks) g.was,
       around_append a x g.before (g.branch ∷ g.later),
     ) in
-    let firm = subst (λ (ks : List Branch). Each (IsFirm t (λ (a : ℕ). get_or hs a 0)) ks) g.now can.firm in
+    let firm = subst (λ (ks : List BranchValue). Each (IsFirm t (λ (a : ℕ). get_or hs a 0)) ks) g.now can.firm in
     reaches_same t hs root (old ++ g.added) new next outs holds
     (on t hs root old (λ y. omega (arith, outs y, can.once y))
     (each-left (IsFirm t (λ (a : ℕ). get_or hs a 0)) g.added (g.last ∷ g.later)
     (each-right (IsFirm t (λ (a : ℕ). get_or hs a 0)) g.before (g.added ++ g.last ∷ g.later) firm)) r)
 
 -- the root alone
-pub reaches_root : (t : TableValue) (hs : List ℕ) (root : NestValue) (tree : List Branch) (reach new : List ℕ) → CanTake t hs root tree
+pub reaches_root : (t : TableValue) (hs : List ℕ) (root : NestValue) (tree : List BranchValue) (reach new : List ℕ) → CanTake t hs root tree
     → length reach ≡ t.places → length new ≡ length reach → ((x : ℕ) → x < length reach → get_or reach x 0 ≡ FAR)
     → Merges root.near root.width reach new → Reaches t hs root [] new
 reaches_root t hs root tree reach new can size same far merged =
@@ -265,54 +280,24 @@ reaches_root t hs root tree reach new can size same far merged =
     (takes_near t hs root reach new can.sound (λ y. omega (arith, can.once y, base_in y root.members tree)) same
     (λ x lx. omega (arith, far x (omega (arith, lx, size)))) merged)
 
-last_is : (before : List Branch) (b d : Branch) → get_or (before ++ b ∷ []) (length before) d ≡ b
-last_is [] b d = refl
-last_is (c ∷ before) b d = last_is before b d
-
--- the newest branch
-pub reaches_newest : (s : Search) (at : ℕ) (c : Branch) (reach new : List ℕ) → at + 1 ≡ length s.tree.items
-    → c ≡ get_or s.tree.items at c → length new ≡ length reach → Merges c.outer.near c.outer.width reach new → ReachesMore s reach new
-reaches_newest s at c reach new last is size merged t before b can e r =
-    let on : at ≡ length before = omega (arith, last, ap (λ (ks : List Branch). length ks) e, length-append before (b ∷ [])) in
-    let same : c ≡ b = is ∙ ap (λ (ks : List Branch). get_or ks at c) e ∙ ap (λ (n : ℕ). get_or (before ++ b ∷ []) n c) on
-    ∙ last_is before b c in
-    let once : (y : ℕ) → count y (outer_members s.root.members before) + count y b.outer.members ≤ 1 = λ y. omega (
-      arith,
-      can.once y,
-      ap (λ (ks : List Branch). count y (outer_members s.root.members ks)) e,
-      outer_members_push y s.root.members before b,
-    ) in
-    subst (λ (ks : List Branch). Reaches t s.heights.items s.root ks new) (sym e)
-    (set_reached t s.heights.items s.root before b reach new once r
-    (takes_near t s.heights.items b.outer reach new
-    (each-last (IsFirm t (λ (a : ℕ). get_or s.heights.items a 0)) before b
-    (subst (λ (ks : List Branch). Each (IsFirm t (λ (a : ℕ). get_or s.heights.items a 0)) ks) e can.firm)).outer
-    (λ y. omega (arith, once y)) size r.short
-    (subst (λ (k : Branch). Merges k.outer.near k.outer.width reach new) same merged)))
-
 -- the rows of a search have a cell for each place
-pub has_root_row : (s : Search) (cells : List ℕ) → IsReachable s cells → HasRow (length cells) s.root
+pub has_root_row : (s : SearchValue) (cells : List ℕ) → IsReachable s cells → HasRow (length cells) s.root
 has_root_row s cells r = r.can.sound.near.0.size ∙ sym r.size
 
-pub have_outer_rows : (s : Search) (cells : List ℕ) → IsReachable s cells
-    → Each (λ (b : Branch). HasRow (length cells) b.outer) s.tree.items
+pub have_outer_rows : (s : SearchValue) (cells : List ℕ) → IsReachable s cells
+    → Each (λ (b : BranchValue). HasRow (length cells) b.outer) s.tree
 have_outer_rows s cells r =
-    each-map (IsFirm r.t (λ (a : ℕ). get_or s.heights.items a 0)) (λ (b : Branch). HasRow (length cells) b.outer)
-    (λ b k. k.outer.near.0.size ∙ sym r.size) s.tree.items r.can.firm
-
-pub newest_row : (s : Search) (cells : List ℕ) (at : ℕ) (c : Branch) → IsReachable s cells → at + 1 ≡ length s.tree.items
-    → c ≡ get_or s.tree.items at c → HasRow (length cells) c.outer
-newest_row s cells at c r last is =
-    each_here (λ (b : Branch). HasRow (length cells) b.outer) s.tree.items at c (have_outer_rows s cells r) (omega (arith, last)) is
+    each-map (IsFirm r.t (λ (a : ℕ). get_or s.heights a 0)) (λ (b : BranchValue). HasRow (length cells) b.outer)
+    (λ b k. k.outer.near.0.size ∙ sym r.size) s.tree r.can.firm
 
 -- the places of an outer set are outer places
-pub outer_within : (x : ℕ) (base : List ℕ) (tree : List Branch) (i : ℕ) (b : Branch) → i < length tree → b ≡ get_or tree i b
+pub outer_within : (x : ℕ) (base : List ℕ) (tree : List BranchValue) (i : ℕ) (b : BranchValue) → i < length tree → b ≡ get_or tree i b
     → count x b.outer.members ≤ count x (outer_members base tree)
 outer_within x base tree i b low is =
     omega (
       arith,
       outer-append x base (take i tree) (drop i tree),
-      ap (λ (ks : List Branch). count x (outer_members base ks))
+      ap (λ (ks : List BranchValue). count x (outer_members base ks))
           (take-append-drop i tree),
       outer_places x tree i b low is,
     )

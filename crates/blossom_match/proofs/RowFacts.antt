@@ -4,14 +4,14 @@ use Rattle.blossom_match.specs.Rings.{single_of}
 use Rattle.blossom_match.specs.RingRows.{ring_row}
 use Rattle.blossom_match.specs.Rows.{single_row}
 use Rattle.blossom_match.specs.TableValue.{TableValue}
-use Rattle.blossom_match.specs.declared.nest.Part.{Part}
+use Rattle.blossom_match.specs.Values.{PartValue}
 
 -- 0, 1 and 2 are 2 from each other; 3 is 5 from 0, 4 from 1 and 6 from 2
 abbrev four : TableValue
 four = record { places = 4; cells = 0 ∷ 2 ∷ 2 ∷ 5 ∷ 0 ∷ 0 ∷ 2 ∷ 4 ∷ 0 ∷ 0 ∷ 0 ∷ 6 ∷ 0 ∷ 0 ∷ 0 ∷ 0 ∷ [] }
 
-abbrev part : ℕ → ℕ → ℕ → Part
-part place width to = record { nest = single_of four place width; next = record { from = place; to = to } }
+abbrev part : ℕ → ℕ → ℕ → PartValue
+part place width to = record { nest = single_of place four place width; next = record { from = place; to = to } }
 
 -- twice the distances, both ways
 pub known_single : single_row four 1 ≡ 4 ∷ 400001 ∷ 4 ∷ 8 ∷ []

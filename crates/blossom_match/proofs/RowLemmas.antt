@@ -15,7 +15,7 @@ use Rattle.blossom_match.specs.Reaches.{IsLeft, TakesSet}
 use Rattle.blossom_match.specs.TableValue.{TableValue}
 use Rattle.blossom_match.specs.Tables.{entry, IsTable}
 use Rattle.blossom_match.specs.declared.table.TheConstants.{FAR, MAX_DISTANCE}
-use Rattle.blossom_match.specs.declared.nest.Part.{Part}
+use Rattle.blossom_match.specs.Values.{PartValue}
 use Rattle.blossom_match.proofs.SumLemmas.{count-append, hit_is, hit_same}
 
 pub far_is : FAR ≡ 2 * MAX_DISTANCE + 1
@@ -152,14 +152,14 @@ near_is t h s x k once none lx =
       );
     }
 
-least_case : (n : ℕ) (t : TableValue) (h : ℕ → ℕ) (p : Part) (rest a x : ℕ) → count a p.nest.members ≡ n → n ≤ 1
+least_case : (n : ℕ) (t : TableValue) (h : ℕ → ℕ) (p : PartValue) (rest a x : ℕ) → count a p.nest.members ≡ n → n ≤ 1
     → IsSound t h p.nest → count x p.nest.members ≡ 0 → x < t.places → (n ≡ 0 → rest ≤ 2 * entry t a x - h a)
     → min (lowered p.nest.width (get_or p.nest.near x 0)) rest ≤ 2 * entry t a x - h a
 least_case zero t h p rest a x e few k none lx later = omega (arith, later refl)
 least_case (suc n) t h p rest a x e few k none lx later = omega (arith, near_least t h p.nest a x k (omega (arith, e, few)) none lx)
 
 -- no member of the parts leaves less
-least_low : (t : TableValue) (h : ℕ → ℕ) (ps : List Part) (a x : ℕ) → Each (IsFirmPart t h) ps → count a (members_in ps) ≤ 1
+least_low : (t : TableValue) (h : ℕ → ℕ) (ps : List PartValue) (a x : ℕ) → Each (IsFirmPart t h) ps → count a (members_in ps) ≤ 1
     → 1 ≤ count a (members_in ps) → count x (members_in ps) ≡ 0 → x < t.places → least_of ps x ≤ 2 * entry t a x - h a
 least_low t h [] a x f once here none lx = absurd (omega (arith, here))
 least_low t h (p ∷ ps) a x f once here none lx =
@@ -176,7 +176,7 @@ min_case t h xs ys x one rest k (inl far) near (inr more) = absurd (omega (arith
 min_case t h xs ys x one rest k (inr l) near (inr more) =
     record { a = l.a; here = omega (arith, l.here, count-append l.a xs ys); exact = omega (arith, l.exact, more) }
 
-least_with : (t : TableValue) (h : ℕ → ℕ) (p : Part) (ps : List Part) (x : ℕ) → IsSound t h p.nest
+least_with : (t : TableValue) (h : ℕ → ℕ) (p : PartValue) (ps : List PartValue) (x : ℕ) → IsSound t h p.nest
     → ((y : ℕ) → count y (members_in (p ∷ ps)) ≤ 1) → count x (members_in (p ∷ ps)) ≡ 0 → x < t.places
     → (least_of ps x ≡ FAR) ⊎ IsRoom t h (members_in ps) x (least_of ps x)
     → IsRoom t h (members_in (p ∷ ps)) x (least_of (p ∷ ps) x)
@@ -188,7 +188,7 @@ least_with t h p ps x k once none lx later =
     (near_is t h p.nest x k (λ y. omega (arith, once y, c y)) out lx) later
     (omega (arith, lowered_less p.nest.width (get_or p.nest.near x 0), k.near.0.short x out lx)) (cases_lt one (least_of ps x))
 
-least_rest : (t : TableValue) (h : ℕ → ℕ) (ps : List Part) (x : ℕ) → Each (IsFirmPart t h) ps
+least_rest : (t : TableValue) (h : ℕ → ℕ) (ps : List PartValue) (x : ℕ) → Each (IsFirmPart t h) ps
     → ((y : ℕ) → count y (members_in ps) ≤ 1) → count x (members_in ps) ≡ 0 → x < t.places
     → (least_of ps x ≡ FAR) ⊎ IsRoom t h (members_in ps) x (least_of ps x)
 least_rest t h [] x f once none lx = inl refl
@@ -198,7 +198,7 @@ least_rest t h (p ∷ ps) x f once none lx =
     (least_rest t h ps x f.1 (λ y. omega (arith, once y, c y)) (omega (arith, none, c x)) lx))
 
 -- some member leaves so much
-least_is : (t : TableValue) (h : ℕ → ℕ) (p : Part) (ps : List Part) (x : ℕ) → Each (IsFirmPart t h) (p ∷ ps)
+least_is : (t : TableValue) (h : ℕ → ℕ) (p : PartValue) (ps : List PartValue) (x : ℕ) → Each (IsFirmPart t h) (p ∷ ps)
     → ((y : ℕ) → count y (members_in (p ∷ ps)) ≤ 1) → count x (members_in (p ∷ ps)) ≡ 0 → x < t.places
     → IsRoom t h (members_in (p ∷ ps)) x (least_of (p ∷ ps) x)
 least_is t h p ps x f once none lx =
@@ -215,17 +215,17 @@ out_case true n v e none = absurd (omega (arith, ltb-true 0 n e, none))
 out_case false n v e none = refl
 
 -- a ring's cell at a member, and at any other place
-ring_own : (ps : List Part) (x : ℕ) → 1 ≤ count x (members_in ps) → ring_cell ps x ≡ FAR
+ring_own : (ps : List PartValue) (x : ℕ) → 1 ≤ count x (members_in ps) → ring_cell ps x ≡ FAR
 ring_own ps x here = in_case (ltb 0 (count x (members_in ps))) (count x (members_in ps)) (least_of ps x) refl here
 
-ring_other : (ps : List Part) (x : ℕ) → count x (members_in ps) ≡ 0 → ring_cell ps x ≡ least_of ps x
+ring_other : (ps : List PartValue) (x : ℕ) → count x (members_in ps) ≡ 0 → ring_cell ps x ≡ least_of ps x
 ring_other ps x none = out_case (ltb 0 (count x (members_in ps))) (count x (members_in ps)) (least_of ps x) refl none
 
-least_short : (p : Part) (ps : List Part) (x : ℕ) → get_or p.nest.near x 0 < FAR → least_of (p ∷ ps) x < FAR
+least_short : (p : PartValue) (ps : List PartValue) (x : ℕ) → get_or p.nest.near x 0 < FAR → least_of (p ∷ ps) x < FAR
 least_short p ps x near = omega (arith, lowered_less p.nest.width (get_or p.nest.near x 0), near)
 
 -- the row of a ring of firm parts
-pub ring_near : (t : TableValue) (h : ℕ → ℕ) (p : Part) (ps : List Part) → Each (IsFirmPart t h) (p ∷ ps)
+pub ring_near : (t : TableValue) (h : ℕ → ℕ) (p : PartValue) (ps : List PartValue) → Each (IsFirmPart t h) (p ∷ ps)
     → ((x : ℕ) → count x (members_in (p ∷ ps)) ≤ 1)
     → ((x : ℕ) → 1 ≤ count x (members_in (p ∷ ps)) → height x (bands_in (p ∷ ps)) ≡ h x)
     → IsNear t (record { members = members_in (p ∷ ps); below = bands_in (p ∷ ps); cells = ring_row (p ∷ ps) })
@@ -250,13 +250,14 @@ ring_near t h p ps f once local =
     }
 
 -- the parts so far and the next one
-pub least_push : (ps : List Part) (p : Part) (x : ℕ)
+pub least_push : (ps : List PartValue) (p : PartValue) (x : ℕ)
     → least_of (ps ++ p ∷ []) x ≡ min (lowered p.nest.width (get_or p.nest.near x 0)) (least_of ps x)
 least_push [] p x = refl
 least_push (q ∷ ps) p x = omega (arith, least_push ps p x)
 
 -- so it is with the merged cells
-pub merge_next : (n : ℕ) (parts : List Part) (i : ℕ) (p : Part) (near : List ℕ) (width : ℕ) (cells new : List ℕ) → i < length parts
+pub merge_next : (n : ℕ) (parts : List PartValue) (i : ℕ) (p : PartValue) (near : List ℕ) (width : ℕ) (cells new : List ℕ) → i < length
+    parts
     → p ≡ get_or parts i p → near ≡ p.nest.near → width ≡ p.nest.width → Merges near width cells new → length near ≡ n
     → ((x : ℕ) → x < n → get_or cells x 0 ≡ least_of (take i parts) x) → (x : ℕ) → x < n
     → get_or new x 0 ≡ least_of (take (i + 1) parts) x
@@ -268,16 +269,16 @@ merge_next n parts i p near width cells new low is e f merged size so_far x lx =
       ap (λ (w : ℕ). lowered w (get_or p.nest.near x 0)) f,
       so_far x lx,
       least_push (take i parts) p x,
-      ap (λ (ks : List Part). least_of ks x) (take_here parts i p low is),
+      ap (λ (ks : List PartValue). least_of ks x) (take_here parts i p low is),
     )
 
-row_case : (n : ℕ) (ps : List Part) (x v w : ℕ) → count x (members_in ps) ≡ n → v ≡ least_of ps x → (1 ≤ n → w ≡ FAR)
+row_case : (n : ℕ) (ps : List PartValue) (x v w : ℕ) → count x (members_in ps) ≡ n → v ≡ least_of ps x → (1 ≤ n → w ≡ FAR)
     → (n ≡ 0 → w ≡ v) → w ≡ ring_cell ps x
 row_case zero ps x v w e is on off = off refl ∙ is ∙ sym (ring_other ps x e)
 row_case (suc n) ps x v w e is on off = on (omega arith) ∙ sym (ring_own ps x (omega (arith, e)))
 
 -- merged cells that are cleared at the members are the row
-pub row_is : (n : ℕ) (ps : List Part) (members mid new : List ℕ) → members ≡ members_in ps → length new ≡ n
+pub row_is : (n : ℕ) (ps : List PartValue) (members mid new : List ℕ) → members ≡ members_in ps → length new ≡ n
     → ((x : ℕ) → x < n → get_or mid x 0 ≡ least_of ps x) → ((x : ℕ) → 1 ≤ count x members → get_or new x 0 ≡ FAR)
     → ((x : ℕ) → count x members ≡ 0 → get_or new x 0 ≡ get_or mid x 0) → new ≡ row_for n ps
 row_is n ps members mid new e same merged on off =

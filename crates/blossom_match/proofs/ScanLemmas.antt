@@ -6,7 +6,7 @@ use Rattle.blossom_match.specs.Lists.{Each}
 use Rattle.blossom_match.specs.Bands.{NestValue, count}
 use Rattle.blossom_match.specs.Trees.{around, outer_members}
 use Rattle.blossom_match.specs.Bounds.{holding, FirstIsDue, IsWidthOf, Narrows, NarrowsAt, RingIsDue, RingIsWide}
-use Rattle.blossom_match.specs.declared.branches.Branch.{Branch}
+use Rattle.blossom_match.specs.Values.{BranchValue}
 use Rattle.blossom_match.specs.declared.least.Change.{Change}
 use Rattle.blossom_match.proofs.ListLemmas.{drop_here, each-map, each-push, take_here}
 use Rattle.blossom_match.proofs.SumLemmas.{count-append}
@@ -14,14 +14,14 @@ use Rattle.blossom_match.proofs.ChainLemmas.{around_append}
 use Rattle.blossom_match.proofs.TreeLemmas.{base_in, outer-append}
 
 -- outer sets that do not hold one of the places do not hold both
-pub around_none : (a b : ℕ) (base : List ℕ) (bs : List Branch) → count b (outer_members base bs) ≡ 0 → around a b bs ≡ 0
+pub around_none : (a b : ℕ) (base : List ℕ) (bs : List BranchValue) → count b (outer_members base bs) ≡ 0 → around a b bs ≡ 0
 around_none a b base [] none = refl
 around_none a b base (c ∷ cs) none =
     let n = count-append b c.outer.members (outer_members base cs) in
     omega (arith, around_none a b base cs (omega (arith, n, none)), n, none)
 
 -- no outer set holds a place of those before and a place of this one
-pub apart_from : (a b : ℕ) (root : NestValue) (bs : List Branch) (c : Branch) (after : List Branch)
+pub apart_from : (a b : ℕ) (root : NestValue) (bs : List BranchValue) (c : BranchValue) (after : List BranchValue)
     → ((x : ℕ) → count x (outer_members root.members (bs ++ c ∷ after)) ≤ 1) →
     1 ≤ count a (outer_members root.members bs) → 1 ≤ count b c.outer.members → holding a b root (bs ++ c ∷ after) ≡ 0
 apart_from a b root bs c after once ha hb =
@@ -43,17 +43,17 @@ apart_from a b root bs c after once ha hb =
       base_in b root.members bs,
     )
 
-pub split_here : (tree : List Branch) (i : ℕ) (b : Branch) → i < length tree → b ≡ get_or tree i b → tree
+pub split_here : (tree : List BranchValue) (i : ℕ) (b : BranchValue) → i < length tree → b ≡ get_or tree i b → tree
     ≡ take i tree ++ b ∷ drop (i + 1) tree
-split_here tree i b low is = sym (take-append-drop i tree) ∙ ap (λ (ks : List Branch). take i tree ++ ks) (drop_here tree i b low is)
+split_here tree i b low is = sym (take-append-drop i tree) ∙ ap (λ (ks : List BranchValue). take i tree ++ ks) (drop_here tree i b low is)
 
 -- the rings so far
-pub record Narrowing (tree : List Branch) (i : ℕ) (old new : Change) : Type 0 where
+pub record Narrowing (tree : List BranchValue) (i : ℕ) (old new : Change) : Type 0 where
   pub less : new.by ≤ old.by
   pub wide : Each (RingIsWide new.by) (take i tree)
   pub is : (new ≡ old) ⊎ RingIsDue tree new
 
-narrowing_is : (tree : List Branch) (i : ℕ) (b : Branch) (o m n : Change) → i < length tree → b ≡ get_or tree i b → (m ≡ o)
+narrowing_is : (tree : List BranchValue) (i : ℕ) (b : BranchValue) (o m n : Change) → i < length tree → b ≡ get_or tree i b → (m ≡ o)
     ⊎ RingIsDue tree m → (n ≡ m) ⊎ IsWidthOf b i n → (n ≡ o) ⊎ RingIsDue tree n
 narrowing_is tree i b o m n low is (inl e) (inl f) = inl (f ∙ e)
 narrowing_is tree i b o m n low is (inr e) (inl f) = inr (subst (λ (k : Change). RingIsDue tree k) (sym f) e)
@@ -64,23 +64,23 @@ narrowing_is tree i b o m n low is e (inr f) = inr (record {
       subst (FirstIsDue n.by) (sym (drop_here tree i b low is)) (f.wide, f.some);
 })
 
-pub narrowing_more : (tree : List Branch) (i : ℕ) (b : Branch) (o m n : Change) → i < length tree → b ≡ get_or tree i b
+pub narrowing_more : (tree : List BranchValue) (i : ℕ) (b : BranchValue) (o m n : Change) → i < length tree → b ≡ get_or tree i b
     → Narrowing tree i o m → NarrowsAt b i m n → Narrowing tree (i + 1) o n
 narrowing_more tree i b o m n low is one two = record {
   less = omega (arith, one.less, two.less);
-  wide = subst (λ (ks : List Branch). Each (RingIsWide n.by) ks) (sym (take_here tree i b low is))
+  wide = subst (λ (ks : List BranchValue). Each (RingIsWide n.by) ks) (sym (take_here tree i b low is))
       (each-push (RingIsWide n.by) (take i tree) b (each-map (RingIsWide m.by) (RingIsWide n.by)
       (λ k w some. omega (arith, w some, two.less)) (take i tree) one.wide) two.wide);
   is = narrowing_is tree i b o m n low is one.is two.is;
 }
 
-pub narrowing_start : (tree : List Branch) (o : Change) → Narrowing tree 0 o o
+pub narrowing_start : (tree : List BranchValue) (o : Change) → Narrowing tree 0 o o
 narrowing_start tree o = record { less = omega arith; wide = tt; is = inl refl }
 
-pub narrowing_done : (tree : List Branch) (o n : Change) → Narrowing tree (length tree) o n → Narrows tree o n
+pub narrowing_done : (tree : List BranchValue) (o n : Change) → Narrowing tree (length tree) o n → Narrows tree o n
 narrowing_done tree o n r = record {
   less = r.less;
-  wide = subst (λ (ks : List Branch). Each (RingIsWide n.by) ks)
+  wide = subst (λ (ks : List BranchValue). Each (RingIsWide n.by) ks)
       (take-length tree) r.wide;
   is = r.is;
 }

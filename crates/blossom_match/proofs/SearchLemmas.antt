@@ -13,9 +13,7 @@ use Rattle.blossom_match.specs.Lays.{Expands}
 use Rattle.blossom_match.specs.Searches.{height_at, is_place, outers, Advances, CanStep, FreeHaveRoom}
 use Rattle.blossom_match.specs.TableValue.{TableValue}
 use Rattle.blossom_match.specs.declared.nest.Link.{Link}
-use Rattle.blossom_match.specs.declared.couples.Couple.{Couple}
-use Rattle.blossom_match.specs.declared.branches.Branch.{Branch}
-use Rattle.blossom_match.specs.declared.search.Search.{Search}
+use Rattle.blossom_match.specs.Values.{BranchValue, CoupleValue, SearchValue}
 use Rattle.blossom_match.specs.declared.search.Step.TheVariants.{Grow, Shrink, Expand}
 use Rattle.blossom_match.proofs.ListLemmas.{each-append, each-left, each-right, each-push}
 use Rattle.blossom_match.proofs.SumLemmas.{count-append, height-append, load-append, low, size-append}
@@ -26,9 +24,9 @@ use Rattle.blossom_match.proofs.TreeLemmas.{branch_bands_push, couple_bands-appe
 free_none : (x : ℕ) {xs ys : List ℕ} → xs ≡ ys → count x xs ≡ 0 → count x ys ≡ 0
 free_none x e none = omega (arith, none, ap (λ (zs : List ℕ). count x zs) e)
 
-pub shrunk : (link : Link) (s r : Search) → Shrinks link s.root r.root s.tree.items r.tree.items → r.rest.items ≡ s.rest.items
-    → r.free.items ≡ s.free.items → r.heights.items ≡ s.heights.items → Advances s (Shrink link) r
-shrunk link s r sh e f g = record {
+pub shrunk : (key : ℕ) (link : Link) (s r : SearchValue) → Shrinks key link s.root r.root s.tree r.tree → r.rest ≡ s.rest
+    → r.free ≡ s.free → r.heights ≡ s.heights → Advances s (Shrink link) r
+shrunk key link s r sh e f g = record {
   search = λ t h i ready.
       let firm = sh.firm t h (entry-comm t) ready.3 i.root i.tree in
       record {
@@ -37,38 +35,38 @@ shrunk link s r sh e f g = record {
           i.tall x (free_none x f none),
           sh.sums (height x) (height-append x),
           ap
-              (λ (cs : List Couple). height x (couple_bands cs)) e,
+              (λ (cs : List CoupleValue). height x (couple_bands cs)) e,
         );
         room = subst (λ (xs : List ℕ). FreeHaveRoom t h xs) (sym f) i.room;
         places = λ x. omega (
           arith,
           i.places x,
           sh.places x,
-          ap (λ (cs : List Couple). count x (couple_members cs)) e,
+          ap (λ (cs : List CoupleValue). count x (couple_members cs)) e,
           ap
               (λ (xs : List ℕ). count x xs) f,
         );
         grown = sh.grown;
-        joined = subst (λ (cs : List Couple). Each IsJoined cs) (sym e) i.joined;
+        joined = subst (λ (cs : List CoupleValue). Each IsJoined cs) (sym e) i.joined;
         root = firm.0;
         tree = firm.1;
-        rest = subst (λ (cs : List Couple). Each (IsFirmCouple t h) cs) (sym e) i.rest;
+        rest = subst (λ (cs : List CoupleValue). Each (IsFirmCouple t h) cs) (sym e) i.rest;
         loads = λ a b la lb ne. omega (
           arith,
           i.loads a b la lb ne,
           sh.sums (load a b) (load-append a b),
           ap
-              (λ (cs : List Couple). load a b (couple_bands cs)) e,
+              (λ (cs : List CoupleValue). load a b (couple_bands cs)) e,
         );
       };
-  fewer = omega (arith, sh.fewer, ap (λ (cs : List Couple). length (couple_bands cs)) e);
+  fewer = omega (arith, sh.fewer, ap (λ (cs : List CoupleValue). length (couple_bands cs)) e);
   free = f;
   heights = g;
 }
 
-pub came_apart : (at : ℕ) (s r : Search) → Expands s.root s.tree.items r.tree.items s.rest.items r.rest.items → r.root ≡ s.root
-    → r.free.items ≡ s.free.items → r.heights.items ≡ s.heights.items → Advances s (Expand at) r
-came_apart at s r ex e f g = record {
+pub came_apart : (key at : ℕ) (s r : SearchValue) → Expands key s.root s.tree r.tree s.rest r.rest → r.root ≡ s.root
+    → r.free ≡ s.free → r.heights ≡ s.heights → Advances s (Expand at) r
+came_apart key at s r ex e f g = record {
   search = λ t h i ready.
       let firm = ex.firm t h (entry-comm t) i.tree i.rest in
       record {
@@ -84,11 +82,11 @@ came_apart at s r ex e f g = record {
           arith,
           i.places x,
           ex.places x,
-          ap (λ (v : NestValue). count x (outer_members v.members r.tree.items)) e,
+          ap (λ (v : NestValue). count x (outer_members v.members r.tree)) e,
           ap
               (λ (xs : List ℕ). count x xs) f,
         );
-        grown = subst (λ (v : NestValue). IsGrown v.members r.tree.items) (sym e) ex.grown;
+        grown = subst (λ (v : NestValue). IsGrown v.members r.tree) (sym e) ex.grown;
         joined = ex.joined i.joined;
         root = subst (λ (v : NestValue). IsSound t h v) (sym e) i.root;
         tree = firm.0;
@@ -107,7 +105,7 @@ came_apart at s r ex e f g = record {
 }
 
 -- what a couple's sets are as a branch
-record IsHung (up : Link) (c : Couple) (b : Branch) : Type 0 where
+record IsHung (up : Link) (c : CoupleValue) (b : BranchValue) : Type 0 where
   same : b.up ≡ up
   counts : (x : ℕ) → count x b.inner.members + count x b.outer.members ≡ count x c.first.members + count x c.second.members
   sums : (F : List Band → ℕ) → F (bands b.inner) + F (bands b.outer) ≡ F (bands c.first) + F (bands c.second)
@@ -116,7 +114,7 @@ record IsHung (up : Link) (c : Couple) (b : Branch) : Type 0 where
   pair_to : count b.pair.to b.outer.members ≡ 1
   firm : (d : TableValue) (h : ℕ → ℕ) → IsSymmetric d → IsTight d h up → IsFirmCouple d h c → IsFirm d h b
 
-hung_case : (b : Bool) (up : Link) (c : Couple) → ltb 0 (count up.to c.first.members) ≡ b
+hung_case : (b : Bool) (up : Link) (c : CoupleValue) → ltb 0 (count up.to c.first.members) ≡ b
     → count up.to c.first.members + count up.to c.second.members ≡ 1 → IsJoined c
     → IsHung up c (cond b (record { up = up; inner = c.first; pair = c.link; outer = c.second })
     (record { up = up; inner = c.second; pair = back_of c.link; outer = c.first }))
@@ -143,11 +141,11 @@ hung_case false up c is one j =
       firm = λ d h sy t f. record { up = t; pair = tight_back d h c.link sy f.link; inner = f.second; outer = f.first };
     }
 
-hung_is : (up : Link) (c : Couple) → count up.to c.first.members + count up.to c.second.members ≡ 1 → IsJoined c
+hung_is : (up : Link) (c : CoupleValue) → count up.to c.first.members + count up.to c.second.members ≡ 1 → IsJoined c
     → IsHung up c (hung_by up c)
 hung_is up c one j = hung_case (ltb 0 (count up.to c.first.members)) up c refl one j
 
-members_split : (x : ℕ) (before after : List Couple) (c : Couple) →
+members_split : (x : ℕ) (before after : List CoupleValue) (c : CoupleValue) →
     count x (couple_members (before ++ c ∷ after)) ≡ count x (couple_members (before ++ after)) + count x c.first.members
     + count x c.second.members
 members_split x before after c =
@@ -160,7 +158,7 @@ members_split x before after c =
       count-append x c.second.members (couple_members after),
     )
 
-bands_split : (F : List Band → ℕ) → Adds F → (before after : List Couple) (c : Couple) →
+bands_split : (F : List Band → ℕ) → Adds F → (before after : List CoupleValue) (c : CoupleValue) →
     F (couple_bands (before ++ c ∷ after)) ≡ F (couple_bands (before ++ after)) + F (bands c.first) + F (bands c.second)
 bands_split F add before after c =
     omega (
@@ -172,7 +170,8 @@ bands_split F add before after c =
       add (bands c.second) (couple_bands after),
     )
 
-without : (P : Couple → Type 0) (before after : List Couple) (c : Couple) → Each P (before ++ c ∷ after) → P c × Each P (before ++ after)
+without : (P : CoupleValue → Type 0) (before after : List CoupleValue) (c : CoupleValue) → Each P (before ++ c ∷ after) → P c × Each P
+    (before ++ after)
 without P before after c all =
     let rest = each-right P before (c ∷ after) all in
     (rest.0, each-append P before after (each-left P before (c ∷ after) all) rest.1)
@@ -196,36 +195,36 @@ pub in_place : (t : TableValue) (x : ℕ) → x < t.places → is_place t x ≡ 
 in_place t x low = rw (lt-ltb x t.places low) refl
 
 -- the inner set of a couple's branch is fewer sets than the couple
-abbrev InnerIsFewer : Couple → Branch → Type 0
+abbrev InnerIsFewer : CoupleValue → BranchValue → Type 0
 InnerIsFewer c b = length (bands b.inner) < length (bands c.first) + length (bands c.second)
 
-hung_fewer : (p : Bool) (up : Link) (c : Couple) →
+hung_fewer : (p : Bool) (up : Link) (c : CoupleValue) →
     InnerIsFewer c (cond p (record { up = up; inner = c.first; pair = c.link; outer = c.second })
     (record { up = up; inner = c.second; pair = back_of c.link; outer = c.first }))
 hung_fewer true up c = omega arith
 hung_fewer false up c = omega arith
 
-pub hung : (link : Link) (s r : Search) (c : Couple) → TakesOut link.to s.rest.items r.rest.items c → r.tree.items
-    ≡ s.tree.items ++ hung_by link c ∷ [] → r.root ≡ s.root → r.free.items ≡ s.free.items →
-    r.heights.items ≡ s.heights.items → Advances s (Grow link) r
+pub hung : (link : Link) (s r : SearchValue) (c : CoupleValue) → TakesOut link.to s.rest r.rest c → r.tree
+    ≡ s.tree ++ hung_by link c ∷ [] → r.root ≡ s.root → r.free ≡ s.free →
+    r.heights ≡ s.heights → Advances s (Grow link) r
 hung link s r c out g e f same =
     let b = hung_by link c in
     let sizes = λ (ks : List Band). length ks in
-    let was = λ (F : List Band → ℕ) (add : Adds F). ap (λ (cs : List Couple). F (couple_bands cs)) out.was
+    let was = λ (F : List Band → ℕ) (add : Adds F). ap (λ (cs : List CoupleValue). F (couple_bands cs)) out.was
     ∙ bands_split F add out.before out.after c in
-    let now = λ (F : List Band → ℕ). ap (λ (cs : List Couple). F (couple_bands cs)) out.now in
-    let held = λ (x : ℕ). ap (λ (cs : List Couple). count x (couple_members cs)) out.was ∙ members_split x out.before out.after c in
-    let kept = λ (x : ℕ). ap (λ (cs : List Couple). count x (couple_members cs)) out.now in
-    let grew = λ (F : List Band → ℕ) (add : Adds F). ap (λ (ks : List Branch). F (branch_bands ks)) g
-    ∙ branch_bands_push F add s.tree.items b in
-    let outside = λ (x : ℕ). ap (λ (v : NestValue). count x (outer_members v.members r.tree.items)) e
-    ∙ ap (λ (ks : List Branch). count x (outer_members s.root.members ks)) g ∙ outer_members_push x s.root.members s.tree.items b in
-    let inside = λ (x : ℕ). ap (λ (ks : List Branch). count x (inner_members ks)) g ∙ inner_members_push x s.tree.items b in
+    let now = λ (F : List Band → ℕ). ap (λ (cs : List CoupleValue). F (couple_bands cs)) out.now in
+    let held = λ (x : ℕ). ap (λ (cs : List CoupleValue). count x (couple_members cs)) out.was ∙ members_split x out.before out.after c in
+    let kept = λ (x : ℕ). ap (λ (cs : List CoupleValue). count x (couple_members cs)) out.now in
+    let grew = λ (F : List Band → ℕ) (add : Adds F). ap (λ (ks : List BranchValue). F (branch_bands ks)) g
+    ∙ branch_bands_push F add s.tree b in
+    let outside = λ (x : ℕ). ap (λ (v : NestValue). count x (outer_members v.members r.tree)) e
+    ∙ ap (λ (ks : List BranchValue). count x (outer_members s.root.members ks)) g ∙ outer_members_push x s.root.members s.tree b in
+    let inside = λ (x : ℕ). ap (λ (ks : List BranchValue). count x (inner_members ks)) g ∙ inner_members_push x s.tree b in
     record {
       search = λ t h i ready.
-          let joined = without IsJoined out.before out.after c (subst (λ (cs : List Couple). Each IsJoined cs) out.was i.joined) in
+          let joined = without IsJoined out.before out.after c (subst (λ (cs : List CoupleValue). Each IsJoined cs) out.was i.joined) in
           let firm = without (IsFirmCouple t h) out.before out.after c
-          (subst (λ (cs : List Couple). Each (IsFirmCouple t h) cs) out.was i.rest) in
+          (subst (λ (cs : List CoupleValue). Each (IsFirmCouple t h) cs) out.was i.rest) in
           let k = hung_is link c (omega (arith, out.here, held link.to, i.places link.to, is_one t link.to)) joined.0 in
           record {
             tall = λ x none. omega (
@@ -240,15 +239,15 @@ hung link s r c out g e f same =
             );
             room = subst (λ (xs : List ℕ). FreeHaveRoom t h xs) (sym f) i.room;
             places = λ x. omega (arith, i.places x, held x, kept x, outside x, inside x, k.counts x, ap (λ (xs : List ℕ). count x xs) f);
-            grown = subst (λ (v : NestValue). IsGrown v.members r.tree.items) (sym e)
-                (subst (λ (ks : List Branch). IsGrown s.root.members ks) (sym g)
-                (grown_push s.root.members s.tree.items b i.grown (subst (λ (l : Link). 1 ≤ count l.from (outers s)) (sym k.same) ready.0)
+            grown = subst (λ (v : NestValue). IsGrown v.members r.tree) (sym e)
+                (subst (λ (ks : List BranchValue). IsGrown s.root.members ks) (sym g)
+                (grown_push s.root.members s.tree b i.grown (subst (λ (l : Link). 1 ≤ count l.from (outers s)) (sym k.same) ready.0)
                 (subst (λ (l : Link). count l.to b.inner.members ≡ 1) (sym k.same) k.up_to) k.pair_from k.pair_to));
-            joined = subst (λ (cs : List Couple). Each IsJoined cs) (sym out.now) joined.1;
+            joined = subst (λ (cs : List CoupleValue). Each IsJoined cs) (sym out.now) joined.1;
             root = subst (λ (v : NestValue). IsSound t h v) (sym e) i.root;
-            tree = subst (λ (ks : List Branch). Each (IsFirm t h) ks) (sym g)
-                (each-push (IsFirm t h) s.tree.items b i.tree (k.firm t h (entry-comm t) ready.2 firm.0));
-            rest = subst (λ (cs : List Couple). Each (IsFirmCouple t h) cs) (sym out.now) firm.1;
+            tree = subst (λ (ks : List BranchValue). Each (IsFirm t h) ks) (sym g)
+                (each-push (IsFirm t h) s.tree b i.tree (k.firm t h (entry-comm t) ready.2 firm.0));
+            rest = subst (λ (cs : List CoupleValue). Each (IsFirmCouple t h) cs) (sym out.now) firm.1;
             loads = λ x y lx ly ne. omega (
               arith,
               i.loads x y lx ly ne,
@@ -263,7 +262,7 @@ hung link s r c out g e f same =
       fewer = omega (
         arith,
         hung_fewer (ltb 0 (count link.to c.first.members)) link c,
-        ap (λ (ks : List Branch). length (inner_bands ks)) g ∙ inner_bands_push sizes size-append s.tree.items b,
+        ap (λ (ks : List BranchValue). length (inner_bands ks)) g ∙ inner_bands_push sizes size-append s.tree b,
         was sizes size-append,
         now sizes,
       );
@@ -272,7 +271,7 @@ hung link s r c out g e f same =
     }
 
 -- a place in no set has height 0
-pub low_branches : (d : TableValue) (h : ℕ → ℕ) (x : ℕ) (base : List ℕ) (tree : List Branch) → Each (IsFirm d h) tree
+pub low_branches : (d : TableValue) (h : ℕ → ℕ) (x : ℕ) (base : List ℕ) (tree : List BranchValue) → Each (IsFirm d h) tree
     → count x (outer_members base tree) ≡ 0 → count x (inner_members tree) ≡ 0 →
     height x (branch_bands tree) ≡ 0
 low_branches d h x base [] f none empty = refl
@@ -288,7 +287,8 @@ low_branches d h x base (b ∷ bs) f none empty =
       height-append x (bands b.outer) (branch_bands bs),
     )
 
-pub low_couples : (d : TableValue) (h : ℕ → ℕ) (x : ℕ) (cs : List Couple) → Each (IsFirmCouple d h) cs → count x (couple_members cs) ≡ 0
+pub low_couples : (d : TableValue) (h : ℕ → ℕ) (x : ℕ) (cs : List CoupleValue) → Each (IsFirmCouple d h) cs → count x (couple_members cs)
+    ≡ 0
     → height x (couple_bands cs) ≡ 0
 low_couples d h x [] f none = refl
 low_couples d h x (c ∷ cs) f none =
@@ -319,7 +319,7 @@ taken_place x xs new i place low is e =
     )
 
 -- the link closes a ring
-pub can_shrink : (link : Link) (s : Search) → CanStep s (Shrink link) → Shrinking link s.root s.tree.items
+pub can_shrink : (link : Link) (s : SearchValue) → CanStep s (Shrink link) → Shrinking link s.root s.tree
 can_shrink link s k =
     let i = k.can.search in
     let ready = k.can.ready in

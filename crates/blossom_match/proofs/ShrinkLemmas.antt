@@ -10,15 +10,14 @@ use Rattle.blossom_match.specs.Sound.{IsFirm, IsSound, IsFirmPart}
 use Rattle.blossom_match.specs.Trees.{both, outer_members, inner_members, IsGrown}
 use Rattle.blossom_match.specs.Shrinks.{part_of, ring_value, Closable, Shrinking, Shrinks, Chaining}
 use Rattle.blossom_match.specs.declared.nest.Link.{Link}
-use Rattle.blossom_match.specs.declared.nest.Part.{Part}
-use Rattle.blossom_match.specs.declared.branches.Branch.{Branch}
+use Rattle.blossom_match.specs.Values.{BranchValue, PartValue}
 use Rattle.blossom_match.proofs.ListLemmas.{each-append, each-left, each-last, each-map}
 use Rattle.blossom_match.proofs.SumLemmas.{adds_none, count-append, size-append, some_member}
 use Rattle.blossom_match.proofs.ClosingLemmas.{chain_closes, ring_sound, tree_even}
 use Rattle.blossom_match.proofs.TreeLemmas.{last_of, outer_members_push, inner_members_push, branch_bands_push, branch_bands-append, inner_bands_push, inner_bands-append, grown_more, grown-append, outer-append, inner-append}
 use Rattle.blossom_match.proofs.ChainLemmas.{around_push}
 
-pub ring_from : (top : NestValue) (way : Link) (chain : List Part) (to : ℕ) → Closable top way chain to → Kept top
+pub ring_from : (top : NestValue) (way : Link) (chain : List PartValue) (to : ℕ) → Closable top way chain to → Kept top
     → IsRing (part_of top way ∷ chain)
 ring_from top way chain to c kt = record {
   odd = omega (arith, c.even);
@@ -27,12 +26,12 @@ ring_from top way chain to c kt = record {
   kept = (kt, c.kept);
 }
 
-pub all_moved : (xs left ys : List Part) → length left ≡ 0 → xs ++ left ≡ ys → xs ≡ ys
+pub all_moved : (xs left ys : List PartValue) → length left ≡ 0 → xs ++ left ≡ ys → xs ≡ ys
 all_moved xs [] ys none e = sym (append-nil xs) ∙ e
 all_moved xs (p ∷ left) ys none e = absurd (omega arith)
 
 -- a link whose ends no set at the top holds both closes no empty chain
-not_empty : (link : Link) (s : NestValue) (way : Link) (to : ℕ) (chain : List Part)
+not_empty : (link : Link) (s : NestValue) (way : Link) (to : ℕ) (chain : List PartValue)
     → (length chain ≡ 0 → (way.from ≡ link.from) × (to ≡ link.to)) →
     both link.from link.to s ≡ 0 → 1 ≤ count way.from s.members → 1 ≤ count to s.members → 1 ≤ length chain
 not_empty link s way to [] begun apart from back =
@@ -40,12 +39,12 @@ not_empty link s way to [] begun apart from back =
     absurd (omega (arith, apart, from, back, ap (λ (x : ℕ). count x s.members) e.0, ap (λ (x : ℕ). count x s.members) e.1))
 not_empty link s way to (p ∷ ps) begun apart from back = omega arith
 
-same_size : (t : TableValue) (h : ℕ → ℕ) (n : ℕ) → n ≡ t.places → (ps : List Part) → Each (IsFirmPart t h) ps
-    → Each (λ (p : Part). length p.nest.near ≡ n) ps
-same_size t h n e ps f = each-map (IsFirmPart t h) (λ (p : Part). length p.nest.near ≡ n) (λ p k. k.nest.near.0.size ∙ sym e) ps f
+same_size : (t : TableValue) (h : ℕ → ℕ) (n : ℕ) → n ≡ t.places → (ps : List PartValue) → Each (IsFirmPart t h) ps
+    → Each (λ (p : PartValue). length p.nest.near ≡ n) ps
+same_size t h n e ps f = each-map (IsFirmPart t h) (λ (p : PartValue). length p.nest.near ≡ n) (λ p k. k.nest.near.0.size ∙ sym e) ps f
 
 -- the rows of a set and of a firm chain
-have_rows : (t : TableValue) (h : ℕ → ℕ) (top : NestValue) (way : Link) (chain : List Part) → IsSound t h top
+have_rows : (t : TableValue) (h : ℕ → ℕ) (top : NestValue) (way : Link) (chain : List PartValue) → IsSound t h top
     → Each (IsFirmPart t h) chain → ((x : ℕ) → 1 ≤ count x top.members + count x (members_in chain) → x < t.places)
     → HaveRows (length top.near) (part_of top way ∷ chain)
 have_rows t h top way chain s f within = record {
@@ -57,13 +56,14 @@ have_rows t h top way chain s f within = record {
   );
 }
 
-pub closable : (link : Link) (root : NestValue) (tree left bs : List Branch) (b : Branch) (chain : List Part) (aside : List Branch)
+pub closable : (link : Link) (root : NestValue) (tree left bs : List BranchValue) (b : BranchValue) (chain : List PartValue)
+    (aside : List BranchValue)
     (way : Link) (to : ℕ) → Shrinking link root tree →
     Chaining link root tree left chain aside way to → left ≡ bs ++ b ∷ [] → 1 ≤ count way.from b.outer.members
     → 1 ≤ count to b.outer.members →
     Closable b.outer way chain to
 closable link root tree left bs b chain aside way to sh c e here there =
-    let c = subst (λ (ks : List Branch). Chaining link root tree ks chain aside way to) e c in
+    let c = subst (λ (ks : List BranchValue). Chaining link root tree ks chain aside way to) e c in
     let u = c.firm sh.t sh.h sh.symmetric sh.tight sh.firm in
     record {
       leads = c.leads;
@@ -76,7 +76,8 @@ closable link root tree left bs b chain aside way to sh c e here there =
           (λ x some. sh.within x (omega (arith, some, c.places x, outer_members_push x root.members bs b)));
     }
 
-pub closable_root : (link : Link) (root : NestValue) (tree left : List Branch) (chain : List Part) (aside : List Branch) (way : Link)
+pub closable_root : (link : Link) (root : NestValue) (tree left : List BranchValue) (chain : List PartValue) (aside : List BranchValue)
+    (way : Link)
     (to : ℕ) → Shrinking link root tree →
     Chaining link root tree left chain aside way to → length left ≡ 0 → Closable root way chain to
 closable_root link root tree [] chain aside way to sh c none = record {
@@ -91,23 +92,27 @@ closable_root link root tree [] chain aside way to sh c none = record {
 }
 closable_root link root tree (b ∷ bs) chain aside way to sh c none = absurd (omega arith)
 
-abbrev with_outer : Branch → NestValue → Branch
+abbrev with_outer : BranchValue → NestValue → BranchValue
 with_outer b s = record { up = b.up; inner = b.inner; pair = b.pair; outer = s }
 
-ring_sums : (F : List Band → ℕ) → Adds F → (top : NestValue) (way : Link) (chain : List Part) (ring : NestValue) → ring
-    ≡ ring_value top way chain →
-    F (bands ring) ≡ F (bands top) + F (bands_in chain) + F (record { members = members_in (part_of top way ∷ chain); width = 0 } ∷ [])
-ring_sums F add top way chain ring e =
+ring_sums : (F : List Band → ℕ) → Adds F → (key : ℕ) (top : NestValue) (way : Link) (chain : List PartValue) (ring : NestValue) → ring
+    ≡ ring_value key top way chain →
+    F (bands ring) ≡ F (bands top) + F (bands_in chain) + F (record {
+      key = key;
+      members = members_in (part_of top way ∷ chain);
+      width = 0;
+    } ∷ [])
+ring_sums F add key top way chain ring e =
     omega (
       arith,
       ap (λ (s : NestValue). F (bands s)) e,
-      add (record { members = members_in (part_of top way ∷ chain); width = 0 } ∷ [])
+      add (record { key = key; members = members_in (part_of top way ∷ chain); width = 0 } ∷ [])
           (bands_in (part_of top way ∷ chain)),
       add (bands top) (bands_in chain),
     )
 
 -- the heights of two places in the tree are both even or both odd
-pub two_even : (d : TableValue) (h : ℕ → ℕ) (root : NestValue) (tree : List Branch) → IsGrown root.members tree → IsSound d h root
+pub two_even : (d : TableValue) (h : ℕ → ℕ) (root : NestValue) (tree : List BranchValue) → IsGrown root.members tree → IsSound d h root
     → Each (IsFirm d h) tree → (x y : ℕ) →
     1 ≤ count x (outer_members root.members tree) + count x (inner_members tree)
     → 1 ≤ count y (outer_members root.members tree) + count y (inner_members tree) → (h x + h y) % 2 ≡ 0
@@ -117,13 +122,14 @@ two_even d h root tree g s f x y hx hy =
     tree g f (λ k here. s.even r.0 k r.1 here) z hz in
     omega (arith, at x hx, at y hy)
 
-pub closed_inside : (link : Link) (root ring : NestValue) (tree left bs mid new : List Branch) (b : Branch) (chain : List Part)
-    (aside : List Branch) (way : Link) (to : ℕ) →
+pub closed_inside : (key : ℕ) (link : Link) (root ring : NestValue) (tree left bs mid new : List BranchValue) (b : BranchValue)
+    (chain : List PartValue)
+    (aside : List BranchValue) (way : Link) (to : ℕ) →
     Shrinking link root tree → Chaining link root tree left chain aside way to → left ≡ bs ++ b ∷ [] → Closable b.outer way chain to
-    → Kept b.outer → ring ≡ ring_value b.outer way chain →
-    mid ≡ bs ++ with_outer b ring ∷ [] → new ≡ mid ++ reverse aside → Shrinks link root root tree new
-closed_inside link root ring tree left bs mid new b chain aside way to sh c e cl kb closes m n =
-    let c = subst (λ (ks : List Branch). Chaining link root tree ks chain aside way to) e c in
+    → Kept b.outer → ring ≡ ring_value key b.outer way chain →
+    mid ≡ bs ++ with_outer b ring ∷ [] → new ≡ mid ++ reverse aside → Shrinks key link root root tree new
+closed_inside key link root ring tree left bs mid new b chain aside way to sh c e cl kb closes m n =
+    let c = subst (λ (ks : List BranchValue). Chaining link root tree ks chain aside way to) e c in
     let l = last_of root.members bs b c.grown in
     let parts = part_of b.outer way ∷ chain in
     let q = λ (x : ℕ). count-append x b.outer.members (members_in chain) in
@@ -139,8 +145,8 @@ closed_inside link root ring tree left bs mid new b chain aside way to sh c e cl
     let hung : IsGrown (outer_members root.members (bs ++ b2 ∷ [])) (reverse aside) =
     grown_more (members_in chain ++ outer_members root.members (bs ++ b ∷ [])) (outer_members root.members (bs ++ b2 ∷ [])) (reverse aside)
     (λ x. omega (arith, o x, o2 x, r x, count-append x (members_in chain) (outer_members root.members (bs ++ b ∷ [])))) c.hung in
-    let is : new ≡ (bs ++ b2 ∷ []) ++ reverse aside = n ∙ ap (λ (ks : List Branch). ks ++ reverse aside) m in
-    subst (λ (ks : List Branch). Shrinks link root root tree ks) (sym is) (record {
+    let is : new ≡ (bs ++ b2 ∷ []) ++ reverse aside = n ∙ ap (λ (ks : List BranchValue). ks ++ reverse aside) m in
+    subst (λ (ks : List BranchValue). Shrinks key link root root tree ks) (sym is) (record {
       grown = grown-append root.members (bs ++ b2 ∷ []) (reverse aside) made hung;
       places = λ x. omega (
         arith,
@@ -162,7 +168,7 @@ closed_inside link root ring tree left bs mid new b chain aside way to sh c e cl
         branch_bands_push F add bs b2,
         branch_bands_push F add bs b,
         c.sums F add,
-        ring_sums F add b.outer way chain ring
+        ring_sums F add key b.outer way chain ring
             closes,
       );
       fewer = omega (
@@ -175,7 +181,7 @@ closed_inside link root ring tree left bs mid new b chain aside way to sh c e cl
         cl.some,
       );
       firm = λ d h sy w s t. let u = c.firm d h sy w t in let f = each-last (IsFirm d h) bs b u.0 in
-          let sound = ring_sound d h (part_of b.outer way) chain (ring_from b.outer way chain to cl kb)
+          let sound = ring_sound d h key (part_of b.outer way) chain (ring_from b.outer way chain to cl kb)
           (λ x. omega (arith, q x, o x, c.once x, c.places x))
           (record { next = u.3; nest = f.outer }, u.2)
           (λ x y hx hy. two_even d h root tree sh.grown s t x y (omega (arith, hx, q x, o x, c.places x))
@@ -189,23 +195,24 @@ closed_inside link root ring tree left bs mid new b chain aside way to sh c e cl
           );
     })
 
-at_the_root : (link : Link) (root ring : NestValue) (tree new : List Branch) (chain : List Part) (aside : List Branch) (way : Link) (to : ℕ)
+at_the_root : (key : ℕ) (link : Link) (root ring : NestValue) (tree new : List BranchValue) (chain : List PartValue)
+    (aside : List BranchValue) (way : Link) (to : ℕ)
     →
     Shrinking link root tree → Chaining link root tree [] chain aside way to → Closable root way chain to → Kept root → ring
-    ≡ ring_value root way chain →
-    new ≡ reverse aside → Shrinks link root ring tree new
-at_the_root link root ring tree new chain aside way to sh c cl kr closes n =
+    ≡ ring_value key root way chain →
+    new ≡ reverse aside → Shrinks key link root ring tree new
+at_the_root key link root ring tree new chain aside way to sh c cl kr closes n =
     let q = λ (x : ℕ). count-append x root.members (members_in chain) in
     let r = λ (x : ℕ). ap (λ (s : NestValue). count x s.members) closes ∙ q x in
-    subst (λ (ks : List Branch). Shrinks link root ring tree ks) (sym n) (record {
+    subst (λ (ks : List BranchValue). Shrinks key link root ring tree ks) (sym n) (record {
       grown = grown_more (members_in chain ++ root.members) ring.members (reverse aside)
           (λ x. omega (arith, r x, count-append x (members_in chain) root.members)) c.hung;
       places = λ x. omega (arith, outer-append x ring.members [] (reverse aside), r x, c.places x);
       ring = members_in (part_of root way ∷ chain);
-      sums = λ F add. omega (arith, c.sums F add, adds_none F add, ring_sums F add root way chain ring closes);
+      sums = λ F add. omega (arith, c.sums F add, adds_none F add, ring_sums F add key root way chain ring closes);
       fewer = omega (arith, c.fewer, cl.some);
       firm = λ d h sy w s t. let u = c.firm d h sy w t in
-          let sound = ring_sound d h (part_of root way) chain (ring_from root way chain to cl kr)
+          let sound = ring_sound d h key (part_of root way) chain (ring_from root way chain to cl kr)
           (λ x. omega (arith, q x, c.once x, c.places x))
           (record { next = u.3; nest = s }, u.2)
           (λ x y hx hy. two_even d h root tree sh.grown s t x y (omega (arith, hx, q x, c.places x)) (omega (arith, hy, q y, c.places y)))
@@ -213,17 +220,18 @@ at_the_root link root ring tree new chain aside way to sh c cl kr closes n =
           (subst (λ (v : NestValue). IsSound d h v) (sym closes) sound, u.1);
     })
 
-empty_left : (left rest : List Branch) (none : List Branch) → length left ≡ 0 → left ≡ rest ++ none → rest ≡ []
+empty_left : (left rest : List BranchValue) (none : List BranchValue) → length left ≡ 0 → left ≡ rest ++ none → rest ≡ []
 empty_left left [] none zero_left e = refl
-empty_left left (b ∷ bs) none zero_left e = absurd (omega (arith, ap (λ (ks : List Branch). length ks) e))
+empty_left left (b ∷ bs) none zero_left e = absurd (omega (arith, ap (λ (ks : List BranchValue). length ks) e))
 
-pub closed_root : (link : Link) (root ring : NestValue) (tree left rest none : List Branch) (new : List Branch) (chain : List Part)
-    (aside : List Branch) (way : Link) (to : ℕ) (top : NestValue) → top ≡ root →
-    Shrinking link root tree → Chaining link root tree left chain aside way to → length left ≡ 0 → ring ≡ ring_value top way chain →
-    left ≡ rest ++ none → new ≡ rest ++ reverse aside → Shrinks link root ring tree new
-closed_root link root ring tree [] rest none new chain aside way to top e sh c zero_left closes m n =
-    at_the_root link root ring tree new chain aside way to sh c
+pub closed_root : (key : ℕ) (link : Link) (root ring : NestValue) (tree left rest none : List BranchValue) (new : List BranchValue)
+    (chain : List PartValue)
+    (aside : List BranchValue) (way : Link) (to : ℕ) (top : NestValue) → top ≡ root →
+    Shrinking link root tree → Chaining link root tree left chain aside way to → length left ≡ 0 → ring ≡ ring_value key top way chain →
+    left ≡ rest ++ none → new ≡ rest ++ reverse aside → Shrinks key link root ring tree new
+closed_root key link root ring tree [] rest none new chain aside way to top e sh c zero_left closes m n =
+    at_the_root key link root ring tree new chain aside way to sh c
     (closable_root link root tree [] chain aside way to sh c zero_left) sh.sound.kept
-    (closes ∙ ap (λ (s : NestValue). ring_value s way chain) e)
-    (n ∙ ap (λ (ks : List Branch). ks ++ reverse aside) (empty_left [] rest none zero_left m))
-closed_root link root ring tree (b ∷ bs) rest none new chain aside way to top e sh c zero_left closes m n = absurd (omega arith)
+    (closes ∙ ap (λ (s : NestValue). ring_value key s way chain) e)
+    (n ∙ ap (λ (ks : List BranchValue). ks ++ reverse aside) (empty_left [] rest none zero_left m))
+closed_root key link root ring tree (b ∷ bs) rest none new chain aside way to top e sh c zero_left closes m n = absurd (omega arith)

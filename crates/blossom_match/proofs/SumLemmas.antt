@@ -2,7 +2,7 @@
 use Rattle.std.proofs.Common.{◌≡◌, ℕ, ◌+◌, ◌-◌, ◌*◌, ◌≤◌, List, [], ◌∷◌, ◌++◌, arith, refl, cond, eqb, length, length-append, Bool, true, false, ap}
 use Rattle.std.proofs.lemmas.Bool.{eqb-true, eq-eqb}
 use Rattle.blossom_match.specs.TableValue.{TableValue}
-use Rattle.blossom_match.specs.Bands.{Band, NestValue, Adds, Toll, apart, bands, count, height, hit, load, total, NoneHold, Kept, IsPaid}
+use Rattle.blossom_match.specs.Bands.{Band, NestValue, Adds, Toll, apart, bands, count, height, hit, load, total, uses, NoneHold, Kept, IsPaid}
 
 pub count-append : (x : ℕ) (xs ys : List ℕ) → count x (xs ++ ys) ≡ count x xs + count x ys
 count-append x [] ys = omega arith
@@ -95,3 +95,7 @@ hit_is x y some = hit_case (eqb x y) x y refl some
 pub some_member : (xs : List ℕ) → 1 ≤ length xs → (x : ℕ) × (1 ≤ count x xs)
 some_member [] some = absurd (omega arith)
 some_member (x ∷ xs) some = (x, omega (arith, hit_same x))
+
+pub uses-append : (k : ℕ) (xs ys : List Band) → uses k (xs ++ ys) ≡ uses k xs + uses k ys
+uses-append k [] ys = omega arith
+uses-append k (b ∷ xs) ys = omega (arith, uses-append k xs ys)

@@ -2,18 +2,18 @@
 use Rattle.std.proofs.Common.{◌≡◌, ℕ, ◌+◌, ◌*◌, ◌≤◌, ◌<◌, List, [], ◌∷◌, ◌++◌, length, arith, refl, sym, ap, subst, ◌∙◌, append_assoc, Some, None, Option}
 use Rattle.std.proofs.lemmas.List.{append-nil}
 use Rattle.blossom_match.specs.Lists.{Each}
-use Rattle.blossom_match.specs.Bands.{NestValue, Band, bands, count, load, total}
+use Rattle.blossom_match.specs.Bands.{NestValue, Band, bands, count, load, total, uses}
 use Rattle.blossom_match.specs.Couples.{couple_members, couple_bands, IsJoined}
 use Rattle.blossom_match.specs.Opens.{OpensAt}
 use Rattle.blossom_match.specs.Matchings.{load_on, width_of}
 use Rattle.blossom_match.specs.Taken.{own_moat, TakesNest, TakesCouples, Taking}
-use Rattle.blossom_match.specs.declared.couples.Couple.{Couple}
+use Rattle.blossom_match.specs.Values.{CoupleValue}
 use Rattle.blossom_match.specs.declared.matching.Moat.{Moat}
 use Rattle.blossom_match.specs.declared.matching.Pair.{Pair}
-use Rattle.blossom_match.proofs.SumLemmas.{count-append, hit_same, load-append, size-append, total-append}
+use Rattle.blossom_match.proofs.SumLemmas.{count-append, hit_same, load-append, size-append, total-append, uses-append}
 use Rattle.blossom_match.proofs.MoatLemmas.{cost_push, ends_push, lie_both, lie_more, lie_none, lie_own, load_own, width_own}
 
-places_of : (x : ℕ) (c : Couple) (rest : List Couple) → count x (couple_members (c ∷ rest))
+places_of : (x : ℕ) (c : CoupleValue) (rest : List CoupleValue) → count x (couple_members (c ∷ rest))
     ≡ count x c.first.members + count x c.second.members + count x (couple_members rest)
 places_of x c rest = omega (
   arith,
@@ -22,7 +22,7 @@ places_of x c rest = omega (
       (couple_members rest),
 )
 
-total_of : (c : Couple) (rest : List Couple) → total (couple_bands (c ∷ rest))
+total_of : (c : CoupleValue) (rest : List CoupleValue) → total (couple_bands (c ∷ rest))
     ≡ total (bands c.first) + total (bands c.second) + total (couple_bands rest)
 total_of c rest = omega (
   arith,
@@ -31,7 +31,7 @@ total_of c rest = omega (
       (couple_bands rest),
 )
 
-loads_of : (a b : ℕ) (c : Couple) (rest : List Couple) → load a b (couple_bands (c ∷ rest))
+loads_of : (a b : ℕ) (c : CoupleValue) (rest : List CoupleValue) → load a b (couple_bands (c ∷ rest))
     ≡ load a b (bands c.first) + load a b (bands c.second) + load a b (couple_bands rest)
 loads_of a b c rest = omega (
   arith,
@@ -40,7 +40,7 @@ loads_of a b c rest = omega (
       (couple_bands rest),
 )
 
-sizes_of : (c : Couple) (rest : List Couple) → length (couple_bands (c ∷ rest))
+sizes_of : (c : CoupleValue) (rest : List CoupleValue) → length (couple_bands (c ∷ rest))
     ≡ length (bands c.first) + length (bands c.second) + length (couple_bands rest)
 sizes_of c rest = omega (
   arith,
@@ -49,7 +49,7 @@ sizes_of c rest = omega (
       (couple_bands rest),
 )
 
-pub record Head (c : Couple) (all : List Couple) : Type 0 where
+pub record Head (c : CoupleValue) (all : List CoupleValue) : Type 0 where
   pub from : count c.link.from c.first.members ≡ 1
   pub to : count c.link.to c.second.members ≡ 1
   pub once_first : (x : ℕ) → count x c.first.members ≤ 1
@@ -57,10 +57,10 @@ pub record Head (c : Couple) (all : List Couple) : Type 0 where
   pub size_first : length (bands c.first) ≤ length (couple_bands all)
   pub size_second : length (bands c.second) ≤ length (couple_bands all)
 
-pub head_of : (all left : List Couple) (old now : List Pair) (was so_far : List Moat) (c : Couple) (rest : List Couple) →
+pub head_of : (all left : List CoupleValue) (old now : List Pair) (was so_far : List Moat) (c : CoupleValue) (rest : List CoupleValue) →
     Taking all left old now was so_far → left ≡ c ∷ rest → Head c all
 head_of all left old now was so_far c rest taking e =
-    let t = subst (λ (l : List Couple). Taking all l old now was so_far) e taking in
+    let t = subst (λ (l : List CoupleValue). Taking all l old now was so_far) e taking in
     record {
       from = t.joined.0.from;
       to = t.joined.0.to;
@@ -75,11 +75,12 @@ joined_lists was a b c x y z e f g =
     g ∙ ap (λ (k : List Moat). k ++ z) (f ∙ ap (λ (k : List Moat). k ++ y) e ∙ append_assoc was x y) ∙ append_assoc was (x ++ y) z
     ∙ ap (λ (k : List Moat). was ++ k) (append_assoc x y z)
 
-pub taking_more : (all left : List Couple) (old now mid end new : List Pair) (was a b z : List Moat) (c : Couple) (rest : List Couple) →
+pub taking_more : (all left : List CoupleValue) (old now mid end new : List Pair) (was a b z : List Moat) (c : CoupleValue)
+    (rest : List CoupleValue) →
     Taking all left old now was a → left ≡ c ∷ rest → TakesNest c.link.from c.first now mid a b → TakesNest c.link.to c.second mid end b z →
     new ≡ end ++ record { a = c.link.from; b = c.link.to } ∷ [] → Taking all rest old new was z
 taking_more all left old now mid end new was a b z c rest taking e one two pushed =
-    let t = subst (λ (l : List Couple). Taking all l old now was a) e taking in
+    let t = subst (λ (l : List CoupleValue). Taking all l old now was a) e taking in
     let both = c.first.members ++ c.second.members in
     let at = λ (x : ℕ). count-append x c.first.members c.second.members in
     record {
@@ -119,9 +120,9 @@ taking_more all left old now mid end new was a b z c rest taking e one two pushe
           (λ x. omega (arith, at x, places_of x c rest, t.once x, t.rest x)) (λ x. omega (arith, count-append x t.taken both));
     }
 
-pub taking_start : (all left : List Couple) (old : List Pair) (was : List Moat) → Each IsJoined all
+pub taking_start : (all left : List CoupleValue) (old : List Pair) (was : List Moat) → Each IsJoined all
     → ((x : ℕ) → count x (couple_members all) ≤ 1) → left ≡ all → Taking all left old old was was
-taking_start all left old was joined once e = subst (λ (cs : List Couple). Taking all cs old old was was) (sym e) (record {
+taking_start all left old was joined once e = subst (λ (cs : List CoupleValue). Taking all cs old old was was) (sym e) (record {
   joined = joined;
   once = once;
   fewer = omega arith;
@@ -137,7 +138,8 @@ taking_start all left old was joined once e = subst (λ (cs : List Couple). Taki
   lie = lie_none [];
 })
 
-pub taking_done : (all left : List Couple) (old new : List Pair) (was now : List Moat) → Taking all left old new was now → length left ≡ 0
+pub taking_done : (all left : List CoupleValue) (old new : List Pair) (was now : List Moat) → Taking all left old new was now → length
+    left ≡ 0
     → TakesCouples all old new was now
 taking_done all [] old new was now t none = record {
   paid = λ tab p. omega (arith, t.paid tab p);
@@ -154,10 +156,10 @@ whole : (w n : ℕ) → n ≡ 1 → w * n ≡ w
 whole w n one = rw one (omega arith)
 
 -- a single place
-takes_place : (left w : ℕ) (s : NestValue) (ms : List ℕ) (cs : List Couple) (old new : List Pair) (was a now : List Moat)
+takes_place : (left : ℕ) (s : NestValue) (cs : List CoupleValue) (old new : List Pair) (was a now : List Moat)
     → ((x : ℕ) → count x s.members ≤ 1) →
-    OpensAt left s ms w None cs → a ≡ was ++ own_moat s.members s.width → TakesCouples cs old new a now → TakesNest left s old new was now
-takes_place left w s ms cs old new was a now once o own t =
+    OpensAt left s None cs → a ≡ was ++ own_moat s.members s.width → TakesCouples cs old new a now → TakesNest left s old new was now
+takes_place left s cs old new was a now once o own t =
     let sum = o.sums total total-append in
     record {
       paid = λ tab paid. omega (
@@ -190,11 +192,11 @@ takes_place left w s ms cs old new was a now once o own t =
     }
 
 -- a ring
-takes_ring : (left w : ℕ) (s p : NestValue) (ms : List ℕ) (cs : List Couple) (old mid new : List Pair) (was a b now : List Moat)
+takes_ring : (left : ℕ) (s p : NestValue) (cs : List CoupleValue) (old mid new : List Pair) (was a b now : List Moat)
     → ((x : ℕ) → count x s.members ≤ 1) →
-    OpensAt left s ms w (Some p) cs → a ≡ was ++ own_moat s.members s.width → TakesNest left p old mid a b → TakesCouples cs mid new b now
+    OpensAt left s (Some p) cs → a ≡ was ++ own_moat s.members s.width → TakesNest left p old mid a b → TakesCouples cs mid new b now
     → TakesNest left s old new was now
-takes_ring left w s p ms cs old mid new was a b now once o own first t =
+takes_ring left s p cs old mid new was a b now once o own first t =
     let sum = o.sums total total-append in
     let other = o.holds.1 in
     record {
@@ -226,35 +228,28 @@ takes_ring left w s p ms cs old mid new was a b now once o own first t =
           (omega (arith, o.holds.0, o.places left, once left)) (omega (arith, o.holds.0, o.places left));
     }
 
-own_is : (left w : ℕ) (s : NestValue) (ms : List ℕ) (core : Option NestValue) (cs : List Couple) (was a : List Moat)
-    → OpensAt left s ms w core cs → a ≡ was ++ own_moat ms w → a ≡ was ++ own_moat s.members s.width
-own_is left w s ms core cs was a o e = e ∙ ap (λ (k : List ℕ). was ++ own_moat k w) o.same
-    ∙ ap (λ (k : ℕ). was ++ own_moat s.members k) o.wide
-
-pub took_place : (left w : ℕ) (s : NestValue) (ms : List ℕ) (core : Option NestValue) (cs : List Couple) (old new : List Pair)
+pub took_place : (left : ℕ) (s : NestValue) (core : Option NestValue) (cs : List CoupleValue) (old new : List Pair)
     (was a now : List Moat) → ((x : ℕ) → count x s.members ≤ 1) → core ≡ None →
-    OpensAt left s ms w core cs → a ≡ was ++ own_moat ms w → TakesCouples cs old new a now → TakesNest left s old new was now
-took_place left w s ms core cs old new was a now once e o own t =
-    takes_place left w s ms cs old new was a now once (subst (λ (k : Option NestValue). OpensAt left s ms w k cs) e o)
-    (own_is left w s ms core cs was a o own) t
+    OpensAt left s core cs → a ≡ was ++ own_moat s.members s.width → TakesCouples cs old new a now → TakesNest left s old new was now
+took_place left s core cs old new was a now once e o own t =
+    takes_place left s cs old new was a now once (subst (λ (k : Option NestValue). OpensAt left s k cs) e o) own t
 
-pub took_ring : (left w : ℕ) (s p : NestValue) (ms : List ℕ) (core : Option NestValue) (cs : List Couple) (old mid new : List Pair)
+pub took_ring : (left : ℕ) (s p : NestValue) (core : Option NestValue) (cs : List CoupleValue) (old mid new : List Pair)
     (was a b now : List Moat) → ((x : ℕ) → count x s.members ≤ 1) → core ≡ Some p →
-    OpensAt left s ms w core cs → a ≡ was ++ own_moat ms w → TakesNest left p old mid a b → TakesCouples cs mid new b now
+    OpensAt left s core cs → a ≡ was ++ own_moat s.members s.width → TakesNest left p old mid a b → TakesCouples cs mid new b now
     → TakesNest left s old new was now
-took_ring left w s p ms core cs old mid new was a b now once e o own first t =
-    takes_ring left w s p ms cs old mid new was a b now once (subst (λ (k : Option NestValue). OpensAt left s ms w k cs) e o)
-    (own_is left w s ms core cs was a o own) first t
+took_ring left s p core cs old mid new was a b now once e o own first t =
+    takes_ring left s p cs old mid new was a b now once (subst (λ (k : Option NestValue). OpensAt left s k cs) e o) own first t
 
-pub record CoreOf (left : ℕ) (s p : NestValue) (cs : List Couple) : Type 0 where
+pub record CoreOf (left : ℕ) (s p : NestValue) (cs : List CoupleValue) : Type 0 where
   pub holds : count left p.members ≡ 1
   pub once : (x : ℕ) → count x p.members ≤ 1
   pub fewer : length (bands p) < length (bands s)
 
-pub core_of : (left w : ℕ) (s p : NestValue) (ms : List ℕ) (core : Option NestValue) (cs : List Couple) → core ≡ Some p
-    → OpensAt left s ms w core cs → ((x : ℕ) → count x s.members ≤ 1) → CoreOf left s p cs
-core_of left w s p ms core cs e open_ once =
-    let o = subst (λ (k : Option NestValue). OpensAt left s ms w k cs) e open_ in
+pub core_of : (left : ℕ) (s p : NestValue) (core : Option NestValue) (cs : List CoupleValue) → core ≡ Some p
+    → OpensAt left s core cs → ((x : ℕ) → count x s.members ≤ 1) → CoreOf left s p cs
+core_of left s p core cs e open_ once =
+    let o = subst (λ (k : Option NestValue). OpensAt left s k cs) e open_ in
     record {
       holds = o.holds.0;
       once = λ x. omega (arith, o.places x, once x);
@@ -262,11 +257,22 @@ core_of left w s p ms core cs e open_ once =
           omega (arith, o.sums (λ (bs : List Band). length bs) size-append);
     }
 
-pub record RestOf (s : NestValue) (cs : List Couple) : Type 0 where
+pub record RestOf (s : NestValue) (cs : List CoupleValue) : Type 0 where
   pub once : (x : ℕ) → count x (couple_members cs) ≤ 1
   pub fewer : length (couple_bands cs) < length (bands s)
 
-pub rest_of : (left w : ℕ) (s : NestValue) (ms : List ℕ) (core : Option NestValue) (cs : List Couple) → OpensAt left s ms w core cs
+pub rest_of : (left : ℕ) (s : NestValue) (core : Option NestValue) (cs : List CoupleValue) → OpensAt left s core cs
     → ((x : ℕ) → count x s.members ≤ 1) → RestOf s cs
-rest_of left w s ms core cs o once =
+rest_of left s core cs o once =
     record { once = λ x. omega (arith, o.places x, once x); fewer = omega (arith, o.sums (λ (bs : List Band). length bs) size-append) }
+
+-- each set of the part that is left, and of the couples, is one inside the whole
+pub core_uses : (left : ℕ) (s p : NestValue) (core : Option NestValue) (cs : List CoupleValue) → core ≡ Some p → OpensAt left s core cs
+    → (k : ℕ) → uses k (bands p) ≤ uses k (bands s)
+core_uses left s p core cs e open_ k =
+    let o = subst (λ (c : Option NestValue). OpensAt left s c cs) e open_ in
+    omega (arith, o.sums (uses k) (uses-append k))
+
+pub rest_uses : (left : ℕ) (s : NestValue) (core : Option NestValue) (cs : List CoupleValue) → OpensAt left s core cs
+    → (k : ℕ) → uses k (couple_bands cs) ≤ uses k (bands s)
+rest_uses left s core cs o k = omega (arith, o.sums (uses k) (uses-append k))

@@ -13,9 +13,7 @@ use Rattle.blossom_match.specs.TableValue.{TableValue}
 use Rattle.blossom_match.specs.Tables.{entry, IsMetric, IsTable, KeepsTriangles}
 use Rattle.blossom_match.specs.declared.table.TheConstants.{MAX_DISTANCE}
 use Rattle.blossom_match.specs.declared.nest.Link.{Link}
-use Rattle.blossom_match.specs.declared.couples.Couple.{Couple}
-use Rattle.blossom_match.specs.declared.branches.Branch.{Branch}
-use Rattle.blossom_match.specs.declared.search.Search.{Search}
+use Rattle.blossom_match.specs.Values.{BranchValue, CoupleValue, SearchValue}
 use Rattle.blossom_match.specs.declared.search.Step.{Step}
 use Rattle.blossom_match.specs.declared.search.Step.TheVariants.{Meet, Grow, Shrink, Expand}
 use Rattle.blossom_match.specs.declared.least.Change.{Change}
@@ -31,7 +29,7 @@ use Rattle.blossom_match.proofs.TableLemmas.{entry-comm}
 use Rattle.blossom_match.proofs.WidthLemmas.{around-comm, around_same_all, between_in, between_out, branches_load, branches_tall, counted_in, counted_out, couples_same, drop_changed, each_split, firm_changed, grown_same, inner_same, inside, more_wide, one_place, outer_limit, outer_same, set_limit, sizes_same, sound_up, times_by, wide_tall, within}
 
 -- the inner ring at which the step is due has no width after the change
-due_comes_apart : (by : ℕ) (bs : List Branch) → FirstIsDue by bs → FirstComesApart (all_changed by bs)
+due_comes_apart : (by : ℕ) (bs : List BranchValue) → FirstIsDue by bs → FirstComesApart (all_changed by bs)
 due_comes_apart by [] due = due
 due_comes_apart by (b ∷ bs) due = (omega (arith, due.0), due.1)
 
@@ -39,7 +37,7 @@ none_below : (v : ℕ) (bs : List Band) → length bs ≡ 0 → height v bs ≡ 
 none_below v [] e = refl
 none_below v (b ∷ bs) e = absurd (omega arith)
 
-narrow_case : (n : ℕ) (t : TableValue) (h : ℕ → ℕ) (by : ℕ) (b : Branch) → length b.inner.below ≡ n → RingIsWide by b → IsFirm t h b
+narrow_case : (n : ℕ) (t : TableValue) (h : ℕ → ℕ) (by : ℕ) (b : BranchValue) → length b.inner.below ≡ n → RingIsWide by b → IsFirm t h b
     → count b.up.to b.inner.members ≡ 1 → count b.pair.from b.inner.members ≡ 1 →
     entry t b.up.from b.pair.to ≤ entry t b.up.from b.up.to + entry t b.up.to b.pair.to
     → h b.up.from + h b.pair.to + 2 * by ≤ 2 * entry t b.up.from b.pair.to → by ≤ b.inner.width
@@ -54,25 +52,25 @@ narrow_case zero t h by b e ring f to from triangle room =
     omega (arith, f.up, pair, triangle, room, tall, none_below v b.inner.below e, ap (λ (k : ℕ). b.inner.width * k) to)
 
 -- each inner set has the width of the change: a ring by the bound on rings, a single place by the triangles
-can_change : (t : TableValue) (h : ℕ → ℕ) (s : Search) (c : Change) → IsTable t → KeepsTriangles t → IsSearch t h s → Bounds t h s c
-    → 1 ≤ length s.free.items → Each (CanChange c.by) s.tree.items
+can_change : (t : TableValue) (h : ℕ → ℕ) (s : SearchValue) (c : Change) → IsTable t → KeepsTriangles t → IsSearch t h s → Bounds t h s c
+    → 1 ≤ length s.free → Each (CanChange c.by) s.tree
 can_change t h s c is tri i b some =
-    let f = some_member s.free.items some in
-    each_split (CanChange c.by) s.tree.items s.tree.items [] refl (λ bs k after e.
-    let grown = grown-right s.root.members bs (k ∷ after) (subst (λ (ks : List Branch). IsGrown s.root.members ks) e i.grown) in
-    let firm = (each-right (IsFirm t h) bs (k ∷ after) (subst (λ (ks : List Branch). Each (IsFirm t h) ks) e i.tree)).0 in
-    let ring = (each-right (RingIsWide c.by) bs (k ∷ after) (subst (λ (ks : List Branch). Each (RingIsWide c.by) ks) e b.rings)).0 in
-    let at = λ (x : ℕ). ap (λ (ks : List Branch). count x (outer_members s.root.members ks)) e
+    let f = some_member s.free some in
+    each_split (CanChange c.by) s.tree s.tree [] refl (λ bs k after e.
+    let grown = grown-right s.root.members bs (k ∷ after) (subst (λ (ks : List BranchValue). IsGrown s.root.members ks) e i.grown) in
+    let firm = (each-right (IsFirm t h) bs (k ∷ after) (subst (λ (ks : List BranchValue). Each (IsFirm t h) ks) e i.tree)).0 in
+    let ring = (each-right (RingIsWide c.by) bs (k ∷ after) (subst (λ (ks : List BranchValue). Each (RingIsWide c.by) ks) e b.rings)).0 in
+    let at = λ (x : ℕ). ap (λ (ks : List BranchValue). count x (outer_members s.root.members ks)) e
     ∙ outer-append x s.root.members bs (k ∷ after) in
     let on = λ (x : ℕ). count-append x k.outer.members (outer_members [] after) in
-    let deep = λ (x : ℕ). ap (λ (ks : List Branch). count x (inner_members ks)) e ∙ inner-append x bs (k ∷ after) in
+    let deep = λ (x : ℕ). ap (λ (ks : List BranchValue). count x (inner_members ks)) e ∙ inner-append x bs (k ∷ after) in
     let under = λ (x : ℕ). count-append x k.inner.members (inner_members after) in
     let from : 1 ≤ count k.up.from (outers s) = omega (arith, at k.up.from, grown.0) in
     let to : 1 ≤ count k.pair.to (outers s) = omega (arith, at k.pair.to, on k.pair.to, grown.3) in
-    let apart : holding_both k.up.from k.pair.to s ≡ 0 = subst (λ (ks : List Branch). both k.up.from k.pair.to s.root
+    let apart : holding_both k.up.from k.pair.to s ≡ 0 = subst (λ (ks : List BranchValue). both k.up.from k.pair.to s.root
     + around k.up.from k.pair.to ks ≡ 0) (sym e)
     (apart_from k.up.from k.pair.to s.root bs k after (λ x. omega
-    (arith, i.places x, is_one t x, ap (λ (ks : List Branch). count x (outer_members s.root.members ks)) e)) grown.0
+    (arith, i.places x, is_one t x, ap (λ (ks : List BranchValue). count x (outer_members s.root.members ks)) e)) grown.0
     (omega (arith, grown.3))) in
     record {
       room = set_limit t h k.outer c.by firm.outer (λ x. omega (arith, i.places x, is_one t x, at x, on x))
@@ -95,12 +93,12 @@ fall_case zero by w i e down = omega (arith, ap (λ (k : ℕ). by * k) e)
 fall_case (suc n) by w i e down = down (omega (arith, e))
 
 -- the cells of the places of the tree
-can_change_heights : (t : TableValue) (s : Search) (c : Change) → IsMetric t → CanSearch t s → Bounds t (height_at s) s c
-    → Each (CanChange c.by) s.tree.items → CanChangeHeights c.by s.root s.tree.items s.heights.items
+can_change_heights : (t : TableValue) (s : SearchValue) (c : Change) → IsMetric t → CanSearch t s → Bounds t (height_at s) s c
+    → Each (CanChange c.by) s.tree → CanChangeHeights c.by s.root s.tree s.heights
 can_change_heights t s c m can b wide = record {
   cells = λ x here. omega (arith, can.size, place_in t x (omega (arith, can.search.places x, here)));
   rise = λ x.
-      let f = some_member s.free.items can.some in
+      let f = some_member s.free can.some in
       let i = can.search in
       omega (
         arith,
@@ -108,56 +106,56 @@ can_change_heights t s c m can b wide = record {
             (omega (arith, i.places x, is_one t x)) (height_limit t (height_at s) s x f.0 m.table i f.1)
             (λ here. outer_limit t (height_at s) s c x f.0 m.table i b f.1 here),
       );
-  fall = λ x. fall_case (count x (inner_members s.tree.items)) c.by (height_at s x) (count x (inner_members s.tree.items)) refl (λ here.
+  fall = λ x. fall_case (count x (inner_members s.tree)) c.by (height_at s x) (count x (inner_members s.tree)) refl (λ here.
       let i = can.search in
-      let no : count x (outer_members [] s.tree.items) ≡ 0 = omega
-      (arith, i.places x, is_one t x, here, outer-append x s.root.members [] s.tree.items) in
+      let no : count x (outer_members [] s.tree) ≡ 0 = omega
+      (arith, i.places x, is_one t x, here, outer-append x s.root.members [] s.tree) in
       omega (
         arith,
-        branches_tall x c.by s.tree.items wide,
+        branches_tall x c.by s.tree wide,
         ap (λ (k : ℕ). c.by * k) no,
         i.tall x
             (omega (arith, i.places x, is_one t x, here)),
       ));
 }
 
-pub can_widen : (s : Search) (c : Change) → CanWiden s c →
-    (s.root.width + c.by < 2 ^ 32) × Each (CanChange c.by) s.tree.items × CanChangeHeights c.by s.root s.tree.items s.heights.items
+pub can_widen : (s : SearchValue) (c : Change) → CanWiden s c →
+    (s.root.width + c.by < 2 ^ 32) × Each (CanChange c.by) s.tree × CanChangeHeights c.by s.root s.tree s.heights
 can_widen s c w =
     let i = w.can.search in
-    let f = some_member s.free.items w.can.some in
+    let f = some_member s.free w.can.some in
     let wide = can_change w.t (height_at s) s c w.metric.table w.metric.triangles i w.bounds w.can.some in (
       set_limit w.t (height_at s) s.root c.by i.root (λ x. omega
-          (arith, i.places x, is_one w.t x, base_in x s.root.members s.tree.items))
+          (arith, i.places x, is_one w.t x, base_in x s.root.members s.tree))
           (λ x here. outer_limit w.t (height_at s) s c x f.0 w.metric.table i w.bounds f.1
-          (omega (arith, base_in x s.root.members s.tree.items, here))),
+          (omega (arith, base_in x s.root.members s.tree, here))),
       wide,
       can_change_heights w.t s c w.metric w.can w.bounds wide,
     )
 
 -- how the heights move
-moved : (by : ℕ) (s r : Search) → Changes by s r → Each (CanChange by) s.tree.items → (x : ℕ) →
-    height_of r x + by * count x (inner_members s.tree.items) ≡ height_of s x + by * count x (outers s)
+moved : (by : ℕ) (s r : SearchValue) → Changes by s r → Each (CanChange by) s.tree → (x : ℕ) →
+    height_of r x + by * count x (inner_members s.tree) ≡ height_of s x + by * count x (outers s)
 moved by s r ch can x =
     omega (
       arith,
-      branches_tall x by s.tree.items can,
+      branches_tall x by s.tree can,
       wide_tall x by s.root,
       ap (λ (v : NestValue). height x (bands v)) ch.root,
-      ap (λ (ks : List Branch). height x (branch_bands ks)) ch.tree,
-      ap (λ (cs : List Couple). height x (couple_bands cs)) ch.rest,
-      times_by by _ _ _ (outer-append x s.root.members [] s.tree.items),
+      ap (λ (ks : List BranchValue). height x (branch_bands ks)) ch.tree,
+      ap (λ (cs : List CoupleValue). height x (couple_bands cs)) ch.rest,
+      times_by by _ _ _ (outer-append x s.root.members [] s.tree),
     )
 
 -- the bound on a place of an outer set and any other that no set holds with it
-room_case : (n : ℕ) (t : TableValue) (h : ℕ → ℕ) (s : Search) (c : Change) (a b : ℕ) → IsSearch t h s → Bounds t h s c → b < t.places
-    → 1 ≤ count a (outers s) → count b (inner_members s.tree.items) ≡ 0 → holding_both a b s ≡ 0 →
+room_case : (n : ℕ) (t : TableValue) (h : ℕ → ℕ) (s : SearchValue) (c : Change) (a b : ℕ) → IsSearch t h s → Bounds t h s c → b < t.places
+    → 1 ≤ count a (outers s) → count b (inner_members s.tree) ≡ 0 → holding_both a b s ≡ 0 →
     count b (outers s) ≡ n → h a + h b + c.by ≤ 2 * entry t a b
 room_case zero t h s c a b i bd lb ha none apart e = bd.one a b ha (omega (arith, i.places b, in_place t b lb, none, e))
 room_case (suc n) t h s c a b i bd lb ha none apart e = omega (arith, bd.two a b ha (omega (arith, e)) apart)
 
-one_room : (t : TableValue) (h : ℕ → ℕ) (s : Search) (c : Change) (a b : ℕ) → IsSearch t h s → Bounds t h s c → b < t.places
-    → 1 ≤ count a (outers s) → count b (inner_members s.tree.items) ≡ 0 → holding_both a b s ≡ 0 →
+one_room : (t : TableValue) (h : ℕ → ℕ) (s : SearchValue) (c : Change) (a b : ℕ) → IsSearch t h s → Bounds t h s c → b < t.places
+    → 1 ≤ count a (outers s) → count b (inner_members s.tree) ≡ 0 → holding_both a b s ≡ 0 →
     h a + h b + c.by ≤ 2 * entry t a b
 one_room t h s c a b i bd lb ha none apart = room_case (count b (outers s)) t h s c a b i bd lb ha none apart refl
 
@@ -169,9 +167,9 @@ sum_all : (by r1 r2 r3 s1 s2 s3 c2 ao bo bi : ℕ) → r1 ≡ s1 + by * ao → r
 sum_all by r1 r2 r3 s1 s2 s3 c2 ao bo bi e f g k = omega arith
 
 -- exactly one of the two places, or each, is in an outer set
-one_case : (n : ℕ) (t : TableValue) (h : ℕ → ℕ) (s : Search) (c : Change) (a b : ℕ) → IsSearch t h s → Bounds t h s c → a < t.places
+one_case : (n : ℕ) (t : TableValue) (h : ℕ → ℕ) (s : SearchValue) (c : Change) (a b : ℕ) → IsSearch t h s → Bounds t h s c → a < t.places
     → b < t.places → count a (outers s) ≡ n → 1 ≤ count a (outers s) + count b (outers s) →
-    count a (inner_members s.tree.items) + count b (inner_members s.tree.items) ≡ 0 → holding_both a b s ≡ 0
+    count a (inner_members s.tree) + count b (inner_members s.tree) ≡ 0 → holding_both a b s ≡ 0
     → load_of s a b + c.by ≤ 2 * entry t a b
 one_case (suc n) t h s c a b i bd la lb e some none apart =
     omega (
@@ -183,7 +181,7 @@ one_case (suc n) t h s c a b i bd la lb e some none apart =
           (omega (arith, e)) (omega (arith, none)) apart,
     )
 one_case zero t h s c a b i bd la lb e some none apart =
-    let other : holding_both b a s ≡ 0 = omega (arith, apart, around-comm a b s.tree.items) in
+    let other : holding_both b a s ≡ 0 = omega (arith, apart, around-comm a b s.tree) in
     omega (
       arith,
       load_of-comm s a b,
@@ -196,26 +194,26 @@ one_case zero t h s c a b i bd la lb e some none apart =
     )
 
 -- the load between two places stays within its bound
-loads_stay : (t : TableValue) (h : ℕ → ℕ) (s r : Search) (c : Change) → IsSearch t h s → Bounds t h s c → Changes c.by s r
-    → Each (CanChange c.by) s.tree.items → (a b : ℕ) → a < t.places → b < t.places → a ≢ b →
+loads_stay : (t : TableValue) (h : ℕ → ℕ) (s r : SearchValue) (c : Change) → IsSearch t h s → Bounds t h s c → Changes c.by s r
+    → Each (CanChange c.by) s.tree → (a b : ℕ) → a < t.places → b < t.places → a ≢ b →
     load_of r a b ≤ 2 * entry t a b
 loads_stay t h s r c i bd ch can a b la lb ne =
     let by = c.by in
-    let tree = s.tree.items in
+    let tree = s.tree in
     let bo = apart_of a b s.root + between_out a b tree in
     let root : load a b (bands r.root) ≡ load a b (bands s.root) + by * apart_of a b s.root =
     ap (λ (v : NestValue). load a b (bands v)) ch.root ∙ more_wide s.root.width by (apart_of a b s.root) (load a b s.root.below) _
     (load a b (bands s.root)) refl refl in
-    let branches = ap (λ (ks : List Branch). load a b (branch_bands ks)) ch.tree in
-    let rest = ap (λ (cs : List Couple). load a b (couple_bands cs)) ch.rest in
+    let branches = ap (λ (ks : List BranchValue). load a b (branch_bands ks)) ch.tree in
+    let rest = ap (λ (cs : List CoupleValue). load a b (couple_bands cs)) ch.rest in
     let oa = outer-append a s.root.members [] tree in
     let ob = outer-append b s.root.members [] tree in
     let pa = i.places a in
     let pb = i.places b in
     within (2 * entry t a b) (load_of s a b) (load_of r a b) by bo (between_in a b tree) (holding_both a b s) (inside a b tree)
     (count a (outers s)) (count b (outers s)) (count a (inner_members tree)) (count b (inner_members tree))
-    (sum_all by (load a b (bands r.root)) (load a b (branch_bands r.tree.items)) (load a b (couple_bands r.rest.items))
-    (load a b (bands s.root)) (load a b (branch_bands tree)) (load a b (couple_bands s.rest.items))
+    (sum_all by (load a b (bands r.root)) (load a b (branch_bands r.tree)) (load a b (couple_bands r.rest))
+    (load a b (bands s.root)) (load a b (branch_bands tree)) (load a b (couple_bands s.rest))
     (load a b (branch_bands (all_changed by tree))) (apart_of a b s.root) (between_out a b tree) (between_in a b tree) root branches rest
     (branches_load a b by tree can))
     (omega (arith, counted_out a b tree, oa, ob)) (counted_in a b tree) (omega (arith, pa, is_one t a)) (omega (arith, pb, is_one t b))
@@ -234,9 +232,9 @@ loads_stay t h s r c i bd ch can a b la lb ne =
 tight_after : (d : TableValue) (k : ℕ → ℕ) (l : Link) → k l.from + k l.to ≡ 2 * entry d l.from l.to → IsTight d k l
 tight_after d k l e = sym e
 
-due_ready : (step : Step) (t : TableValue) (h k : ℕ → ℕ) (s r : Search) (by : ℕ) → Changes by s r
+due_ready : (step : Step) (t : TableValue) (h k : ℕ → ℕ) (s r : SearchValue) (by : ℕ) → Changes by s r
     → ((x : ℕ) → 1 ≤ count x (outers s) → k x ≡ h x + by) →
-    ((x : ℕ) → 1 ≤ count x (couple_members s.rest.items) + count x s.free.items → k x ≡ h x)
+    ((x : ℕ) → 1 ≤ count x (couple_members s.rest) + count x s.free → k x ≡ h x)
     → ((x : ℕ) → count x (outers r) ≡ count x (outers s)) →
     IsDue t h s by step → IsReady t k r step
 due_ready (Meet l) t h k s r by ch up same outer due = (
@@ -247,7 +245,7 @@ due_ready (Meet l) t h k s r by ch up same outer due = (
 )
 due_ready (Grow l) t h k s r by ch up same outer due = (
   omega (arith, due.0, outer l.from),
-  omega (arith, due.1, ap (λ (cs : List Couple). count l.to (couple_members cs)) ch.rest),
+  omega (arith, due.1, ap (λ (cs : List CoupleValue). count l.to (couple_members cs)) ch.rest),
   tight_after t k l (omega (arith, due.2, up l.from due.0, same l.to (omega (arith, due.1)))),
 )
 due_ready (Shrink l) t h k s r by ch up same outer due = (
@@ -258,14 +256,14 @@ due_ready (Shrink l) t h k s r by ch up same outer due = (
     due.2,
     ap (λ (v : NestValue). both l.from l.to v) ch.root,
     ap
-        (λ (ks : List Branch). around l.from l.to ks) ch.tree,
-    around_same_all by l.from l.to s.tree.items,
+        (λ (ks : List BranchValue). around l.from l.to ks) ch.tree,
+    around_same_all by l.from l.to s.tree,
   ),
   tight_after t k l (omega (arith, due.3, up l.from due.0, up l.to due.1)),
 )
 due_ready (Expand at) t h k s r by ch up same outer due =
-    subst (λ (ks : List Branch). FirstComesApart (drop at ks)) (sym ch.tree)
-    (subst FirstComesApart (sym (drop_changed by at s.tree.items)) (due_comes_apart by (drop at s.tree.items) due))
+    subst (λ (ks : List BranchValue). FirstComesApart (drop at ks)) (sym ch.tree)
+    (subst FirstComesApart (sym (drop_changed by at s.tree)) (due_comes_apart by (drop at s.tree) due))
 
 rise : (by k h i o : ℕ) → k + by * i ≡ h + by * o → i ≡ 0 → o ≡ 1 → k ≡ h + by
 rise by k h i o e g j = omega (arith, e, ap (λ (x : ℕ). by * x) g, ap (λ (x : ℕ). by * x) j)
@@ -282,7 +280,7 @@ at_most zero zero P few out inn rest = rest refl
 at_most zero (suc m) P few out inn rest = inn (omega (arith, few))
 at_most (suc n) m P few out inn rest = out (omega (arith, few))
 
-steps_on : (t : TableValue) (s r : Search) (c : Change) → Changes c.by s r → IsMetric t → CanSearch t s → Bounds t (height_at s) s c
+steps_on : (t : TableValue) (s r : SearchValue) (c : Change) → Changes c.by s r → IsMetric t → CanSearch t s → Bounds t (height_at s) s c
     → StepsOn t c r
 steps_on t s r c ch m cs b =
     let by = c.by in
@@ -293,19 +291,19 @@ steps_on t s r c ch m cs b =
     let move = ch.heights in
     let one = λ (x : ℕ). is_one t x in
     let outer : (x : ℕ) → count x (outers r) ≡ count x (outers s) =
-    λ x. ap (λ (v : NestValue). count x (outer_members v.members r.tree.items)) ch.root
-    ∙ ap (λ (ks : List Branch). count x (outer_members s.root.members ks)) ch.tree
-    ∙ ap (λ (xs : List ℕ). count x xs) (outer_same by s.root.members s.tree.items) in
-    let inner : (x : ℕ) → count x (inner_members r.tree.items) ≡ count x (inner_members s.tree.items) =
-    λ x. ap (λ (ks : List Branch). count x (inner_members ks)) ch.tree ∙ ap (λ (xs : List ℕ). count x xs) (inner_same by s.tree.items) in
+    λ x. ap (λ (v : NestValue). count x (outer_members v.members r.tree)) ch.root
+    ∙ ap (λ (ks : List BranchValue). count x (outer_members s.root.members ks)) ch.tree
+    ∙ ap (λ (xs : List ℕ). count x xs) (outer_same by s.root.members s.tree) in
+    let inner : (x : ℕ) → count x (inner_members r.tree) ≡ count x (inner_members s.tree) =
+    λ x. ap (λ (ks : List BranchValue). count x (inner_members ks)) ch.tree ∙ ap (λ (xs : List ℕ). count x xs) (inner_same by s.tree) in
     let up : (x : ℕ) → 1 ≤ count x (outers s) → k x ≡ h x + by =
-    λ x here. rise by (k x) (h x) (count x (inner_members s.tree.items)) (count x (outers s)) (move x)
+    λ x here. rise by (k x) (h x) (count x (inner_members s.tree)) (count x (outers s)) (move x)
     (omega (arith, i.places x, one x, here)) (omega (arith, i.places x, one x, here)) in
-    let down : (x : ℕ) → 1 ≤ count x (inner_members s.tree.items) → k x + by ≡ h x =
-    λ x here. fall by (k x) (h x) (count x (inner_members s.tree.items)) (count x (outers s)) (move x)
+    let down : (x : ℕ) → 1 ≤ count x (inner_members s.tree) → k x + by ≡ h x =
+    λ x here. fall by (k x) (h x) (count x (inner_members s.tree)) (count x (outers s)) (move x)
     (omega (arith, i.places x, one x, here)) (omega (arith, i.places x, one x, here)) in
-    let same : (x : ℕ) → 1 ≤ count x (couple_members s.rest.items) + count x s.free.items → k x ≡ h x =
-    λ x here. stay by (k x) (h x) (count x (inner_members s.tree.items)) (count x (outers s)) (move x)
+    let same : (x : ℕ) → 1 ≤ count x (couple_members s.rest) + count x s.free → k x ≡ h x =
+    λ x here. stay by (k x) (h x) (count x (inner_members s.tree)) (count x (outers s)) (move x)
     (omega (arith, i.places x, one x, here)) (omega (arith, i.places x, one x, here)) in
     record {
       search = record {
@@ -317,10 +315,10 @@ steps_on t s r c ch m cs b =
               (omega (arith, none, ap (λ (xs : List ℕ). count x xs) ch.free)),
         );
         room = λ a f la hf ne.
-            let hs : 1 ≤ count f s.free.items = omega (arith, hf, ap (λ (xs : List ℕ). count f xs) ch.free) in
+            let hs : 1 ≤ count f s.free = omega (arith, hf, ap (λ (xs : List ℕ). count f xs) ch.free) in
             let was = i.room a f la hs ne in
             let still = same f (omega (arith, hs)) in
-            at_most (count a (outers s)) (count a (inner_members s.tree.items)) (k a + k f ≤ 2 * entry t a f)
+            at_most (count a (outers s)) (count a (inner_members s.tree)) (k a + k f ≤ 2 * entry t a f)
             (omega (arith, i.places a, one a))
             (λ out. omega (arith, still, up a (omega (arith, out)), b.one a f (omega (arith, out)) (omega (arith, hs))))
             (λ inn. omega (arith, still, down a (omega (arith, inn)), was))
@@ -330,35 +328,35 @@ steps_on t s r c ch m cs b =
           i.places x,
           outer x,
           inner x,
-          ap (λ (cs : List Couple). count x (couple_members cs)) ch.rest,
+          ap (λ (cs : List CoupleValue). count x (couple_members cs)) ch.rest,
           ap
               (λ (xs : List ℕ). count x xs) ch.free,
         );
-        grown = subst (λ (v : NestValue). IsGrown v.members r.tree.items) (sym ch.root)
-            (subst (λ (ks : List Branch). IsGrown s.root.members ks) (sym ch.tree) (grown_same by s.root.members s.tree.items i.grown));
-        joined = subst (λ (cs : List Couple). Each IsJoined cs) (sym ch.rest) i.joined;
+        grown = subst (λ (v : NestValue). IsGrown v.members r.tree) (sym ch.root)
+            (subst (λ (ks : List BranchValue). IsGrown s.root.members ks) (sym ch.tree) (grown_same by s.root.members s.tree i.grown));
+        joined = subst (λ (cs : List CoupleValue). Each IsJoined cs) (sym ch.rest) i.joined;
         root = subst (λ (v : NestValue). IsSound t k v) (sym ch.root)
-            (sound_up t h k by s.root (λ x. omega (arith, i.places x, one x, base_in x s.root.members s.tree.items))
-            (λ x here. up x (omega (arith, here, base_in x s.root.members s.tree.items))) i.root);
-        tree = subst (λ (ks : List Branch). Each (IsFirm t k) ks) (sym ch.tree)
-            (firm_changed t h k by s.root.members s.tree.items i.grown can i.tree (λ x. omega (arith, i.places x, one x)) up down);
-        rest = subst (λ (cs : List Couple). Each (IsFirmCouple t k) cs) (sym ch.rest)
-            (couples_same t h k s.rest.items i.joined i.rest (λ x here. same x (omega (arith, here))));
+            (sound_up t h k by s.root (λ x. omega (arith, i.places x, one x, base_in x s.root.members s.tree))
+            (λ x here. up x (omega (arith, here, base_in x s.root.members s.tree))) i.root);
+        tree = subst (λ (ks : List BranchValue). Each (IsFirm t k) ks) (sym ch.tree)
+            (firm_changed t h k by s.root.members s.tree i.grown can i.tree (λ x. omega (arith, i.places x, one x)) up down);
+        rest = subst (λ (cs : List CoupleValue). Each (IsFirmCouple t k) cs) (sym ch.rest)
+            (couples_same t h k s.rest i.joined i.rest (λ x here. same x (omega (arith, here))));
         loads = loads_stay t h s r c i b ch can;
       };
       ready = due_ready c.step t h k s r by ch up same outer b.due;
       size = ch.size ∙ cs.size;
     }
 
-pub widens : (s r : Search) (c : Change) → Changes c.by s r → Widens s c r
+pub widens : (s r : SearchValue) (c : Change) → Changes c.by s r → Widens s c r
 widens s r c ch = record {
   search = λ t m can b. steps_on t s r c ch m can b;
   size = omega (
     arith,
-    ap (λ (ks : List Branch). length (inner_bands ks)) ch.tree,
-    sizes_same c.by s.tree.items,
+    ap (λ (ks : List BranchValue). length (inner_bands ks)) ch.tree,
+    sizes_same c.by s.tree,
     ap
-        (λ (cs : List Couple). length (couple_bands cs)) ch.rest,
+        (λ (cs : List CoupleValue). length (couple_bands cs)) ch.rest,
   );
   free = ch.free;
 }

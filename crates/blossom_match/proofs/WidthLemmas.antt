@@ -1,42 +1,47 @@
 -- A change of widths keeps what holds between two steps.
-use Rattle.std.proofs.Common.{◌≡◌, ℕ, ◌+◌, ◌-◌, ◌*◌, ◌^◌, ◌≤◌, ◌<◌, suc, zero, List, [], ◌∷◌, ◌++◌, length, drop, arith, refl, sym, ap, ◌∙◌, append_assoc}
+use Rattle.std.proofs.Common.{◌≡◌, ℕ, ◌+◌, ◌-◌, ◌*◌, ◌^◌, ◌≤◌, ◌<◌, suc, zero, List, [], ◌∷◌, ◌++◌, length, map, take, drop, get_or, set, set-set, get_or-set_same, arith, refl, sym, ap, ◌∙◌, append_assoc}
 use Rattle.blossom_match.specs.Lists.{Each}
-use Rattle.blossom_match.specs.Bands.{NestValue, apart, bands, count, height, load, with_width}
+use Rattle.blossom_match.specs.Bands.{NestValue, apart, bands, count, height, load, uses, with_width}
 use Rattle.blossom_match.specs.Couples.{couple_members, IsJoined}
 use Rattle.blossom_match.specs.Sound.{IsFirm, IsFirmCouple, IsSound}
-use Rattle.blossom_match.specs.Trees.{around, both, branch_bands, inner_bands, inner_members, outer_members, IsGrown}
+use Rattle.blossom_match.specs.Trees.{all_bands, around, both, branch_bands, inner_bands, inner_members, outer_members, IsGrown}
 use Rattle.blossom_match.specs.Searches.{outers, IsSearch}
 use Rattle.blossom_match.specs.Bounds.{Bounds}
-use Rattle.blossom_match.specs.Widths.{all_changed, CanChange}
+use Rattle.blossom_match.specs.Widths.{all_changed, changed_by, resized, CanChange, CanResize}
 use Rattle.blossom_match.specs.TableValue.{TableValue}
 use Rattle.blossom_match.specs.Tables.{IsTable}
 use Rattle.blossom_match.specs.declared.table.TheConstants.{MAX_DISTANCE}
-use Rattle.blossom_match.specs.declared.couples.Couple.{Couple}
+use Rattle.blossom_match.specs.Values.{BranchValue, CoupleValue, SearchValue}
+use Rattle.blossom_match.specs.Slots.{branch_in, branches_in, AreSets, Sets}
 use Rattle.blossom_match.specs.declared.branches.Branch.{Branch}
-use Rattle.blossom_match.specs.declared.search.Search.{Search}
 use Rattle.blossom_match.specs.declared.least.Change.{Change}
-use Rattle.blossom_match.proofs.SumLemmas.{count-append, height-append, hit_is, load-append, size-append, some_member}
+use Rattle.std.proofs.lemmas.List.Edits.{map_over_more}
+use Rattle.blossom_match.proofs.ListLemmas.{get_or_self}
+use Rattle.blossom_match.proofs.SeatLemmas.{no_branch}
+use Rattle.blossom_match.proofs.ShrunkLemmas.{all_uses}
+use Rattle.blossom_match.proofs.SlotLemmas.{sets_fewer}
+use Rattle.blossom_match.proofs.SumLemmas.{uses-append, count-append, height-append, hit_is, load-append, size-append, some_member}
 use Rattle.blossom_match.proofs.TreeLemmas.{base_in, outer_members_base}
 use Rattle.blossom_match.proofs.SearchLemmas.{place_in}
 
 -- members stay
-pub outer_same : (by : ℕ) (base : List ℕ) (bs : List Branch) → outer_members base (all_changed by bs) ≡ outer_members base bs
+pub outer_same : (by : ℕ) (base : List ℕ) (bs : List BranchValue) → outer_members base (all_changed by bs) ≡ outer_members base bs
 outer_same by base [] = refl
 outer_same by base (b ∷ bs) = ap (λ (xs : List ℕ). b.outer.members ++ xs) (outer_same by base bs)
 
-pub inner_same : (by : ℕ) (bs : List Branch) → inner_members (all_changed by bs) ≡ inner_members bs
+pub inner_same : (by : ℕ) (bs : List BranchValue) → inner_members (all_changed by bs) ≡ inner_members bs
 inner_same by [] = refl
 inner_same by (b ∷ bs) = ap (λ (xs : List ℕ). b.inner.members ++ xs) (inner_same by bs)
 
-pub around_same_all : (by a c : ℕ) (bs : List Branch) → around a c (all_changed by bs) ≡ around a c bs
+pub around_same_all : (by a c : ℕ) (bs : List BranchValue) → around a c (all_changed by bs) ≡ around a c bs
 around_same_all by a c [] = refl
 around_same_all by a c (b ∷ bs) = omega (arith, around_same_all by a c bs)
 
-pub grown_same : (by : ℕ) (base : List ℕ) (bs : List Branch) → IsGrown base bs → IsGrown base (all_changed by bs)
+pub grown_same : (by : ℕ) (base : List ℕ) (bs : List BranchValue) → IsGrown base bs → IsGrown base (all_changed by bs)
 grown_same by base [] g = tt
 grown_same by base (b ∷ bs) g = (g.0, g.1, g.2, g.3, grown_same by (b.outer.members ++ base) bs g.4)
 
-pub sizes_same : (by : ℕ) (bs : List Branch) → length (inner_bands (all_changed by bs)) ≡ length (inner_bands bs)
+pub sizes_same : (by : ℕ) (bs : List BranchValue) → length (inner_bands (all_changed by bs)) ≡ length (inner_bands bs)
 sizes_same by [] = refl
 sizes_same by (b ∷ bs) = omega (
   arith,
@@ -46,7 +51,7 @@ sizes_same by (b ∷ bs) = omega (
       (bands (with_width (b.inner.width - by) b.inner)) (inner_bands (all_changed by bs)),
 )
 
-pub drop_changed : (by at : ℕ) (bs : List Branch) → drop at (all_changed by bs) ≡ all_changed by (drop at bs)
+pub drop_changed : (by at : ℕ) (bs : List BranchValue) → drop at (all_changed by bs) ≡ all_changed by (drop at bs)
 drop_changed by zero bs = refl
 drop_changed by (suc at) [] = refl
 drop_changed by (suc at) (b ∷ bs) = drop_changed by at bs
@@ -68,7 +73,7 @@ narrow_tall : (x by : ℕ) (s : NestValue) → by ≤ s.width → height x (band
 narrow_tall x by s low = omega (arith, narrowed s.width by (count x s.members) low)
 
 -- heights rise by the change in outer sets and fall by it in inner sets
-pub branches_tall : (x by : ℕ) (bs : List Branch) → Each (CanChange by) bs →
+pub branches_tall : (x by : ℕ) (bs : List BranchValue) → Each (CanChange by) bs →
     height x (branch_bands (all_changed by bs)) + by * count x (inner_members bs)
     ≡ height x (branch_bands bs) + by * count x (outer_members [] bs)
 branches_tall x by [] can = omega arith
@@ -124,7 +129,8 @@ sound_same d h k s same i = record {
   even = λ x y hx hy. omega (arith, i.even x y hx hy, same x hx, same y hy);
 }
 
-pub firm_changed : (d : TableValue) (h k : ℕ → ℕ) (by : ℕ) (base : List ℕ) (bs : List Branch) → IsGrown base bs → Each (CanChange by) bs
+pub firm_changed : (d : TableValue) (h k : ℕ → ℕ) (by : ℕ) (base : List ℕ) (bs : List BranchValue) → IsGrown base bs → Each (CanChange by)
+    bs
     → Each (IsFirm d h) bs →
     ((x : ℕ) → count x (outer_members base bs) + count x (inner_members bs) ≤ 1)
     → ((x : ℕ) → 1 ≤ count x (outer_members base bs) → k x ≡ h x + by) →
@@ -152,7 +158,7 @@ firm_changed d h k by base (b ∷ bs) g can f once up down =
           (λ x here. up x (omega (arith, here, more x, o x))) (λ x here. down x (omega (arith, here, i x))),
     )
 
-pub couples_same : (d : TableValue) (h k : ℕ → ℕ) (cs : List Couple) → Each IsJoined cs → Each (IsFirmCouple d h) cs
+pub couples_same : (d : TableValue) (h k : ℕ → ℕ) (cs : List CoupleValue) → Each IsJoined cs → Each (IsFirmCouple d h) cs
     → ((x : ℕ) → 1 ≤ count x (couple_members cs) → k x ≡ h x) → Each (IsFirmCouple d k) cs
 couples_same d h k [] j f same = tt
 couples_same d h k (c ∷ cs) j f same =
@@ -169,19 +175,19 @@ couples_same d h k (c ∷ cs) j f same =
     )
 
 -- how many sets of the branches hold exactly one of the places, and how many inner sets hold both
-abbrev pub between_out : ℕ → ℕ → List Branch → ℕ
+abbrev pub between_out : ℕ → ℕ → List BranchValue → ℕ
 between_out a b [] = 0
 between_out a b (c ∷ cs) = apart (count a c.outer.members) (count b c.outer.members) + between_out a b cs
 
-abbrev pub between_in : ℕ → ℕ → List Branch → ℕ
+abbrev pub between_in : ℕ → ℕ → List BranchValue → ℕ
 between_in a b [] = 0
 between_in a b (c ∷ cs) = apart (count a c.inner.members) (count b c.inner.members) + between_in a b cs
 
-abbrev pub inside : ℕ → ℕ → List Branch → ℕ
+abbrev pub inside : ℕ → ℕ → List BranchValue → ℕ
 inside a b [] = 0
 inside a b (c ∷ cs) = both a b c.inner + inside a b cs
 
-pub counted_out : (a b : ℕ) (bs : List Branch) → between_out a b bs + 2 * around a b bs
+pub counted_out : (a b : ℕ) (bs : List BranchValue) → between_out a b bs + 2 * around a b bs
     ≡ count a (outer_members [] bs) + count b (outer_members [] bs)
 counted_out a b [] = refl
 counted_out a b (c ∷ cs) = omega (
@@ -192,7 +198,7 @@ counted_out a b (c ∷ cs) = omega (
   count-append b c.outer.members (outer_members [] cs),
 )
 
-pub counted_in : (a b : ℕ) (bs : List Branch) → between_in a b bs + 2 * inside a b bs
+pub counted_in : (a b : ℕ) (bs : List BranchValue) → between_in a b bs + 2 * inside a b bs
     ≡ count a (inner_members bs) + count b (inner_members bs)
 counted_in a b [] = refl
 counted_in a b (c ∷ cs) = omega (
@@ -214,7 +220,7 @@ sum_up : (by n w r i o q ci co bi bo new old : ℕ) → new ≡ n + (w + r) → 
     new + by * (ci + bi) ≡ old + by * (co + bo)
 sum_up by n w r i o q ci co bi bo new old e f g k m = omega arith
 
-pub branches_load : (a b by : ℕ) (bs : List Branch) → Each (CanChange by) bs →
+pub branches_load : (a b by : ℕ) (bs : List BranchValue) → Each (CanChange by) bs →
     load a b (branch_bands (all_changed by bs)) + by * between_in a b bs ≡ load a b (branch_bands bs) + by * between_out a b bs
 branches_load a b by [] can = omega arith
 branches_load a b by (c ∷ cs) can =
@@ -248,7 +254,7 @@ within top old new by (suc (suc zero)) zero oo ii oa ob ia ib e f g p q base one
 within top old new by (suc (suc zero)) (suc bi) oo ii oa ob ia ib e f g p q base one two = absurd (omega arith)
 within top old new by (suc (suc (suc bo))) bi oo ii oa ob ia ib e f g p q base one two = absurd (omega arith)
 
-pub around-comm : (a b : ℕ) (bs : List Branch) → around a b bs ≡ around b a bs
+pub around-comm : (a b : ℕ) (bs : List BranchValue) → around a b bs ≡ around b a bs
 around-comm a b [] = refl
 around-comm a b (c ∷ cs) = omega (arith, around-comm a b cs)
 
@@ -263,8 +269,8 @@ each_split P all (b ∷ bs) before e f = (
 )
 
 -- a place of an outer set that has room, and so has the set
-pub outer_limit : (t : TableValue) (h : ℕ → ℕ) (s : Search) (c : Change) (x f : ℕ) → IsTable t → IsSearch t h s → Bounds t h s c
-    → 1 ≤ count f s.free.items → 1 ≤ count x (outers s) → h x + c.by ≤ 2 * MAX_DISTANCE
+pub outer_limit : (t : TableValue) (h : ℕ → ℕ) (s : SearchValue) (c : Change) (x f : ℕ) → IsTable t → IsSearch t h s → Bounds t h s c
+    → 1 ≤ count f s.free → 1 ≤ count x (outers s) → h x + c.by ≤ 2 * MAX_DISTANCE
 outer_limit t h s c x f is i b hf hx =
     omega (
       arith,
@@ -284,3 +290,55 @@ pub one_place : (x y : ℕ) (ms : List ℕ) → length ms ≡ 1 → 1 ≤ count 
 one_place x y [] one hx hy = absurd (omega arith)
 one_place x y (m ∷ []) one hx hy = hit_is x m (omega (arith, hx)) ∙ sym (hit_is y m (omega (arith, hy)))
 one_place x y (m ∷ n ∷ ms) one hx hy = absurd (omega arith)
+
+-- the seats of a branch are written one after the other
+abbrev inner_resized : ℕ → Branch → Branch
+inner_resized by b = record { up = b.up; inner = record { key = b.inner.key; width = b.inner.width - by }; pair = b.pair; outer = b.outer }
+
+abbrev outer_resized : ℕ → Branch → Branch
+outer_resized by b = record { up = b.up; inner = b.inner; pair = b.pair; outer = record { key = b.outer.key; width = b.outer.width + by } }
+
+pub resized_more : (by : ℕ) (xs ys : List Branch) (i : ℕ) → i < length xs → length ys ≡ length xs
+    → ys ≡ map (resized by) (take i xs) ++ drop i xs
+    → set (set ys i (inner_resized by (get_or ys i no_branch))) i
+    (outer_resized by (get_or (set ys i (inner_resized by (get_or ys i no_branch))) i no_branch))
+    ≡ map (resized by) (take (i + 1) xs) ++ drop (i + 1) xs
+resized_more by xs ys i low size e =
+    let x = get_or ys i no_branch in
+    let a = inner_resized by x in
+    ap (λ (b : Branch). set (set ys i a) i (outer_resized by b)) (get_or-set_same ys i a no_branch (omega (arith, low, size)))
+    ∙ set-set ys i a (outer_resized by a) ∙ map_over_more (resized by) xs ys i x low e (get_or_self ys i no_branch)
+
+pub can_resize : (by : ℕ) (sets : Sets) (bs : List Branch) → Each (CanChange by) (branches_in sets bs) → Each (CanResize by) bs
+can_resize by sets [] can = tt
+can_resize by sets (b ∷ bs) can = (record { room = can.0.room; wide = can.0.wide }, can_resize by sets bs can.1)
+
+pub all_resized : (by : ℕ) (sets : Sets) (bs : List Branch) → branches_in sets (map (resized by) bs) ≡ all_changed by
+    (branches_in sets bs)
+all_resized by sets [] = refl
+all_resized by sets (b ∷ bs) =
+    ap (λ (ks : List BranchValue). changed_by by (branch_in sets b) ∷ ks) (all_resized by sets bs)
+
+-- the same sets under the same keys
+uses_same : (k by : ℕ) (bs : List BranchValue) → uses k (branch_bands (all_changed by bs)) ≡ uses k (branch_bands bs)
+uses_same k by [] = refl
+uses_same k by (b ∷ bs) =
+    omega (
+      arith,
+      uses_same k by bs,
+      uses-append k b.inner.below (bands b.outer ++ branch_bands bs),
+      uses-append k b.inner.below (bands (changed_by by b).outer ++ branch_bands (all_changed by bs)),
+      uses-append k b.outer.below (branch_bands bs),
+      uses-append k b.outer.below (branch_bands (all_changed by bs)),
+    )
+
+pub changed_sets : (sets : Sets) (by w : ℕ) (root : NestValue) (tree now : List BranchValue) (rest : List CoupleValue)
+    → now ≡ all_changed by tree → AreSets sets (all_bands root tree rest) → AreSets sets (all_bands (with_width w root) now rest)
+changed_sets sets by w root tree now rest e are =
+    sets_fewer sets (all_bands root tree rest) (all_bands (with_width w root) now rest) are (λ k. omega (
+      arith,
+      all_uses k root tree rest,
+      all_uses k (with_width w root) now rest,
+      ap (λ (ks : List BranchValue). uses k (branch_bands ks)) e,
+      uses_same k by tree,
+    ))

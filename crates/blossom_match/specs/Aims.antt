@@ -7,8 +7,7 @@ use Rattle.blossom_match.specs.Bounds.{holding, step_of}
 use Rattle.blossom_match.specs.Reaches.{left_by, CanReach, IsLeft, Reaches}
 use Rattle.blossom_match.specs.Searches.{outers}
 use Rattle.blossom_match.specs.TableValue.{TableValue}
-use Rattle.blossom_match.specs.declared.branches.Branch.{Branch}
-use Rattle.blossom_match.specs.declared.search.Search.{Search}
+use Rattle.blossom_match.specs.Values.{BranchValue, SearchValue}
 use Rattle.blossom_match.specs.declared.least.Aim.{Aim}
 use Rattle.blossom_match.specs.declared.least.Change.{Change}
 use Rattle.blossom_match.specs.declared.least.Kind.{Kind}
@@ -40,7 +39,7 @@ pub record Aims (hs reach : List ℕ) (k : Kind) (ys : List ℕ) (old new : Aim)
   pub is : (new ≡ old) ⊎ AimsAt hs reach k ys new
 
 -- outer places reach the aim
-pub record CanLead (t : TableValue) (hs : List ℕ) (root : NestValue) (tree : List Branch)
+pub record CanLead (t : TableValue) (hs : List ℕ) (root : NestValue) (tree : List BranchValue)
     (reach : List ℕ) (aim : Aim) : Type 0 where
   pub can : CanReach t hs root tree
   pub reaches : Reaches t hs root tree reach
@@ -48,7 +47,7 @@ pub record CanLead (t : TableValue) (hs : List ℕ) (root : NestValue) (tree : L
   pub near : slice_index reach aim.to < FAR
 
 -- the change whose step is a link from an outer place that leaves so much
-pub record LeadsTo (t : TableValue) (hs : List ℕ) (root : NestValue) (tree : List Branch)
+pub record LeadsTo (t : TableValue) (hs : List ℕ) (root : NestValue) (tree : List BranchValue)
     (reach : List ℕ) (aim : Aim) (c : Change) : Type 0 where
   pub from : ℕ
   pub here : 1 ≤ count from (outer_members root.members tree)
@@ -73,13 +72,13 @@ Leaves t hs s x room (Some a) = (count x s.members ≡ 0) × LeavesAt t hs s.mem
 Leaves t hs s x room None = count x s.members ≡ 0 → IsLeft t hs s.members x room → ⊥
 
 -- the places that a link of the kind leads to
-abbrev pub goals : Search → Kind → List ℕ
-goals s kind.Meet = s.free.items
-goals s kind.Grow = couple_members s.rest.items
+abbrev pub goals : SearchValue → Kind → List ℕ
+goals s kind.Meet = s.free
+goals s kind.Grow = couple_members s.rest
 goals s kind.Shrink = outers s
 
 -- an aim at one of the places that its kind leads to
-pub record IsAimed (s : Search) (hs reach : List ℕ) (aim : Aim) : Type 0 where
+pub record IsAimed (s : SearchValue) (hs reach : List ℕ) (aim : Aim) : Type 0 where
   pub there : 1 ≤ count aim.to (goals s aim.kind)
   pub near : slice_index reach aim.to < FAR
   pub by : aim.by ≡ change_at hs reach aim.kind aim.to

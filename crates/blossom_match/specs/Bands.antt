@@ -3,8 +3,9 @@ use Rattle.std.specs.Prelude.{◌≡◌, ℕ, ◌+◌, ◌-◌, ◌*◌, ◌%◌
 use Rattle.blossom_match.specs.TableValue.{TableValue}
 use Rattle.blossom_match.specs.Tables.{entry}
 
--- a set with a width
+-- a set with a width, by the key of its slot
 pub record Band : Type 0 where
+  pub key : ℕ
   pub members : List ℕ
   pub width : ℕ
 
@@ -20,9 +21,10 @@ pub record Row : Type 0 where
   pub below : List Band
   pub cells : List ℕ
 
--- an odd set: its members, its width, its row, all sets inside it, all links inside it, and the
--- rows of the sets inside it
+-- an odd set: its key, its members, its width, its row, all sets inside it, all links inside it,
+-- and the rows of the sets inside it
 pub record NestValue : Type 0 where
+  pub key : ℕ
   pub members : List ℕ
   pub width : ℕ
   pub near : List ℕ
@@ -32,7 +34,7 @@ pub record NestValue : Type 0 where
 
 -- the set and all sets inside it
 abbrev pub bands : NestValue → List Band
-bands s = record { members = s.members; width = s.width } ∷ s.below
+bands s = record { key = s.key; members = s.members; width = s.width } ∷ s.below
 
 -- the row of the set and those of all sets inside it
 abbrev pub rows_of : NestValue → List Row
@@ -41,6 +43,7 @@ rows_of s = record { members = s.members; below = s.below; cells = s.near } ∷ 
 -- the same set with another width
 abbrev pub with_width : ℕ → NestValue → NestValue
 with_width w s = record {
+  key = s.key;
   members = s.members;
   width = w;
   near = s.near;
@@ -57,6 +60,11 @@ hit x y = cond (eqb x y) 1 0
 abbrev pub count : ℕ → List ℕ → ℕ
 count x [] = 0
 count x (y ∷ ys) = hit x y + count x ys
+
+-- how many of the sets stand under the key
+abbrev pub uses : ℕ → List Band → ℕ
+uses k [] = 0
+uses k (b ∷ bs) = hit k b.key + uses k bs
 
 -- the widths of the sets that hold the place
 abbrev pub height : ℕ → List Band → ℕ

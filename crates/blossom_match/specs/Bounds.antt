@@ -8,8 +8,7 @@ use Rattle.blossom_match.specs.Searches.{height_at, holding_both, outers, IsSear
 use Rattle.blossom_match.specs.TableValue.{TableValue}
 use Rattle.blossom_match.specs.Tables.{entry}
 use Rattle.blossom_match.specs.declared.nest.Link.{Link}
-use Rattle.blossom_match.specs.declared.branches.Branch.{Branch}
-use Rattle.blossom_match.specs.declared.search.Search.{Search}
+use Rattle.blossom_match.specs.Values.{BranchValue, SearchValue}
 use Rattle.blossom_match.specs.declared.search.Step.{Step}
 use Rattle.blossom_match.specs.declared.search.Step.TheVariants.{Meet, Grow, Shrink, Expand}
 use Rattle.blossom_match.specs.declared.least.Change.{Change}
@@ -23,67 +22,67 @@ step_of kind.Grow link = Grow link
 step_of kind.Shrink link = Shrink link
 
 -- how many of the sets hold both places
-abbrev pub holding : ℕ → ℕ → NestValue → List Branch → ℕ
+abbrev pub holding : ℕ → ℕ → NestValue → List BranchValue → ℕ
 holding a b root tree = both a b root + around a b tree
 
 -- the first branch's inner ring has that width
-abbrev pub FirstIsDue : ℕ → List Branch → Type 0
+abbrev pub FirstIsDue : ℕ → List BranchValue → Type 0
 FirstIsDue by [] = ⊥
 FirstIsDue by (b ∷ bs) = (b.inner.width ≡ by) × (0 < length b.inner.below)
 
 -- an inner ring is no narrower than the change
-abbrev pub RingIsWide : ℕ → Branch → Type 0
+abbrev pub RingIsWide : ℕ → BranchValue → Type 0
 RingIsWide by b = 0 < length b.inner.below → by ≤ b.inner.width
 
 -- the change is the width of an inner ring
-pub record RingIsDue (tree : List Branch) (c : Change) : Type 0 where
+pub record RingIsDue (tree : List BranchValue) (c : Change) : Type 0 where
   pub at : ℕ
   pub step : c.step ≡ Expand at
   pub due : FirstIsDue c.by (drop at tree)
 
 -- the change is the width of the branch's inner ring
-pub record IsWidthOf (b : Branch) (at : ℕ) (c : Change) : Type 0 where
+pub record IsWidthOf (b : BranchValue) (at : ℕ) (c : Change) : Type 0 where
   pub step : c.step ≡ Expand at
   pub wide : b.inner.width ≡ c.by
   pub some : 0 < length b.inner.below
 
 -- the lesser of a change and the width of the branch's inner ring
-pub record NarrowsAt (b : Branch) (at : ℕ) (old new : Change) : Type 0 where
+pub record NarrowsAt (b : BranchValue) (at : ℕ) (old new : Change) : Type 0 where
   pub less : new.by ≤ old.by
   pub wide : RingIsWide new.by b
   pub is : (new ≡ old) ⊎ IsWidthOf b at new
 
 -- the lesser of a change and the least width of an inner ring
-pub record Narrows (tree : List Branch) (old new : Change) : Type 0 where
+pub record Narrows (tree : List BranchValue) (old new : Change) : Type 0 where
   pub less : new.by ≤ old.by
   pub wide : Each (RingIsWide new.by) tree
   pub is : (new ≡ old) ⊎ RingIsDue tree new
 
 -- the step can be done after the change
-abbrev pub IsDue : TableValue → (ℕ → ℕ) → Search → ℕ → Step → Type 0
-IsDue t h s by (Meet link) = (1 ≤ count link.from (outers s)) × (1 ≤ count link.to s.free.items)
+abbrev pub IsDue : TableValue → (ℕ → ℕ) → SearchValue → ℕ → Step → Type 0
+IsDue t h s by (Meet link) = (1 ≤ count link.from (outers s)) × (1 ≤ count link.to s.free)
     × (h link.from + h link.to + by ≡ 2 * entry t link.from link.to)
 IsDue t h s by (Grow link) = (1 ≤ count link.from (outers s))
-    × (1 ≤ count link.to (couple_members s.rest.items))
+    × (1 ≤ count link.to (couple_members s.rest))
     × (h link.from + h link.to + by ≡ 2 * entry t link.from link.to)
 IsDue t h s by (Shrink link) =
     (1 ≤ count link.from (outers s)) × (1 ≤ count link.to (outers s))
     × (holding_both link.from link.to s ≡ 0)
     × (h link.from + h link.to + 2 * by ≡ 2 * entry t link.from link.to)
-IsDue t h s by (Expand at) = FirstIsDue by (drop at s.tree.items)
+IsDue t h s by (Expand at) = FirstIsDue by (drop at s.tree)
 
 -- the change leaves room between all places, and the step is due after it
-pub record Bounds (t : TableValue) (h : ℕ → ℕ) (s : Search) (c : Change) : Type 0 where
+pub record Bounds (t : TableValue) (h : ℕ → ℕ) (s : SearchValue) (c : Change) : Type 0 where
   pub one : (a b : ℕ) → 1 ≤ count a (outers s)
-      → 1 ≤ count b (couple_members s.rest.items) + count b s.free.items
+      → 1 ≤ count b (couple_members s.rest) + count b s.free
       → h a + h b + c.by ≤ 2 * entry t a b
   pub two : (a b : ℕ) → 1 ≤ count a (outers s) → 1 ≤ count b (outers s) → holding_both a b s ≡ 0
       → h a + h b + 2 * c.by ≤ 2 * entry t a b
-  pub rings : Each (RingIsWide c.by) s.tree.items
+  pub rings : Each (RingIsWide c.by) s.tree
   pub due : IsDue t h s c.by c.step
 
 -- a search that is not over
-pub record CanSearch (t : TableValue) (s : Search) : Type 0 where
+pub record CanSearch (t : TableValue) (s : SearchValue) : Type 0 where
   pub search : IsSearch t (height_at s) s
-  pub size : length s.heights.items ≡ t.places
-  pub some : 1 ≤ length s.free.items
+  pub size : length s.heights ≡ t.places
+  pub some : 1 ≤ length s.free

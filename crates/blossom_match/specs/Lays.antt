@@ -8,35 +8,33 @@ use Rattle.blossom_match.specs.Couples.{couple_members, couple_bands, IsJoined}
 use Rattle.blossom_match.specs.Sound.{IsFirm, IsFirmCouple, IsFirmPart, IsSound, IsSymmetric, IsTight}
 use Rattle.blossom_match.specs.Trees.{outer_members, inner_members, branch_bands, inner_bands, IsGrown}
 use Rattle.blossom_match.specs.declared.nest.Link.{Link}
-use Rattle.blossom_match.specs.declared.nest.Part.{Part}
-use Rattle.blossom_match.specs.declared.couples.Couple.{Couple}
-use Rattle.blossom_match.specs.declared.branches.Branch.{Branch}
+use Rattle.blossom_match.specs.Values.{BranchValue, CoupleValue, PartValue}
 
 -- a chain told from its end, before `told`; each part takes the link before it, from its other end
-abbrev pub told_back : Link → List Part → List Part → List Part
+abbrev pub told_back : Link → List PartValue → List PartValue → List PartValue
 told_back link [] told = told
 told_back link (p ∷ ps) told = told_back p.next ps
     (record { nest = p.nest; next = back_of link } ∷ told)
 
 -- the last link of a chain that begins with the link
-abbrev pub last_link : Link → List Part → Link
+abbrev pub last_link : Link → List PartValue → Link
 last_link link [] = link
 last_link link (p ∷ ps) = last_link p.next ps
 
 -- the ring told the other way round from the same first part
-abbrev pub mirror_of : List Part → List Part
+abbrev pub mirror_of : List PartValue → List PartValue
 mirror_of [] = []
 mirror_of (p ∷ ps) = record { nest = p.nest; next = back_of (last_link p.next ps) }
     ∷ told_back p.next ps []
 
 -- an even number of parts, and then one that holds the place
-abbrev pub EvenlyHolds : ℕ → List Part → Type 0
+abbrev pub EvenlyHolds : ℕ → List PartValue → Type 0
 EvenlyHolds x [] = ⊥
 EvenlyHolds x (p ∷ []) = 1 ≤ count x p.nest.members
 EvenlyHolds x (p ∷ q ∷ ps) = (1 ≤ count x p.nest.members) ⊎ EvenlyHolds x ps
 
 -- the ring as it is told from the part that is entered, an even way from the part that is left
-pub record GoesEvenly (entry exit : ℕ) (old new : List Part) : Type 0 where
+pub record GoesEvenly (entry exit : ℕ) (old new : List PartValue) : Type 0 where
   pub ring : IsRing new
   pub first : FirstHolds entry new
   pub last : EvenlyHolds exit new
@@ -46,12 +44,13 @@ pub record GoesEvenly (entry exit : ℕ) (old new : List Part) : Type 0 where
       → Each (IsFirmPart d h) new
 
 -- the way leads into the first part, and each link to the next
-abbrev pub WayInto : Link → List Part → Type 0
+abbrev pub WayInto : Link → List PartValue → Type 0
 WayInto way [] = ⊥
 WayInto way (p ∷ ps) = (count way.to p.nest.members ≡ 1) × Linked p ps
 
 -- a way from the tree into a ring, and a pair out of it
-pub record CanLay (root : NestValue) (tree : List Branch) (ring : List Part) (way pair : Link)
+pub record CanLay (root : NestValue) (tree : List BranchValue) (ring : List PartValue)
+    (way pair : Link)
     (outer : NestValue) : Type 0 where
   pub grown : IsGrown root.members tree
   pub from : 1 ≤ count way.from (outer_members root.members tree)
@@ -62,8 +61,9 @@ pub record CanLay (root : NestValue) (tree : List Branch) (ring : List Part) (wa
   pub once : (x : ℕ) → count x (members_in ring) ≤ 1
 
 -- the parts up to the pair's end are branches, and the rest are couples
-pub record Lays (root : NestValue) (old : List Branch) (ring : List Part) (way pair : Link)
-    (outer : NestValue) (new : List Branch) (cs : List Couple) : Type 0 where
+pub record Lays (root : NestValue) (old : List BranchValue) (ring : List PartValue)
+    (way pair : Link)
+    (outer : NestValue) (new : List BranchValue) (cs : List CoupleValue) : Type 0 where
   pub grown : IsGrown root.members new
   pub joined : Each IsJoined cs
   pub places : (x : ℕ) → count x (outer_members root.members new) + count x (inner_members new)
@@ -72,8 +72,8 @@ pub record Lays (root : NestValue) (old : List Branch) (ring : List Part) (way p
       + count x (members_in ring) + count x outer.members
   pub more : (x : ℕ) → count x (outer_members root.members old) + count x outer.members
       ≤ count x (outer_members root.members new)
-  pub added : List Branch
-  pub last : Branch
+  pub added : List BranchValue
+  pub last : BranchValue
   pub is : new ≡ old ++ (added ++ last ∷ [])
   pub same : last.outer ≡ outer
   pub sums : (F : List Band → ℕ) → Adds F → F (branch_bands new) + F (couple_bands cs)
@@ -85,30 +85,31 @@ pub record Lays (root : NestValue) (old : List Branch) (ring : List Part) (way p
       Each (IsFirm d h) new × Each (IsFirmCouple d h) cs
 
 -- the first branch has an inner ring without a width
-abbrev pub FirstComesApart : List Branch → Type 0
+abbrev pub FirstComesApart : List BranchValue → Type 0
 FirstComesApart [] = ⊥
 FirstComesApart (b ∷ bs) = (b.inner.width ≡ 0) × (0 < length b.inner.below)
 
 -- the inner set at the index is a ring without a width
-pub record Expanding (root : NestValue) (tree : List Branch) (at : ℕ) : Type 0 where
+pub record Expanding (root : NestValue) (tree : List BranchValue) (at : ℕ) : Type 0 where
   pub grown : IsGrown root.members tree
   pub once : (x : ℕ) → count x (outer_members root.members tree) + count x (inner_members tree) ≤ 1
   pub apart : FirstComesApart (drop at tree)
 
 -- branches are added before that at the index, whose outer set stays
-pub record GrowsAt (at : ℕ) (old new : List Branch) : Type 0 where
-  pub before : List Branch
-  pub branch : Branch
-  pub added : List Branch
-  pub last : Branch
-  pub later : List Branch
+pub record GrowsAt (at : ℕ) (old new : List BranchValue) : Type 0 where
+  pub before : List BranchValue
+  pub branch : BranchValue
+  pub added : List BranchValue
+  pub last : BranchValue
+  pub later : List BranchValue
   pub was : old ≡ before ++ branch ∷ later
   pub now : new ≡ before ++ (added ++ last ∷ later)
   pub same : last.outer ≡ branch.outer
   pub size : length before ≡ at
 
--- the parts of the inner set are branches and couples
-pub record Expands (root : NestValue) (old new : List Branch) (was now : List Couple) : Type 0 where
+-- the parts of the inner set under the key are branches and couples
+pub record Expands (key : ℕ) (root : NestValue) (old new : List BranchValue)
+    (was now : List CoupleValue) : Type 0 where
   pub grown : IsGrown root.members new
   pub joined : Each IsJoined was → Each IsJoined now
   pub places : (x : ℕ) → count x (outer_members root.members new) + count x (inner_members new)
@@ -117,7 +118,8 @@ pub record Expands (root : NestValue) (old new : List Branch) (was now : List Co
       + count x (couple_members was)
   pub ring : List ℕ
   pub sums : (F : List Band → ℕ) → Adds F → F (branch_bands new) + F (couple_bands now)
-      + F (record { members = ring; width = 0 } ∷ []) ≡ F (branch_bands old) + F (couple_bands was)
+      + F (record { key = key; members = ring; width = 0 } ∷ [])
+      ≡ F (branch_bands old) + F (couple_bands was)
   pub fewer : length (inner_bands new) + length (couple_bands now)
       < length (inner_bands old) + length (couple_bands was)
   pub firm : (d : TableValue) (h : ℕ → ℕ) → IsSymmetric d → Each (IsFirm d h) old

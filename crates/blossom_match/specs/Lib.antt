@@ -6,10 +6,10 @@ pub mod TableValue
 -- the rest is for the search alone
 pub mod Lists
 pub mod Bands
+pub mod Values
 pub mod Rows
 pub mod Rings
 pub mod RingRows
-pub mod Sizes
 pub mod Couples
 pub mod Opens
 pub mod Taken
@@ -22,6 +22,9 @@ pub mod Bounds
 pub mod Widths
 pub mod Reaches
 pub mod Aims
+pub mod Slots
+pub mod SlotProps
+pub mod States
 pub mod Phases
 pub mod Prices
 pub mod Heights

@@ -4,7 +4,7 @@ use Rattle.blossom_match.specs.TableValue.{TableValue}
 use Rattle.blossom_match.specs.Lists.{Each}
 use Rattle.blossom_match.specs.Bands.{Band, NestValue, Adds, bands, count, height, hit, IsPaid}
 use Rattle.blossom_match.specs.Couples.{couple_members, couple_bands, IsJoined, IsSettled}
-use Rattle.blossom_match.specs.declared.couples.Couple.{Couple}
+use Rattle.blossom_match.specs.Values.{CoupleValue}
 
 -- the sets of the part that is left; of a single place, none
 abbrev pub core_bands : Option NestValue → List Band
@@ -17,7 +17,7 @@ core_count left x None = hit x left
 core_count left x (Some s) = count x s.members
 
 -- the part that is left holds the place, and others hold some place
-abbrev pub CoreHolds : ℕ → Option NestValue → List Couple → Type 0
+abbrev pub CoreHolds : ℕ → Option NestValue → List CoupleValue → Type 0
 CoreHolds left None cs = Unit {0}
 CoreHolds left (Some s) cs = (count left s.members ≡ 1)
     × ((x : ℕ) × (1 ≤ count x (couple_members cs)))
@@ -27,11 +27,9 @@ abbrev pub CoreIsPaid : TableValue → Option NestValue → Type 0
 CoreIsPaid d None = Unit {0}
 CoreIsPaid d (Some s) = IsPaid d s.tolls
 
--- the shell, the part with the place that is left out, and the other parts in pairs
-pub record OpensAt (left : ℕ) (s : NestValue) (members : List ℕ) (width : ℕ)
-    (core : Option NestValue) (couples : List Couple) : Type 0 where
-  pub same : members ≡ s.members
-  pub wide : width ≡ s.width
+-- the part with the place that is left out, and the other parts in pairs
+pub record OpensAt (left : ℕ) (s : NestValue) (core : Option NestValue)
+    (couples : List CoupleValue) : Type 0 where
   pub odd : length s.members % 2 ≡ 1
   pub sums : (F : List Band → ℕ) → Adds F → F s.below
       ≡ F (core_bands core) + F (couple_bands couples)

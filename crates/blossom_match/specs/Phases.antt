@@ -6,44 +6,47 @@ use Rattle.blossom_match.specs.Bounds.{CanSearch}
 use Rattle.blossom_match.specs.Reaches.{SearchReaches}
 use Rattle.blossom_match.specs.TableValue.{TableValue}
 use Rattle.blossom_match.specs.Tables.{IsTable}
-use Rattle.blossom_match.specs.declared.couples.Couple.{Couple}
-use Rattle.blossom_match.specs.declared.search.Search.{Search}
+use Rattle.blossom_match.specs.Values.{CoupleValue, SearchValue}
+use Rattle.blossom_match.specs.Slots.{couples_in}
+use Rattle.blossom_match.specs.States.{search_value, standing_value}
 use Rattle.blossom_match.specs.declared.search.Step.{Step}
 use Rattle.blossom_match.specs.declared.phase.Stepped.{Stepped}
 use Rattle.blossom_match.specs.declared.phase.Stepped.TheVariants.{More, Done}
 
 -- couples and free places with the heights that they make
-pub record Stands (t : TableValue) (couples : List Couple) (free heights : List ℕ) : Type 0 where
-  pub standing : IsStanding t (λ x. slice_index heights x) couples free
-  pub size : length heights ≡ t.places
+pub record Stands (t : TableValue) (couples : List CoupleValue) (free heights : List ℕ) : Type 0
+  where
+    pub standing : IsStanding t (λ x. slice_index heights x) couples free
+    pub size : length heights ≡ t.places
 
 -- couples that hold all places
-pub record IsMatched (t : TableValue) (couples : List Couple) : Type 0 where
+pub record IsMatched (t : TableValue) (couples : List CoupleValue) : Type 0 where
   pub heights : List ℕ
   pub stands : Stands t couples [] heights
 
 -- the search of a single place
-pub record Begins (t : TableValue) (place : ℕ) (couples : List Couple) (places prices : List ℕ)
-    (s : Search) : Type 0 where
+pub record Begins (t : TableValue) (place : ℕ) (couples : List CoupleValue) (places prices : List ℕ)
+    (s : SearchValue) : Type 0 where
   pub table : IsTable t
-  pub root : s.root ≡ single_of t place (slice_index prices place)
-  pub heights : s.heights.items ≡ prices
-  pub tree : s.tree.items ≡ []
-  pub rest : s.rest.items ≡ couples
-  pub free : s.free.items ≡ places
+  pub root : s.root ≡ single_of s.root.key t place (slice_index prices place)
+  pub heights : s.heights ≡ prices
+  pub tree : s.tree ≡ []
+  pub rest : s.rest ≡ couples
+  pub free : s.free ≡ places
 
 -- what the step leads to
-abbrev pub Leads : TableValue → Search → Step → Stepped → Type 0
-Leads t s step (More r) = Advances s step r
-Leads t s step (Done r) = Ends t s step r
+abbrev pub Leads : TableValue → SearchValue → Step → Stepped → Type 0
+Leads t s step (More r) = Advances s step (search_value r)
+Leads t s step (Done r) = Ends t s step (standing_value r)
 
 -- a search with fewer sets outside the outer ones, or its end
-abbrev pub Goes : TableValue → Search → Stepped → Type 0
-Goes t s (More r) = CanSearch t r × (size_of r < size_of s) × (r.free.items ≡ s.free.items)
-Goes t s (Done r) = Stands t r.couples.items r.free.items r.heights.items
-    × (length r.free.items + 1 ≡ length s.free.items)
+abbrev pub Goes : TableValue → SearchValue → Stepped → Type 0
+Goes t s (More r) = CanSearch t (search_value r) × (size_of (search_value r) < size_of s)
+    × (r.free.items ≡ s.free)
+Goes t s (Done r) = Stands t (couples_in r.sets r.couples.items) r.free.items r.heights.items
+    × (length r.free.items + 1 ≡ length s.free)
 
 -- what is left for each place after the step
 abbrev pub StepReaches : TableValue → Stepped → List ℕ → Type 0
-StepReaches t (More r) reach = SearchReaches t r reach
+StepReaches t (More r) reach = SearchReaches t (search_value r) reach
 StepReaches t (Done r) reach = length reach ≡ t.places

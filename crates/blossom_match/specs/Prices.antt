@@ -4,7 +4,7 @@ use Rattle.blossom_match.specs.Bands.{count}
 use Rattle.blossom_match.specs.Phases.{Stands}
 use Rattle.blossom_match.specs.TableValue.{TableValue}
 use Rattle.blossom_match.specs.Tables.{entry}
-use Rattle.blossom_match.specs.declared.search.Standing.{Standing}
+use Rattle.blossom_match.specs.Values.{StandingValue}
 
 -- at the price there is room between the place and each other
 abbrev pub LeavesRoom : TableValue → List ℕ → ℕ → ℕ → Type 0
@@ -33,12 +33,12 @@ pub record FindsTight (t : TableValue) (heights free : List ℕ) (place other : 
   pub pair : IsTightPair t heights place other
 
 -- two free places whose prices use up their distance
-pub record CanPair (t : TableValue) (place other : ℕ) (s : Standing) : Type 0 where
-  pub stands : Stands t s.couples.items s.free.items s.heights.items
-  pub here : 1 ≤ count place s.free.items
-  pub found : FindsTight t s.heights.items s.free.items place other
+pub record CanPair (t : TableValue) (place other : ℕ) (s : StandingValue) : Type 0 where
+  pub stands : Stands t s.couples s.free s.heights
+  pub here : 1 ≤ count place s.free
+  pub found : FindsTight t s.heights s.free place other
 
 -- both places are in a couple
-pub record Pairs (t : TableValue) (s r : Standing) : Type 0 where
-  pub stands : Stands t r.couples.items r.free.items r.heights.items
-  pub fewer : length r.free.items + 2 ≡ length s.free.items
+pub record Pairs (t : TableValue) (s r : StandingValue) : Type 0 where
+  pub stands : Stands t r.couples r.free r.heights
+  pub fewer : length r.free + 2 ≡ length s.free

@@ -1,5 +1,5 @@
 -- How near the outer places are to each place, in halves of a step.
-use Rattle.std.specs.Prelude.{◌≡◌, ℕ, ◌-◌, ◌*◌, ◌<◌, ◌≤◌, ◌⊎◌, List, ◌∷◌, [], ◌++◌, length, slice_index}
+use Rattle.std.specs.Prelude.{◌≡◌, ℕ, ◌-◌, ◌*◌, ◌<◌, ◌≤◌, ◌⊎◌, List, ◌++◌, length, slice_index}
 use Rattle.blossom_match.specs.Lists.{Each}
 use Rattle.blossom_match.specs.Bands.{NestValue, count}
 use Rattle.blossom_match.specs.Sound.{IsFirm, IsSound}
@@ -8,8 +8,7 @@ use Rattle.blossom_match.specs.Bounds.{holding}
 use Rattle.blossom_match.specs.TableValue.{TableValue}
 use Rattle.blossom_match.specs.Tables.{entry}
 use Rattle.blossom_match.specs.declared.table.TheConstants.{FAR}
-use Rattle.blossom_match.specs.declared.branches.Branch.{Branch}
-use Rattle.blossom_match.specs.declared.search.Search.{Search}
+use Rattle.blossom_match.specs.Values.{BranchValue, SearchValue}
 
 -- what the height of a leaves for x
 abbrev pub left_by : TableValue → List ℕ → ℕ → ℕ → ℕ
@@ -33,7 +32,7 @@ pub record TakesSet (t : TableValue) (hs xs old new : List ℕ) : Type 0 where
       → (slice_index new x ≡ slice_index old x) ⊎ IsLeft t hs xs x (slice_index new x)
 
 -- an outer place that no outer set holds together with x leaves so much for it
-pub record IsReached (t : TableValue) (hs : List ℕ) (root : NestValue) (tree : List Branch)
+pub record IsReached (t : TableValue) (hs : List ℕ) (root : NestValue) (tree : List BranchValue)
     (x room : ℕ) : Type 0 where
   pub a : ℕ
   pub here : 1 ≤ count a (outer_members root.members tree)
@@ -41,7 +40,7 @@ pub record IsReached (t : TableValue) (hs : List ℕ) (root : NestValue) (tree :
   pub exact : room ≡ left_by t hs a x
 
 -- each cell has the least that the outer places of other sets leave
-pub record Reaches (t : TableValue) (hs : List ℕ) (root : NestValue) (tree : List Branch)
+pub record Reaches (t : TableValue) (hs : List ℕ) (root : NestValue) (tree : List BranchValue)
     (reach : List ℕ) : Type 0 where
   pub size : length reach ≡ t.places
   pub short : (x : ℕ) → x < t.places → slice_index reach x ≤ FAR
@@ -51,51 +50,46 @@ pub record Reaches (t : TableValue) (hs : List ℕ) (root : NestValue) (tree : L
       → (slice_index reach x ≡ FAR) ⊎ IsReached t hs root tree x (slice_index reach x)
 
 -- so has each cell over the sets of a search
-abbrev pub SearchReaches : TableValue → Search → List ℕ → Type 0
-SearchReaches t s reach = Reaches t s.heights.items s.root s.tree.items reach
+abbrev pub SearchReaches : TableValue → SearchValue → List ℕ → Type 0
+SearchReaches t s reach = Reaches t s.heights s.root s.tree reach
 
 -- heights for all places of the table, and different outer places
 pub record CanReach (t : TableValue) (hs : List ℕ) (root : NestValue)
-    (tree : List Branch) : Type 0 where
+    (tree : List BranchValue) : Type 0 where
   pub cells : length hs ≡ t.places
   pub within : (x : ℕ) → 1 ≤ count x (outer_members root.members tree) → x < t.places
   pub once : (x : ℕ) → count x (outer_members root.members tree) ≤ 1
 
 -- different outer places, and sound sets
 pub record CanTake (t : TableValue) (hs : List ℕ) (root : NestValue)
-    (tree : List Branch) : Type 0 where
+    (tree : List BranchValue) : Type 0 where
   pub once : (x : ℕ) → count x (outer_members root.members tree) ≤ 1
   pub sound : IsSound t (λ x. slice_index hs x) root
   pub firm : Each (IsFirm t (λ x. slice_index hs x)) tree
 
 -- so has a search
-abbrev pub CanTakeAll : TableValue → Search → Type 0
-CanTakeAll t s = CanTake t s.heights.items s.root s.tree.items
+abbrev pub CanTakeAll : TableValue → SearchValue → Type 0
+CanTakeAll t s = CanTake t s.heights s.root s.tree
 
 -- the set's row has n cells
 abbrev pub HasRow : ℕ → NestValue → Type 0
 HasRow n s = length s.near ≡ n
 
 -- so it has for some table, with a cell for each place
-pub record IsReachable (s : Search) (cells : List ℕ) : Type 0 where
+pub record IsReachable (s : SearchValue) (cells : List ℕ) : Type 0 where
   pub t : TableValue
   pub can : CanTakeAll t s
   pub size : length cells ≡ t.places
 
 -- the root and the outer sets are taken in
-abbrev pub ReachesOuters : NestValue → List Branch → List ℕ → Type 0
+abbrev pub ReachesOuters : NestValue → List BranchValue → List ℕ → Type 0
 ReachesOuters root tree new = (t : TableValue) (hs : List ℕ) → CanTake t hs root tree
     → length new ≡ t.places → Reaches t hs root tree new
 
 -- the outer sets of the branches are taken in beside those of others
-abbrev pub ReachesOn : List Branch → List ℕ → List ℕ → Type 0
-ReachesOn added old new = (t : TableValue) (hs : List ℕ) (root : NestValue) (tree : List Branch)
+abbrev pub ReachesOn : List BranchValue → List ℕ → List ℕ → Type 0
+ReachesOn added old new = (t : TableValue) (hs : List ℕ) (root : NestValue)
+    (tree : List BranchValue)
     → ((x : ℕ) → count x (outer_members root.members (tree ++ added)) ≤ 1)
     → Each (IsFirm t (λ x. slice_index hs x)) added → Reaches t hs root tree old
     → Reaches t hs root (tree ++ added) new
-
--- the newest branch's outer set is taken in
-abbrev pub ReachesMore : Search → List ℕ → List ℕ → Type 0
-ReachesMore s old new = (t : TableValue) (before : List Branch) (b : Branch) → CanTakeAll t s
-    → s.tree.items ≡ before ++ b ∷ [] → Reaches t s.heights.items s.root before old
-    → SearchReaches t s new

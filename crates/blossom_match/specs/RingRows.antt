@@ -6,36 +6,36 @@ use Rattle.blossom_match.specs.Bands.{NestValue, count}
 use Rattle.blossom_match.specs.Rows.{lowered}
 use Rattle.blossom_match.specs.Rings.{members_in, nest_of}
 use Rattle.blossom_match.specs.declared.table.TheConstants.{FAR}
-use Rattle.blossom_match.specs.declared.nest.Part.{Part}
+use Rattle.blossom_match.specs.Values.{PartValue}
 
 -- the least that the parts leave for x over their widths, FAR where there is none
-abbrev pub least_of : List Part → ℕ → ℕ
+abbrev pub least_of : List PartValue → ℕ → ℕ
 least_of [] x = FAR
 least_of (p ∷ ps) x = min (lowered p.nest.width (slice_index p.nest.near x)) (least_of ps x)
 
 -- the cell of a ring for x: its parts leave nothing for their own places
-abbrev pub ring_cell : List Part → ℕ → ℕ
+abbrev pub ring_cell : List PartValue → ℕ → ℕ
 ring_cell ps x = if nat_lt 0 (count x (members_in ps)) then FAR else least_of ps x
 
 -- the row of n cells of a ring, from those of its parts
-abbrev pub row_for : ℕ → List Part → List ℕ
+abbrev pub row_for : ℕ → List PartValue → List ℕ
 row_for n ps = map (ring_cell ps) (range_with_len 0 n)
 
 -- the row of a ring, as long as that of its first part
-abbrev pub ring_row : List Part → List ℕ
+abbrev pub ring_row : List PartValue → List ℕ
 ring_row [] = []
 ring_row (p ∷ ps) = row_for (length p.nest.near) (p ∷ ps)
 
 -- rows of n cells, and members below n
-pub record HaveRows (n : ℕ) (parts : List Part) : Type 0 where
-  pub rows : Each (λ (p : Part). length p.nest.near ≡ n) parts
+pub record HaveRows (n : ℕ) (parts : List PartValue) : Type 0 where
+  pub rows : Each (λ (p : PartValue). length p.nest.near ≡ n) parts
   pub within : (x : ℕ) → 1 ≤ count x (members_in parts) → x < n
 
 -- all rows are as long as the first
-abbrev pub RowsAgree : List Part → Type 0
+abbrev pub RowsAgree : List PartValue → Type 0
 RowsAgree [] = ⊥
 RowsAgree (p ∷ ps) = HaveRows (length p.nest.near) (p ∷ ps)
 
 -- the ring of the parts, without a width
-abbrev pub ring_of : List Part → NestValue
-ring_of parts = nest_of (members_in parts) 0 (ring_row parts) parts
+abbrev pub ring_of : ℕ → List PartValue → NestValue
+ring_of key parts = nest_of key (members_in parts) 0 (ring_row parts) parts

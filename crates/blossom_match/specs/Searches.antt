@@ -8,10 +8,7 @@ use Rattle.blossom_match.specs.Trees.{around, both, branch_bands, inner_bands, i
 use Rattle.blossom_match.specs.Lays.{FirstComesApart, GrowsAt}
 use Rattle.blossom_match.specs.TableValue.{TableValue}
 use Rattle.blossom_match.specs.Tables.{entry}
-use Rattle.blossom_match.specs.declared.couples.Couple.{Couple}
-use Rattle.blossom_match.specs.declared.branches.Branch.{Branch}
-use Rattle.blossom_match.specs.declared.search.Search.{Search}
-use Rattle.blossom_match.specs.declared.search.Standing.{Standing}
+use Rattle.blossom_match.specs.Values.{BranchValue, CoupleValue, SearchValue, StandingValue}
 use Rattle.blossom_match.specs.declared.search.Step.{Step}
 use Rattle.blossom_match.specs.declared.search.Step.TheVariants.{Meet, Grow, Shrink, Expand}
 
@@ -26,7 +23,7 @@ FreeHaveRoom t h free = (a f : ℕ) → a < t.places → 1 ≤ count f free → 
 
 -- all places that are in couples or free; h is the heights that the couples make, and the
 -- prices of the free places
-pub record IsStanding (t : TableValue) (h : ℕ → ℕ) (couples : List Couple)
+pub record IsStanding (t : TableValue) (h : ℕ → ℕ) (couples : List CoupleValue)
     (free : List ℕ) : Type 0 where
   pub tall : (x : ℕ) → count x free ≡ 0 → h x ≡ height x (couple_bands couples)
   pub room : FreeHaveRoom t h free
@@ -37,84 +34,84 @@ pub record IsStanding (t : TableValue) (h : ℕ → ℕ) (couples : List Couple)
       → load a b (couple_bands couples) ≤ 2 * entry t a b
 
 -- the places of the root and of the outer sets of a search
-abbrev pub outers : Search → List ℕ
-outers s = outer_members s.root.members s.tree.items
+abbrev pub outers : SearchValue → List ℕ
+outers s = outer_members s.root.members s.tree
 
 -- the widths of all sets of the search that hold the place
-abbrev pub height_of : Search → ℕ → ℕ
-height_of s x = height x (bands s.root) + height x (branch_bands s.tree.items)
-    + height x (couple_bands s.rest.items)
+abbrev pub height_of : SearchValue → ℕ → ℕ
+height_of s x = height x (bands s.root) + height x (branch_bands s.tree)
+    + height x (couple_bands s.rest)
 
 -- the height of the place that the search keeps
-abbrev pub height_at : Search → ℕ → ℕ
-height_at s x = slice_index s.heights.items x
+abbrev pub height_at : SearchValue → ℕ → ℕ
+height_at s x = slice_index s.heights x
 
 -- the search tree, the couples beside it and the free places; h is the heights that all sets make,
 -- and the prices of the free places
-pub record IsSearch (t : TableValue) (h : ℕ → ℕ) (s : Search) : Type 0 where
-  pub tall : (x : ℕ) → count x s.free.items ≡ 0 → h x ≡ height_of s x
-  pub room : FreeHaveRoom t h s.free.items
-  pub places : (x : ℕ) → count x (outers s) + count x (inner_members s.tree.items)
-      + count x (couple_members s.rest.items) + count x s.free.items ≡ is_place t x
-  pub grown : IsGrown s.root.members s.tree.items
-  pub joined : Each IsJoined s.rest.items
+pub record IsSearch (t : TableValue) (h : ℕ → ℕ) (s : SearchValue) : Type 0 where
+  pub tall : (x : ℕ) → count x s.free ≡ 0 → h x ≡ height_of s x
+  pub room : FreeHaveRoom t h s.free
+  pub places : (x : ℕ) → count x (outers s) + count x (inner_members s.tree)
+      + count x (couple_members s.rest) + count x s.free ≡ is_place t x
+  pub grown : IsGrown s.root.members s.tree
+  pub joined : Each IsJoined s.rest
   pub root : IsSound t h s.root
-  pub tree : Each (IsFirm t h) s.tree.items
-  pub rest : Each (IsFirmCouple t h) s.rest.items
+  pub tree : Each (IsFirm t h) s.tree
+  pub rest : Each (IsFirmCouple t h) s.rest
   pub loads : (a b : ℕ) → a < t.places → b < t.places → a ≢ b →
-      load a b (bands s.root) + load a b (branch_bands s.tree.items)
-      + load a b (couple_bands s.rest.items) ≤ 2 * entry t a b
+      load a b (bands s.root) + load a b (branch_bands s.tree)
+      + load a b (couple_bands s.rest) ≤ 2 * entry t a b
 
 -- how many outer sets hold both places
-abbrev pub holding_both : ℕ → ℕ → Search → ℕ
-holding_both a b s = both a b s.root + around a b s.tree.items
+abbrev pub holding_both : ℕ → ℕ → SearchValue → ℕ
+holding_both a b s = both a b s.root + around a b s.tree
 
 -- the step can be done
-abbrev pub IsReady : TableValue → (ℕ → ℕ) → Search → Step → Type 0
-IsReady t h s (Meet link) = (1 ≤ count link.from (outers s)) × (1 ≤ count link.to s.free.items)
+abbrev pub IsReady : TableValue → (ℕ → ℕ) → SearchValue → Step → Type 0
+IsReady t h s (Meet link) = (1 ≤ count link.from (outers s)) × (1 ≤ count link.to s.free)
     × IsTight t h link
 IsReady t h s (Grow link) = (1 ≤ count link.from (outers s))
-    × (1 ≤ count link.to (couple_members s.rest.items)) × IsTight t h link
+    × (1 ≤ count link.to (couple_members s.rest)) × IsTight t h link
 IsReady t h s (Shrink link) =
     (1 ≤ count link.from (outers s)) × (1 ≤ count link.to (outers s))
     × (holding_both link.from link.to s ≡ 0) × IsTight t h link
-IsReady t h s (Expand at) = FirstComesApart (drop at s.tree.items)
+IsReady t h s (Expand at) = FirstComesApart (drop at s.tree)
 
 -- a search at which the step can be done
-pub record CanStepAt (t : TableValue) (s : Search) (step : Step) : Type 0 where
+pub record CanStepAt (t : TableValue) (s : SearchValue) (step : Step) : Type 0 where
   pub search : IsSearch t (height_at s) s
   pub ready : IsReady t (height_at s) s step
-  pub size : length s.heights.items ≡ t.places
+  pub size : length s.heights ≡ t.places
 
 -- so it is over some table
-pub record CanStep (s : Search) (step : Step) : Type 0 where
+pub record CanStep (s : SearchValue) (step : Step) : Type 0 where
   pub t : TableValue
   pub can : CanStepAt t s step
 
 -- the number that falls with each step: the sets that are in no outer set
-abbrev pub size_of : Search → ℕ
-size_of s = length (inner_bands s.tree.items) + length (couple_bands s.rest.items)
+abbrev pub size_of : SearchValue → ℕ
+size_of s = length (inner_bands s.tree) + length (couple_bands s.rest)
 
 -- the step leads to a search again
-pub record Advances (s : Search) (step : Step) (r : Search) : Type 0 where
+pub record Advances (s : SearchValue) (step : Step) (r : SearchValue) : Type 0 where
   pub search : (t : TableValue) (h : ℕ → ℕ) → IsSearch t h s → IsReady t h s step → IsSearch t h r
   pub fewer : size_of r < size_of s
-  pub free : r.free.items ≡ s.free.items
-  pub heights : r.heights.items ≡ s.heights.items
+  pub free : r.free ≡ s.free
+  pub heights : r.heights ≡ s.heights
 
 -- branches more before that at the index, below the same root
-pub record ComesApart (at : ℕ) (s r : Search) : Type 0 where
-  pub grows : GrowsAt at s.tree.items r.tree.items
+pub record ComesApart (at : ℕ) (s r : SearchValue) : Type 0 where
+  pub grows : GrowsAt at s.tree r.tree
   pub root : r.root ≡ s.root
 
 -- a branch more, below the same root
-pub record HangsOn (s r : Search) : Type 0 where
-  pub branch : Branch
-  pub tree : r.tree.items ≡ s.tree.items ++ branch ∷ []
+pub record HangsOn (s r : SearchValue) : Type 0 where
+  pub branch : BranchValue
+  pub tree : r.tree ≡ s.tree ++ branch ∷ []
   pub root : r.root ≡ s.root
 
 -- the step ends the search
-pub record Ends (t : TableValue) (s : Search) (step : Step) (r : Standing) : Type 0 where
-  pub standing : IsStanding t (height_at s) r.couples.items r.free.items
-  pub fewer : length r.free.items + 1 ≡ length s.free.items
-  pub heights : r.heights.items ≡ s.heights.items
+pub record Ends (t : TableValue) (s : SearchValue) (step : Step) (r : StandingValue) : Type 0 where
+  pub standing : IsStanding t (height_at s) r.couples r.free
+  pub fewer : length r.free + 1 ≡ length s.free
+  pub heights : r.heights ≡ s.heights

@@ -3,38 +3,32 @@ use Rattle.std.specs.Prelude.{◌≡◌, ℕ, ◌+◌, ◌*◌, ◌%◌, ◌<◌
 use Rattle.blossom_match.specs.TableValue.{TableValue}
 use Rattle.blossom_match.specs.Lists.{Each}
 use Rattle.blossom_match.specs.Bands.{Adds, Band, NestValue, bands, count}
-use Rattle.blossom_match.specs.Rings.{back_of, members_in, bands_in, AllKept}
+use Rattle.blossom_match.specs.Rings.{members_in, bands_in, AllKept}
 use Rattle.blossom_match.specs.RingRows.{ring_of, HaveRows}
 use Rattle.blossom_match.specs.Sound.{IsFirm, IsFirmPart, IsSound, IsSymmetric, IsTight}
 use Rattle.blossom_match.specs.Trees.{around, both, branch_bands, inner_bands, outer_members, inner_members, IsGrown}
 use Rattle.blossom_match.specs.declared.nest.Link.{Link}
-use Rattle.blossom_match.specs.declared.nest.Part.{Part}
-use Rattle.blossom_match.specs.declared.branches.Branch.{Branch}
+use Rattle.blossom_match.specs.Values.{BranchValue, PartValue}
 
 -- a way in, a chain of parts, and the place that its last link leads to
-abbrev pub Leads : Link → List Part → ℕ → Type 0
+abbrev pub Leads : Link → List PartValue → ℕ → Type 0
 Leads way [] to = way.to ≡ to
 Leads way (p ∷ ps) to = (count way.to p.nest.members ≡ 1) × (count p.next.from p.nest.members ≡ 1)
     × Leads p.next ps to
 
 -- a part and a branch by their fields
-abbrev pub part_of : NestValue → Link → Part
+abbrev pub part_of : NestValue → Link → PartValue
 part_of s link = record { nest = s; next = link }
 
-abbrev pub branch_of : Link → NestValue → Link → NestValue → Branch
+abbrev pub branch_of : Link → NestValue → Link → NestValue → BranchValue
 branch_of up inner pair outer = record { up = up; inner = inner; pair = pair; outer = outer }
 
--- the chain with an outer and an inner set behind it
-abbrev pub chained_back : List Part → NestValue → Link → NestValue → Link → List Part
-chained_back chain outer pair inner up = (chain ++ part_of outer (back_of pair) ∷ [])
-    ++ part_of inner (back_of up) ∷ []
-
 -- the set that the set at the top and the chain make
-abbrev pub ring_value : NestValue → Link → List Part → NestValue
-ring_value top way chain = ring_of (record { nest = top; next = way } ∷ chain)
+abbrev pub ring_value : ℕ → NestValue → Link → List PartValue → NestValue
+ring_value key top way chain = ring_of key (record { nest = top; next = way } ∷ chain)
 
 -- a chain that begins and ends at the set at the top
-pub record Closable (top : NestValue) (way : Link) (chain : List Part) (to : ℕ) : Type 0 where
+pub record Closable (top : NestValue) (way : Link) (chain : List PartValue) (to : ℕ) : Type 0 where
   pub leads : Leads way chain to
   pub from : count way.from top.members ≡ 1
   pub back : count to top.members ≡ 1
@@ -44,7 +38,7 @@ pub record Closable (top : NestValue) (way : Link) (chain : List Part) (to : ℕ
   pub rows : HaveRows (length top.near) (record { nest = top; next = way } ∷ chain)
 
 -- a tight link between places of two outer sets of a sound tree
-pub record Shrinking (link : Link) (root : NestValue) (tree : List Branch) : Type 0 where
+pub record Shrinking (link : Link) (root : NestValue) (tree : List BranchValue) : Type 0 where
   pub grown : IsGrown root.members tree
   pub from : 1 ≤ count link.from (outer_members root.members tree)
   pub to : 1 ≤ count link.to (outer_members root.members tree)
@@ -59,23 +53,26 @@ pub record Shrinking (link : Link) (root : NestValue) (tree : List Branch) : Typ
   pub sound : IsSound t h root
   pub firm : Each (IsFirm t h) tree
 
--- the ring that the link closes is one outer set, without a width
-pub record Shrinks (link : Link) (root new_root : NestValue) (old new : List Branch) : Type 0 where
+-- the ring that the link closes is one outer set under the key, without a width
+pub record Shrinks (key : ℕ) (link : Link) (root new_root : NestValue)
+    (old new : List BranchValue) : Type 0 where
   pub grown : IsGrown new_root.members new
   pub places : (x : ℕ) → count x (outer_members new_root.members new) + count x (inner_members new)
       ≡ count x (outer_members root.members old) + count x (inner_members old)
   pub ring : List ℕ
   pub sums : (F : List Band → ℕ) → Adds F →
       F (bands new_root) + F (branch_bands new)
-      ≡ F (bands root) + F (branch_bands old) + F (record { members = ring; width = 0 } ∷ [])
+      ≡ F (bands root) + F (branch_bands old)
+      + F (record { key = key; members = ring; width = 0 } ∷ [])
   pub fewer : length (inner_bands new) < length (inner_bands old)
   pub firm : (d : TableValue) (h : ℕ → ℕ) → IsSymmetric d → IsTight d h link → IsSound d h root
       → Each (IsFirm d h) old →
       IsSound d h new_root × Each (IsFirm d h) new
 
 -- the tree that is left, the chain so far and the branches set aside
-pub record Chaining (link : Link) (root : NestValue) (tree left : List Branch) (chain : List Part)
-    (aside : List Branch) (way : Link) (to : ℕ) : Type 0 where
+pub record Chaining (link : Link) (root : NestValue) (tree left : List BranchValue)
+    (chain : List PartValue)
+    (aside : List BranchValue) (way : Link) (to : ℕ) : Type 0 where
   pub grown : IsGrown root.members left
   pub leads : Leads way chain to
   pub from : 1 ≤ count way.from (outer_members root.members left)

@@ -6,9 +6,7 @@ use Rattle.blossom_match.specs.Lists.{Each}
 use Rattle.blossom_match.specs.Bands.{NestValue, bands, count, height, rows_of, Kept, IsPaid}
 use Rattle.blossom_match.specs.Rows.{IsNear}
 use Rattle.blossom_match.specs.declared.nest.Link.{Link}
-use Rattle.blossom_match.specs.declared.nest.Part.{Part}
-use Rattle.blossom_match.specs.declared.couples.Couple.{Couple}
-use Rattle.blossom_match.specs.declared.branches.Branch.{Branch}
+use Rattle.blossom_match.specs.Values.{BranchValue, CoupleValue, PartValue}
 
 -- the distance does not depend on the order of the places
 abbrev pub IsSymmetric : TableValue → Type 0
@@ -28,18 +26,18 @@ pub record IsSound (d : TableValue) (h : ℕ → ℕ) (s : NestValue) : Type 0 w
   pub even : (x y : ℕ) → 1 ≤ count x s.members → 1 ≤ count y s.members → (h x + h y) % 2 ≡ 0
 
 -- a sound set and a tight link to the part after it
-pub record IsFirmPart (d : TableValue) (h : ℕ → ℕ) (p : Part) : Type 0 where
+pub record IsFirmPart (d : TableValue) (h : ℕ → ℕ) (p : PartValue) : Type 0 where
   pub next : IsTight d h p.next
   pub nest : IsSound d h p.nest
 
 -- two sound sets and a tight link
-pub record IsFirmCouple (d : TableValue) (h : ℕ → ℕ) (c : Couple) : Type 0 where
+pub record IsFirmCouple (d : TableValue) (h : ℕ → ℕ) (c : CoupleValue) : Type 0 where
   pub link : IsTight d h c.link
   pub first : IsSound d h c.first
   pub second : IsSound d h c.second
 
 -- two sound sets and two tight links
-pub record IsFirm (d : TableValue) (h : ℕ → ℕ) (b : Branch) : Type 0 where
+pub record IsFirm (d : TableValue) (h : ℕ → ℕ) (b : BranchValue) : Type 0 where
   pub up : IsTight d h b.up
   pub pair : IsTight d h b.pair
   pub inner : IsSound d h b.inner

@@ -7,7 +7,7 @@ use Rattle.blossom_match.specs.TableValue.{TableValue}
 use Rattle.blossom_match.specs.Matchings.{cost_of, ends_at, load_on, width_of, AreLaminar}
 use Rattle.blossom_match.specs.declared.matching.Moat.{Moat}
 use Rattle.blossom_match.specs.declared.matching.Pair.{Pair}
-use Rattle.blossom_match.specs.declared.couples.Couple.{Couple}
+use Rattle.blossom_match.specs.Values.{CoupleValue}
 
 -- a moat for the set, unless its width is 0
 abbrev pub own_moat : List ℕ → ℕ → List Moat
@@ -38,7 +38,7 @@ pub record TakesNest (left : ℕ) (s : NestValue) (old new : List Pair)
   pub lie : LieIn s.members moats
 
 -- the pairs of the couples and inside them, and their moats
-pub record TakesCouples (cs : List Couple) (old new : List Pair)
+pub record TakesCouples (cs : List CoupleValue) (old new : List Pair)
     (was now : List Moat) : Type 0 where
   pub paid : (t : TableValue) → Each (IsSettled t) cs → 2 * cost_of t new
       ≡ 2 * cost_of t old + total (couple_bands cs)
@@ -50,7 +50,7 @@ pub record TakesCouples (cs : List Couple) (old new : List Pair)
   pub lie : LieIn (couple_members cs) moats
 
 -- so far, with the couples that are left
-pub record Taking (all left : List Couple) (old now : List Pair)
+pub record Taking (all left : List CoupleValue) (old now : List Pair)
     (was so_far : List Moat) : Type 0 where
   pub joined : Each IsJoined left
   pub once : (x : ℕ) → count x (couple_members all) ≤ 1

@@ -7,31 +7,34 @@ use Rattle.blossom_match.specs.Rings.{back_of}
 use Rattle.blossom_match.specs.Couples.{couple_members, couple_bands, IsJoined}
 use Rattle.blossom_match.specs.Sound.{IsTight, IsSound, IsFirm, IsFirmCouple}
 use Rattle.blossom_match.specs.declared.nest.Link.{Link}
-use Rattle.blossom_match.specs.declared.couples.Couple.{Couple}
-use Rattle.blossom_match.specs.declared.branches.Branch.{Branch}
+use Rattle.blossom_match.specs.Values.{BranchValue, CoupleValue}
 
 -- the places of the root and of the outer sets
-abbrev pub outer_members : List ℕ → List Branch → List ℕ
+abbrev pub outer_members : List ℕ → List BranchValue → List ℕ
 outer_members places [] = places
 outer_members places (b ∷ bs) = b.outer.members ++ outer_members places bs
 
 -- the places of the inner sets
-abbrev pub inner_members : List Branch → List ℕ
+abbrev pub inner_members : List BranchValue → List ℕ
 inner_members [] = []
 inner_members (b ∷ bs) = b.inner.members ++ inner_members bs
 
 -- the branches' sets and all sets inside them
-abbrev pub branch_bands : List Branch → List Band
+abbrev pub branch_bands : List BranchValue → List Band
 branch_bands [] = []
 branch_bands (b ∷ bs) = bands b.inner ++ (bands b.outer ++ branch_bands bs)
 
 -- the inner sets and all sets inside them
-abbrev pub inner_bands : List Branch → List Band
+abbrev pub inner_bands : List BranchValue → List Band
 inner_bands [] = []
 inner_bands (b ∷ bs) = bands b.inner ++ inner_bands bs
 
+-- all sets of a search
+abbrev pub all_bands : NestValue → List BranchValue → List CoupleValue → List Band
+all_bands root tree rest = bands root ++ (branch_bands tree ++ couple_bands rest)
+
 -- places is what the outer sets before hold
-abbrev pub IsGrown : List ℕ → List Branch → Type 0
+abbrev pub IsGrown : List ℕ → List BranchValue → Type 0
 IsGrown places [] = Unit {0}
 IsGrown places (b ∷ bs) =
     (1 ≤ count b.up.from places) × (count b.up.to b.inner.members ≡ 1)
@@ -43,13 +46,13 @@ abbrev pub both : ℕ → ℕ → NestValue → ℕ
 both a b s = min (count a s.members) (count b s.members)
 
 -- how many outer sets of the branches hold both places
-abbrev pub around : ℕ → ℕ → List Branch → ℕ
+abbrev pub around : ℕ → ℕ → List BranchValue → ℕ
 around a b [] = 0
 around a b (c ∷ cs) = both a b c.outer + around a b cs
 
 -- the hand: a set and a link to it from an outer set
 pub record Augmenting (met : NestValue) (link : Link) (root : NestValue)
-    (tree : List Branch) : Type 0 where
+    (tree : List BranchValue) : Type 0 where
   pub grown : IsGrown root.members tree
   pub from : 1 ≤ count link.from (outer_members root.members tree)
   pub to : count link.to met.members ≡ 1
@@ -57,8 +60,8 @@ pub record Augmenting (met : NestValue) (link : Link) (root : NestValue)
       + count x (inner_members tree) ≤ 1
 
 -- all sets of the tree and the hand in pairs, with the pairs of before
-pub record Augments (root met : NestValue) (link : Link) (tree : List Branch)
-    (old new : List Couple) : Type 0 where
+pub record Augments (root met : NestValue) (link : Link) (tree : List BranchValue)
+    (old new : List CoupleValue) : Type 0 where
   pub joined : Each IsJoined old → Each IsJoined new
   pub firm : (d : TableValue) (h : ℕ → ℕ) → IsTight d h link → IsSound d h root → IsSound d h met
       → Each (IsFirm d h) tree →
@@ -71,16 +74,16 @@ pub record Augments (root met : NestValue) (link : Link) (tree : List Branch)
       + F (branch_bands tree)
 
 -- the couple hung below an outer set by the link
-abbrev pub hung_by : Link → Couple → Branch
+abbrev pub hung_by : Link → CoupleValue → BranchValue
 hung_by up c =
     if nat_lt 0 (count up.to c.first.members)
     then record { up = up; inner = c.first; pair = c.link; outer = c.second }
     else record { up = up; inner = c.second; pair = back_of c.link; outer = c.first }
 
 -- one couple leaves the list
-pub record TakesOut (place : ℕ) (old new : List Couple) (c : Couple) : Type 0 where
-  pub before : List Couple
-  pub after : List Couple
+pub record TakesOut (place : ℕ) (old new : List CoupleValue) (c : CoupleValue) : Type 0 where
+  pub before : List CoupleValue
+  pub after : List CoupleValue
   pub was : old ≡ before ++ c ∷ after
   pub now : new ≡ before ++ after
   pub here : 1 ≤ count place c.first.members + count place c.second.members

@@ -7,12 +7,12 @@ use Rattle.blossom_match.specs.Searches.{height_at, size_of, IsReady, IsSearch}
 use Rattle.blossom_match.specs.Bounds.{Bounds, CanSearch}
 use Rattle.blossom_match.specs.TableValue.{TableValue}
 use Rattle.blossom_match.specs.Tables.{IsMetric}
+use Rattle.blossom_match.specs.Values.{BranchValue, SearchValue}
 use Rattle.blossom_match.specs.declared.branches.Branch.{Branch}
-use Rattle.blossom_match.specs.declared.search.Search.{Search}
 use Rattle.blossom_match.specs.declared.least.Change.{Change}
 
 -- the branch with a wider outer set and a narrower inner one
-abbrev pub changed_by : ℕ → Branch → Branch
+abbrev pub changed_by : ℕ → BranchValue → BranchValue
 changed_by by b = record {
   up = b.up;
   inner = with_width (b.inner.width - by) b.inner;
@@ -22,24 +22,37 @@ changed_by by b = record {
 }
 
 -- all branches so
-abbrev pub all_changed : ℕ → List Branch → List Branch
+abbrev pub all_changed : ℕ → List BranchValue → List BranchValue
 all_changed by [] = []
 all_changed by (b ∷ bs) = changed_by by b ∷ all_changed by bs
 
 -- the outer set has room for the change, and the inner set has its width
-pub record CanChange (by : ℕ) (b : Branch) : Type 0 where
+pub record CanChange (by : ℕ) (b : BranchValue) : Type 0 where
+  pub room : b.outer.width + by < 2 ^ 32
+  pub wide : by ≤ b.inner.width
+
+-- so for the seats of a branch
+abbrev pub resized : ℕ → Branch → Branch
+resized by b = record {
+  up = b.up;
+  inner = record { key = b.inner.key; width = b.inner.width - by };
+  pair = b.pair;
+  outer = record { key = b.outer.key; width = b.outer.width + by };
+}
+
+pub record CanResize (by : ℕ) (b : Branch) : Type 0 where
   pub room : b.outer.width + by < 2 ^ 32
   pub wide : by ≤ b.inner.width
 
 -- the heights of outer places rise, and those of inner places fall
-abbrev pub Moves : ℕ → NestValue → List Branch → List ℕ → List ℕ → Type 0
+abbrev pub Moves : ℕ → NestValue → List BranchValue → List ℕ → List ℕ → Type 0
 Moves by root tree old new =
     (x : ℕ) → slice_index new x + by * count x (inner_members tree)
     ≡ slice_index old x + by * count x (outer_members root.members tree)
 
 -- each place of the tree has a cell, that of an outer set has room for the change, and that of an
 -- inner set has its height
-pub record CanChangeHeights (by : ℕ) (root : NestValue) (tree : List Branch)
+pub record CanChangeHeights (by : ℕ) (root : NestValue) (tree : List BranchValue)
     (heights : List ℕ) : Type 0 where
   pub cells : HasCells (λ x. count x (outer_members root.members tree)
       + count x (inner_members tree)) heights
@@ -47,30 +60,30 @@ pub record CanChangeHeights (by : ℕ) (root : NestValue) (tree : List Branch)
   pub fall : CanFall (λ x. by * count x (inner_members tree)) heights
 
 -- the search with all its widths changed
-pub record Changes (by : ℕ) (s r : Search) : Type 0 where
-  pub heights : Moves by s.root s.tree.items s.heights.items r.heights.items
-  pub size : length r.heights.items ≡ length s.heights.items
+pub record Changes (by : ℕ) (s r : SearchValue) : Type 0 where
+  pub heights : Moves by s.root s.tree s.heights r.heights
+  pub size : length r.heights ≡ length s.heights
   pub root : r.root ≡ with_width (s.root.width + by) s.root
-  pub tree : r.tree.items ≡ all_changed by s.tree.items
-  pub rest : r.rest.items ≡ s.rest.items
-  pub free : r.free.items ≡ s.free.items
+  pub tree : r.tree ≡ all_changed by s.tree
+  pub rest : r.rest ≡ s.rest
+  pub free : r.free ≡ s.free
 
 -- a search at which the change leaves room between all places
-pub record CanWiden (s : Search) (c : Change) : Type 0 where
+pub record CanWiden (s : SearchValue) (c : Change) : Type 0 where
   pub t : TableValue
   pub metric : IsMetric t
   pub can : CanSearch t s
   pub bounds : Bounds t (height_at s) s c
 
 -- a search with other heights at which the step can be done
-pub record StepsOn (t : TableValue) (c : Change) (r : Search) : Type 0 where
+pub record StepsOn (t : TableValue) (c : Change) (r : SearchValue) : Type 0 where
   pub search : IsSearch t (height_at r) r
   pub ready : IsReady t (height_at r) r c.step
-  pub size : length r.heights.items ≡ t.places
+  pub size : length r.heights ≡ t.places
 
 -- after the change the step can be done
-pub record Widens (s : Search) (c : Change) (r : Search) : Type 0 where
+pub record Widens (s : SearchValue) (c : Change) (r : SearchValue) : Type 0 where
   pub search : (t : TableValue) → IsMetric t → CanSearch t s → Bounds t (height_at s) s c
       → StepsOn t c r
   pub size : size_of r ≡ size_of s
-  pub free : r.free.items ≡ s.free.items
+  pub free : r.free ≡ s.free

@@ -1,38 +1,46 @@
 ghost use Rattle.std.specs.Prelude.{◌≡◌, ◌≤◌, ◌++◌, ◌∷◌, [], reverse, OnOk};
+ghost use Rattle.blossom_match.specs.Slots.{branch_in, branches_in, couple_in, couples_in, set_in};
 ghost use Rattle.blossom_match.specs.Trees.{Augmenting, Augments, hung_by};
 
 use crate::couples::Couple;
-use crate::nest::{Link, Nest};
+use crate::nest::{Link, Seat, Slot};
 use design_model::Memory;
+use slab::Slab;
 
 /// An inner set below an outer one, and the outer set that it is paired with. The link `up` leads
 /// from an earlier outer set to the inner set, and `pair` from the inner set to its partner.
-#[derive(Drop)]
+#[derive(Clone, Copy, Drop)]
 pub struct Branch {
     pub up: Link,
-    pub inner: Nest,
+    pub inner: Seat,
     pub pair: Link,
-    pub outer: Nest,
+    pub outer: Seat,
 }
 
 /// Hangs a couple below the outer set that the link comes from.
-pub fn grow(tree: &mut Vec<Branch>, up: Link, couple: Couple) -> Result<(), Memory>
-    ensures { OnOk result (tree.new.items ≡ tree.old.items ++ hung_by up couple ∷ []) }
+pub fn grow(
+    sets: &Slab<Slot>,
+    tree: &mut Vec<Branch>,
+    up: Link,
+    couple: Couple,
+) -> Result<(), Memory>
+    ensures { OnOk result (branches_in sets.now tree.new.items
+        ≡ branches_in sets.now tree.old.items ++ hung_by up (couple_in sets.now couple) ∷ []) }
 {
-    let branch = hung(up, couple);
+    let branch = hung(sets, up, couple);
     tree.push(branch)?;
     Ok(())
 }
 
-fn hung(up: Link, couple: Couple) -> Branch
-    ensures { result ≡ hung_by up couple }
+fn hung(sets: &Slab<Slot>, up: Link, couple: Couple) -> Branch
+    ensures { branch_in sets.now result ≡ hung_by up (couple_in sets.now couple) }
 {
     let Couple {
         first,
         second,
         link,
     } = couple;
-    if first.holds(up.to) {
+    if first.holds(sets, up.to) {
         Branch {
             up,
             inner: first,
@@ -51,38 +59,36 @@ fn hung(up: Link, couple: Couple) -> Branch
 
 /// Pairs along the way from the link to the root, so that each branch becomes a couple.
 pub fn augment(
-    root: Nest,
+    sets: &Slab<Slot>,
+    root: Seat,
     tree: Vec<Branch>,
     link: Link,
-    met: Nest,
+    met: Seat,
     rest: &mut Vec<Couple>,
 ) -> Result<(), Memory>
-    requires { Augmenting met link root tree.items }
-    ensures { OnOk result (Augments root met link tree.items rest.old.items rest.new.items) }
+    requires { Augmenting (set_in sets.now met) link (set_in sets.now root)
+        (branches_in sets.now tree.items) }
+    ensures { OnOk result (Augments (set_in sets.now root) (set_in sets.now met) link
+        (branches_in sets.now tree.items) (couples_in sets.now rest.old.items)
+        (couples_in sets.now rest.new.items)) }
 {
     let mut left = tree;
     let mut hand = met;
     let mut way = link;
     while let Some(b) = left.pop() {
-        let Branch {
-            up,
-            inner,
-            pair,
-            outer,
-        } = b;
-        if outer.holds(way.from) {
+        if b.outer.holds(sets, way.from) {
             rest.push(Couple {
-                first: outer,
+                first: b.outer,
                 second: hand,
                 link: way,
             })?;
-            hand = inner;
-            way = up;
+            hand = b.inner;
+            way = b.up;
         } else {
             rest.push(Couple {
-                first: inner,
-                second: outer,
-                link: pair,
+                first: b.inner,
+                second: b.outer,
+                link: b.pair,
             })?;
         }
     }

@@ -1,41 +1,48 @@
-ghost use Rattle.std.specs.Prelude.{◌≡◌, ◌≤◌, IfOk, OnOk};
+ghost use Rattle.std.specs.Prelude.{◌≡◌, ◌≤◌, ℕ, IfOk, OnOk};
 ghost use Rattle.blossom_match.specs.Bands.{count};
 ghost use Rattle.blossom_match.specs.Rings.{members_in, IsRing};
 ghost use Rattle.blossom_match.specs.Lays.{mirror_of, CanLay, Expanding, Expands, GoesEvenly, GrowsAt, Lays};
+ghost use Rattle.blossom_match.specs.Slots.{branches_in, couples_in, parts_in, set_in, AreSets, Sets};
+ghost use Rattle.blossom_match.specs.Trees.{all_bands};
 
 use crate::branches::Branch;
 use crate::couples::{Couple, pair_off};
-use crate::nest::{Link, Nest, Part};
+use crate::nest::{Part, Seat, Slot};
 use crate::ring::{listed, part_with, turned_to};
 use design_model::Memory;
+use slab::Slab;
 use std::alloc::Global;
 use std::collections::VecDeque;
 
-/// Takes the inner set of a branch apart: its parts become branches and couples.
+/// Takes the inner set of a branch apart: its parts become branches and couples, and its slot is
+/// vacant.
 pub fn expand(
     alloc: Global,
-    root: &Nest,
+    sets: &mut Slab<Slot>,
+    root: Seat,
     tree: &mut Vec<Branch>,
     at: usize,
     rest: &mut Vec<Couple>,
 ) -> Result<(), Memory>
-    requires { Expanding root.now tree.old.items at }
-    ensures expands { OnOk result (Expands root.now tree.old.items tree.new.items rest.old.items
-        rest.new.items) }
-    ensures grows { OnOk result (GrowsAt at tree.old.items tree.new.items) }
+    requires can { Expanding (set_in sets.old root) (branches_in sets.old tree.old.items) at }
+    requires sets { AreSets sets.old (all_bands (set_in sets.old root)
+        (branches_in sets.old tree.old.items) (couples_in sets.old rest.old.items)) }
+    ensures expands { OnOk result ((key : ℕ) × Expands key (set_in sets.old root)
+        (branches_in sets.old tree.old.items) (branches_in sets.new tree.new.items)
+        (couples_in sets.old rest.old.items) (couples_in sets.new rest.new.items)) }
+    ensures grows { OnOk result (GrowsAt at (branches_in sets.old tree.old.items)
+        (branches_in sets.new tree.new.items)) }
+    ensures root { OnOk result (set_in sets.new root ≡ set_in sets.old root) }
+    ensures sets { OnOk result (AreSets sets.new (all_bands (set_in sets.new root)
+        (branches_in sets.new tree.new.items) (couples_in sets.new rest.new.items))) }
 {
     let mut later = tree.split_off(at + 1)?;
     match tree.pop() {
         None => unreachable!(),
         Some(b) => {
-            let Branch {
-                up,
-                inner,
-                pair,
-                outer,
-            } = b;
-            let ring = even_way(alloc, inner.into_parts(), up.to, pair.from)?;
-            let mut couples = lay(alloc, root, tree, ring, up, pair, outer)?;
+            let slot = sets.remove(b.inner.key);
+            let ring = even_way(alloc, sets, slot.parts, b.up.to, b.pair.from)?;
+            let mut couples = lay(alloc, sets, root, tree, ring, b)?;
             rest.append(&mut couples)?;
             tree.append(&mut later)?;
             Ok(())
@@ -45,14 +52,21 @@ pub fn expand(
 
 /// The ring told from the part that is entered, in the direction in which it is an even way to the
 /// part that is left.
-fn even_way(alloc: Global, parts: Vec<Part>, entry: u32, exit: u32) -> Result<Vec<Part>, Memory>
-    requires ring { IsRing parts.items }
-    requires entry_in { 1 ≤ count entry (members_in parts.items) }
-    requires exit_in { 1 ≤ count exit (members_in parts.items) }
-    ensures { IfOk result (λ ps. GoesEvenly entry exit parts.items ps.items) }
+fn even_way(
+    alloc: Global,
+    sets: &Slab<Slot>,
+    parts: Vec<Part>,
+    entry: u32,
+    exit: u32,
+) -> Result<Vec<Part>, Memory>
+    requires ring { IsRing (parts_in sets.now parts.items) }
+    requires entry_in { 1 ≤ count entry (members_in (parts_in sets.now parts.items)) }
+    requires exit_in { 1 ≤ count exit (members_in (parts_in sets.now parts.items)) }
+    ensures { IfOk result (λ ps. GoesEvenly entry exit (parts_in sets.now parts.items)
+        (parts_in sets.now ps.items)) }
 {
-    let ring = turned_to(parts, entry);
-    let end = part_with(&ring, exit);
+    let ring = turned_to(sets, parts, entry);
+    let end = part_with(sets, &ring, exit);
     if end % 2 == 0 {
         Ok(ring)
     } else {
@@ -63,7 +77,8 @@ fn even_way(alloc: Global, parts: Vec<Part>, entry: u32, exit: u32) -> Result<Ve
 
 /// The ring told the other way round, from the same first part.
 fn mirrored(alloc: Global, ring: Vec<Part>) -> Result<Vec<Part>, Memory>
-    ensures { IfOk result (λ ps. ps.items ≡ mirror_of ring.items) }
+    ensures { IfOk result (λ ps. (sets : Sets) → parts_in sets ps.items
+        ≡ mirror_of (parts_in sets ring.items)) }
 {
     let mut left = ring.into_iter();
     let mut told = VecDeque::new(alloc);
@@ -71,42 +86,44 @@ fn mirrored(alloc: Global, ring: Vec<Part>) -> Result<Vec<Part>, Memory>
         let mut link = first.next;
         while let Some(p) = left.next() {
             told.push_front(Part {
-                nest: p.nest,
+                seat: p.seat,
                 next: link.back(),
             })?;
             link = p.next;
         }
         told.push_front(Part {
-            nest: first.nest,
+            seat: first.seat,
             next: link.back(),
         })?;
     }
-    listed(alloc, told)
+    let parts = listed(alloc, told)?;
+    Ok(parts)
 }
 
-/// Makes branches of the parts up to that with the pair's end, and pairs the rest.
+/// Makes branches of the parts up to that with the end of the branch's pair, and pairs the rest.
 fn lay(
     alloc: Global,
-    root: &Nest,
+    sets: &Slab<Slot>,
+    root: Seat,
     tree: &mut Vec<Branch>,
     ring: Vec<Part>,
-    up: Link,
-    pair: Link,
-    outer: Nest,
+    b: Branch,
 ) -> Result<Vec<Couple>, Memory>
-    requires { CanLay root.now tree.old.items ring.items up pair outer }
-    ensures { IfOk result (λ cs.
-        Lays root.now tree.old.items ring.items up pair outer tree.new.items cs.items) }
+    requires { CanLay (set_in sets.now root) (branches_in sets.now tree.old.items)
+        (parts_in sets.now ring.items) b.up b.pair (set_in sets.now b.outer) }
+    ensures { IfOk result (λ cs. Lays (set_in sets.now root) (branches_in sets.now tree.old.items)
+        (parts_in sets.now ring.items) b.up b.pair (set_in sets.now b.outer)
+        (branches_in sets.now tree.new.items) (couples_in sets.now cs.items)) }
 {
     let mut left = ring.into_iter();
-    let mut way = up;
+    let mut way = b.up;
     while let Some(p) = left.next() {
-        if p.nest.holds(pair.from) {
+        if p.seat.holds(sets, b.pair.from) {
             tree.push(Branch {
                 up: way,
-                inner: p.nest,
-                pair,
-                outer,
+                inner: p.seat,
+                pair: b.pair,
+                outer: b.outer,
             })?;
             let couples = pair_off(alloc, left)?;
             return Ok(couples);
@@ -116,9 +133,9 @@ fn lay(
             Some(q) => {
                 tree.push(Branch {
                     up: way,
-                    inner: p.nest,
+                    inner: p.seat,
                     pair: p.next,
-                    outer: q.nest,
+                    outer: q.seat,
                 })?;
                 way = q.next;
             }

@@ -2,8 +2,11 @@ ghost use Rattle.std.specs.Prelude.{◌*◌, []};
 ghost use Rattle.blossom_match.specs.Bands.{count};
 ghost use Rattle.blossom_match.specs.Trees.{inner_members, outer_members};
 ghost use Rattle.blossom_match.specs.Heights.{CanFall, CanRise, Falls, HasCells, Rises};
+ghost use Rattle.blossom_match.specs.Slots.{branches_in};
 
 use crate::branches::Branch;
+use crate::nest::Slot;
+use slab::Slab;
 
 /// Raises the heights of the places.
 pub fn raise(members: &[u32], by: u32, heights: &mut [u32])
@@ -28,23 +31,29 @@ fn lower(members: &[u32], by: u32, heights: &mut [u32])
 }
 
 /// Raises the places of all outer sets but the root.
-pub fn raise_outers(tree: &[Branch], by: u32, heights: &mut [u32])
-    requires within { HasCells (λ x. count x (outer_members [] tree.now)) heights.old }
-    requires fits { CanRise (λ x. by * count x (outer_members [] tree.now)) heights.old }
-    ensures { Rises (λ x. by * count x (outer_members [] tree.now)) heights.old heights.new }
+pub fn raise_outers(sets: &Slab<Slot>, tree: &[Branch], by: u32, heights: &mut [u32])
+    requires within { HasCells (λ x. count x (outer_members [] (branches_in sets.now tree.now)))
+        heights.old }
+    requires fits { CanRise (λ x. by * count x (outer_members [] (branches_in sets.now tree.now)))
+        heights.old }
+    ensures { Rises (λ x. by * count x (outer_members [] (branches_in sets.now tree.now)))
+        heights.old heights.new }
 {
     for b in tree {
-        raise(b.outer.members(), by, heights);
+        raise(b.outer.members(sets), by, heights);
     }
 }
 
 /// Lowers the places of all inner sets.
-pub fn lower_inners(tree: &[Branch], by: u32, heights: &mut [u32])
-    requires within { HasCells (λ x. count x (inner_members tree.now)) heights.old }
-    requires fits { CanFall (λ x. by * count x (inner_members tree.now)) heights.old }
-    ensures { Falls (λ x. by * count x (inner_members tree.now)) heights.old heights.new }
+pub fn lower_inners(sets: &Slab<Slot>, tree: &[Branch], by: u32, heights: &mut [u32])
+    requires within { HasCells (λ x. count x (inner_members (branches_in sets.now tree.now)))
+        heights.old }
+    requires fits { CanFall (λ x. by * count x (inner_members (branches_in sets.now tree.now)))
+        heights.old }
+    ensures { Falls (λ x. by * count x (inner_members (branches_in sets.now tree.now)))
+        heights.old heights.new }
 {
     for b in tree {
-        lower(b.inner.members(), by, heights);
+        lower(b.inner.members(sets), by, heights);
     }
 }

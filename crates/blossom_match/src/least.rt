@@ -6,15 +6,19 @@ ghost use Rattle.blossom_match.specs.Tables.{IsTable};
 ghost use Rattle.blossom_match.specs.Bounds.{holding, step_of, Bounds, CanSearch, Narrows, NarrowsAt};
 ghost use Rattle.blossom_match.specs.Searches.{height_at};
 ghost use Rattle.blossom_match.specs.Reaches.{left_by, CanReach, IsReached, SearchReaches};
+ghost use Rattle.blossom_match.specs.Slots.{branch_in, branches_in, couples_in, set_in};
+ghost use Rattle.blossom_match.specs.States.{search_value};
 ghost use Rattle.blossom_match.specs.Aims.{change_of, Aims, AimsAt, CanLead, LeadsTo, Leaves, LeavesIn};
 ghost use Rattle.blossom_match.specs.declared.least.Kind.TheVariants as kind;
 ghost use Rattle.blossom_match.specs.declared.table.TheConstants.{FAR};
 
 use crate::branches::Branch;
 use crate::couples::Couple;
-use crate::nest::{Link, Nest};
-use crate::search::{Search, Step};
+use crate::nest::{Link, Seat, Slot};
+use crate::search::Step;
+use crate::state::Search;
 use crate::table::{DistTable, FAR};
+use slab::Slab;
 
 /// A change of widths, in halves of a step, and what can be done after it.
 #[derive(Clone, Copy, Drop)]
@@ -42,26 +46,26 @@ struct Aim {
 /// The least change of widths after which a step can be done.
 pub fn least(t: &DistTable, reach: &[u32], s: &Search) -> Change
     requires table { IsTable t.now }
-    requires can { CanSearch t.now s.now }
-    requires reaches { SearchReaches t.now s.now reach.now }
-    ensures { Bounds t.now (height_at s.now) s.now result }
+    requires can { CanSearch t.now (search_value s.now) }
+    requires reaches { SearchReaches t.now (search_value s.now) reach.now }
+    ensures { Bounds t.now (height_at (search_value s.now)) (search_value s.now) result }
 {
     least_at(t, &s.heights, reach, s)
 }
 
 fn least_at(t: &DistTable, heights: &[u32], reach: &[u32], s: &Search) -> Change
     requires table { IsTable t.now }
-    requires can { CanSearch t.now s.now }
-    requires reaches { SearchReaches t.now s.now reach.now }
+    requires can { CanSearch t.now (search_value s.now) }
+    requires reaches { SearchReaches t.now (search_value s.now) reach.now }
     requires heights { heights.now ≡ s.now.heights.items }
-    ensures { Bounds t.now (height_at s.now) s.now result }
+    ensures { Bounds t.now (height_at (search_value s.now)) (search_value s.now) result }
 {
     let first = first_aim(heights, reach, &s.free);
     let met = aim_at(heights, reach, &s.free, Kind::Meet, first);
-    let grown = aim_at_couples(heights, reach, &s.rest, met);
-    let crossed = aim_at_outers(heights, reach, &s.root, &s.tree, grown);
-    let change = change_to(t, heights, reach, &s.root, &s.tree, crossed);
-    scan_rings(&s.tree, change)
+    let grown = aim_at_couples(&s.sets, heights, reach, &s.rest, met);
+    let crossed = aim_at_outers(&s.sets, heights, reach, s.root, &s.tree, grown);
+    let change = change_to(t, heights, reach, s, crossed);
+    scan_rings(&s.sets, &s.tree, change)
 }
 
 /// The change of widths that uses up the room.
@@ -134,47 +138,66 @@ fn aim_at(heights: &[u32], reach: &[u32], ys: &[u32], kind: Kind, best: Aim) -> 
 }
 
 /// The lesser of an aim and the nearest place of a couple.
-fn aim_at_couples(heights: &[u32], reach: &[u32], couples: &[Couple], best: Aim) -> Aim
+fn aim_at_couples(
+    sets: &Slab<Slot>,
+    heights: &[u32],
+    reach: &[u32],
+    couples: &[Couple],
+    best: Aim,
+) -> Aim
     requires cells { length heights.now ≡ length reach.now }
-    requires within { (b : ℕ) → 1 ≤ count b (couple_members couples.now) → b < length reach.now }
-    ensures { Aims heights.now reach.now kind.Grow (couple_members couples.now) best result }
+    requires within { (b : ℕ) → 1 ≤ count b (couple_members (couples_in sets.now couples.now))
+        → b < length reach.now }
+    ensures { Aims heights.now reach.now kind.Grow (couple_members (couples_in sets.now couples.now))
+        best result }
 {
     let mut least = best;
     for c in couples {
-        let one = aim_at(heights, reach, c.first.members(), Kind::Grow, least);
-        least = aim_at(heights, reach, c.second.members(), Kind::Grow, one);
+        let one = aim_at(heights, reach, c.first.members(sets), Kind::Grow, least);
+        least = aim_at(heights, reach, c.second.members(sets), Kind::Grow, one);
     }
     least
 }
 
 /// The lesser of an aim and the nearest outer place.
-fn aim_at_outers(heights: &[u32], reach: &[u32], root: &Nest, tree: &[Branch], best: Aim) -> Aim
+fn aim_at_outers(
+    sets: &Slab<Slot>,
+    heights: &[u32],
+    reach: &[u32],
+    root: Seat,
+    tree: &[Branch],
+    best: Aim,
+) -> Aim
     requires cells { length heights.now ≡ length reach.now }
-    requires within { (b : ℕ) → 1 ≤ count b (outer_members root.now.members tree.now)
+    requires within { (b : ℕ)
+        → 1 ≤ count b (outer_members (set_in sets.now root).members (branches_in sets.now tree.now))
         → b < length reach.now }
-    ensures { Aims heights.now reach.now kind.Shrink (outer_members root.now.members tree.now)
-        best result }
+    ensures { Aims heights.now reach.now kind.Shrink
+        (outer_members (set_in sets.now root).members (branches_in sets.now tree.now)) best result }
 {
-    let mut least = aim_at(heights, reach, root.members(), Kind::Shrink, best);
+    let mut least = aim_at(heights, reach, root.members(sets), Kind::Shrink, best);
     for b in tree {
-        least = aim_at(heights, reach, b.outer.members(), Kind::Shrink, least);
+        least = aim_at(heights, reach, b.outer.members(sets), Kind::Shrink, least);
     }
     least
 }
 
 /// The change of an aim, with the link from an outer place that leaves so much.
-fn change_to(
-    t: &DistTable,
-    heights: &[u32],
-    reach: &[u32],
-    root: &Nest,
-    tree: &[Branch],
-    aim: Aim,
-) -> Change
-    requires { CanLead t.now heights.now root.now tree.now reach.now aim }
-    ensures { LeadsTo t.now heights.now root.now tree.now reach.now aim result }
+fn change_to(t: &DistTable, heights: &[u32], reach: &[u32], s: &Search, aim: Aim) -> Change
+    requires { CanLead t.now heights.now (search_value s.now).root (search_value s.now).tree
+        reach.now aim }
+    ensures { LeadsTo t.now heights.now (search_value s.now).root (search_value s.now).tree
+        reach.now aim result }
 {
-    let from = nearest(t, heights, root, tree, aim.to, reach[aim.to as usize]);
+    let from = nearest(
+        &s.sets,
+        t,
+        heights,
+        s.root,
+        &s.tree,
+        aim.to,
+        reach[aim.to as usize],
+    );
     Change {
         by: aim.by,
         step: step_for(aim.kind, Link { from, to: aim.to }),
@@ -182,19 +205,29 @@ fn change_to(
 }
 
 /// The place of another outer set that leaves so much.
-fn nearest(t: &DistTable, heights: &[u32], root: &Nest, tree: &[Branch], to: u32, room: u32) -> u32
-    requires can { CanReach t.now heights.now root.now tree.now }
+fn nearest(
+    sets: &Slab<Slot>,
+    t: &DistTable,
+    heights: &[u32],
+    root: Seat,
+    tree: &[Branch],
+    to: u32,
+    room: u32,
+) -> u32
+    requires can { CanReach t.now heights.now (set_in sets.now root) (branches_in sets.now tree.now) }
     requires within { to < t.now.places }
-    requires reached { IsReached t.now heights.now root.now tree.now to room }
-    ensures here { 1 ≤ count result (outer_members root.now.members tree.now) }
-    ensures apart { holding result to root.now tree.now ≡ 0 }
+    requires reached { IsReached t.now heights.now (set_in sets.now root)
+        (branches_in sets.now tree.now) to room }
+    ensures here { 1 ≤ count result
+        (outer_members (set_in sets.now root).members (branches_in sets.now tree.now)) }
+    ensures apart { holding result to (set_in sets.now root) (branches_in sets.now tree.now) ≡ 0 }
     ensures exact { room ≡ left_by t.now heights.now result to }
 {
-    if let Some(a) = leaving(t, heights, root, to, room) {
+    if let Some(a) = leaving(sets, t, heights, root, to, room) {
         return a;
     }
     for b in tree {
-        if let Some(a) = leaving(t, heights, &b.outer, to, room) {
+        if let Some(a) = leaving(sets, t, heights, b.outer, to, room) {
             return a;
         }
     }
@@ -202,16 +235,23 @@ fn nearest(t: &DistTable, heights: &[u32], root: &Nest, tree: &[Branch], to: u32
 }
 
 /// A place of the set that leaves so much, if the set doesn't hold the other place too.
-fn leaving(t: &DistTable, heights: &[u32], set: &Nest, to: u32, room: u32) -> Option<u32>
+fn leaving(
+    sets: &Slab<Slot>,
+    t: &DistTable,
+    heights: &[u32],
+    set: Seat,
+    to: u32,
+    room: u32,
+) -> Option<u32>
     requires cells { length heights.now ≡ t.now.places }
-    requires within { (a : ℕ) → 1 ≤ count a set.now.members → a < t.now.places }
+    requires within { (a : ℕ) → 1 ≤ count a (set_in sets.now set).members → a < t.now.places }
     requires to_in { to < t.now.places }
-    ensures { Leaves t.now heights.now set.now to room result }
+    ensures { Leaves t.now heights.now (set_in sets.now set) to room result }
 {
-    if set.holds(to) {
+    if set.holds(sets, to) {
         None
     } else {
-        first_leaving(t, heights, set.members(), to, room)
+        first_leaving(t, heights, set.members(sets), to, room)
     }
 }
 
@@ -231,22 +271,22 @@ fn first_leaving(t: &DistTable, heights: &[u32], xs: &[u32], to: u32, room: u32)
 }
 
 /// The lesser of a change and the least width of an inner ring.
-fn scan_rings(tree: &[Branch], best: Change) -> Change
-    ensures { Narrows tree.now best result }
+fn scan_rings(sets: &Slab<Slot>, tree: &[Branch], best: Change) -> Change
+    ensures { Narrows (branches_in sets.now tree.now) best result }
 {
     let mut least = best;
     for (i, b) in tree.iter().enumerate() {
-        least = narrower(b, i, least);
+        least = narrower(sets, *b, i, least);
     }
     least
 }
 
 /// The lesser of a change and the width of the branch's inner ring.
-fn narrower(b: &Branch, at: usize, best: Change) -> Change
-    ensures { NarrowsAt b.now at best result }
+fn narrower(sets: &Slab<Slot>, b: Branch, at: usize, best: Change) -> Change
+    ensures { NarrowsAt (branch_in sets.now b) at best result }
 {
-    let width = b.inner.width();
-    if b.inner.is_ring() && width < best.by {
+    let width = b.inner.width;
+    if b.inner.is_ring(sets) && width < best.by {
         Change {
             by: width,
             step: Step::Expand(at),

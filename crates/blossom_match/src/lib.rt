@@ -19,6 +19,7 @@ mod ring;
 mod rows;
 mod search;
 mod shrinking;
+mod state;
 mod table;
 mod taking;
 mod widening;

@@ -3,6 +3,7 @@ ghost use Rattle.blossom_match.specs.Tables.{KeepsTriangles};
 ghost use Rattle.blossom_match.specs.Matchings.{IsMatching};
 
 use crate::pairing::couple_all;
+use crate::state::Standing;
 use crate::table::DistTable;
 use crate::taking::take_couples;
 use design_model::{Items, Memory, Numbers};
@@ -41,9 +42,14 @@ pub fn match_all(alloc: Global, t: &DistTable) -> Result<Matching, Memory>
     requires triangles { KeepsTriangles t.now }
     ensures { IfOk result (λ m. IsMatching t.now m.pairs m.moats) }
 {
-    let couples = couple_all(alloc, t)?;
+    let Standing {
+        sets,
+        couples,
+        free: _,
+        heights: _,
+    } = couple_all(alloc, t)?;
     let mut pairs = Pairs::new(alloc);
     let mut moats = Moats::new(alloc);
-    take_couples(alloc, couples, &mut pairs, &mut moats)?;
+    take_couples(alloc, &sets, couples, &mut pairs, &mut moats)?;
     Ok(Matching { pairs, moats })
 }

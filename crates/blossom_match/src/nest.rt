@@ -1,15 +1,16 @@
-ghost use Rattle.std.specs.Prelude.{◌≡◌, ◌≤◌, ◌+◌, ◌<◌, ◌^◌, IsTrue, false, length, nat_lt, slice_index, IfOk};
-ghost use Rattle.blossom_match.specs.Bands.{count, with_width, Kept};
-ghost use Rattle.blossom_match.specs.Rings.{back_of, members_in, nest_of, single_of, IsMade, IsRing, PartsAre};
+ghost use Rattle.std.specs.Prelude.{◌≡◌, ◌≤◌, ◌+◌, ◌<◌, IsTrue, false, length, nat_lt, slice_index, IfOk};
+ghost use Rattle.blossom_match.specs.Bands.{count};
+ghost use Rattle.blossom_match.specs.Rings.{back_of, bands_in, members_in, single_of, IsRing};
 ghost use Rattle.blossom_match.specs.RingRows.{ring_of as the_ring, RowsAgree};
+ghost use Rattle.blossom_match.specs.Slots.{members_at, near_at, parts_at, parts_in, set_in, AreSets, Inserts};
 ghost use Rattle.blossom_match.specs.Tables.{IsTable};
 
 use crate::ring::row_of;
 use crate::rows::single_row;
 use crate::table::DistTable;
 use design_model::Memory;
+use slab::Slab;
 use std::alloc::Global;
-use std::marker::Model;
 
 /// Two places whose distance is used up whole.
 #[derive(Clone, Copy, Drop)]
@@ -18,42 +19,27 @@ pub struct Link {
     pub to: u32,
 }
 
-/// An odd set of places: one place, or a ring of smaller odd sets.
-#[cycle(nest)]
-#[derive(Drop)]
-pub struct Nest {
-    members: Vec<u32>,
-    width: u32,
-    near: Vec<u32>,
-    parts: Vec<Part>,
+/// An odd set of places, by the key of its slot, and its width in halves of a step.
+#[derive(Clone, Copy, Drop)]
+pub struct Seat {
+    pub key: usize,
+    pub width: u32,
 }
 
 /// A part of a ring, and the link to the part after it. The first part comes after the last.
-#[cycle(nest)]
-#[derive(Drop)]
+#[derive(Clone, Copy, Drop)]
 pub struct Part {
-    pub nest: Nest,
+    pub seat: Seat,
     pub next: Link,
 }
 
-impl Model for Nest {
-    ghost use Rattle.std.specs.Prelude.{length};
-    ghost use Rattle.blossom_match.specs.Bands.{NestValue};
-
-    ghost Value = { NestValue };
-
-    ghost use Rattle.blossom_match.specs.Rings.{nest_value, IsNest};
-
-    ghost view = { nest_value };
-
-    ghost invariant = { IsNest };
-
-    ghost size = { λ v. length v.below };
-
-    ghost use Rattle.blossom_match.specs.Sizes.{most_le_bands};
-    ghost use Rattle.std.proofs.Common.{arith};
-
-    ghost size_decreases = { λ a h. Prim.omega (arith, most_le_bands a.parts.items) };
+/// What an odd set keeps as long as it stands: its members, what it leaves for each place outside
+/// it over its width, and the parts of a ring. A single place has no parts.
+#[derive(Drop)]
+pub struct Slot {
+    pub members: Vec<u32>,
+    pub near: Vec<u32>,
+    pub parts: Vec<Part>,
 }
 
 impl Link {
@@ -81,144 +67,107 @@ pub fn times(xs: &[u32], x: u32) -> usize
     n
 }
 
-/// The set of one place, as wide as it is high.
-pub fn single(alloc: Global, t: &DistTable, place: u32, heights: &[u32]) -> Result<Nest, Memory>
-    requires cell { place < length heights.now }
-    requires within { place < t.now.places }
-    ensures is { IfOk result (λ s. s ≡ single_of t.now place (slice_index heights.now place)) }
-    ensures table { IsTable t.now }
-{
-    let near = single_row(alloc, t, place)?;
-    Ok(Nest {
-        members: vec![in alloc; place]?,
-        width: heights[place as usize],
-        near,
-        parts: Vec::new(alloc),
-    })
-}
-
-impl Nest {
+impl Seat {
     /// The places of the set.
-    pub fn members(&self) -> &[u32]
-        ensures { result.now ≡ self.now.members }
+    pub fn members(self, sets: &Slab<Slot>) -> &[u32]
+        ensures { result.now ≡ members_at sets.now self.key }
     {
-        &self.members
-    }
-
-    /// The width, in halves of a step.
-    pub fn width(&self) -> u32
-        ensures { result ≡ self.now.width }
-    {
-        self.width
-    }
-
-    /// What the set leaves for each place outside it over its width.
-    pub fn near(&self) -> &[u32]
-        ensures { result.now ≡ self.now.near }
-    {
-        &self.near
-    }
-
-    /// The ring's parts that the set is made of; a single place has none.
-    pub fn parts(&self) -> &[Part]
-        ensures { PartsAre self.now result.now }
-    {
-        &self.parts
-    }
-
-    /// Whether the place is a member.
-    pub fn holds(&self, place: u32) -> bool
-        ensures value { result ≡ nat_lt 0 (count place self.now.members) }
-        ensures yes { IsTrue result → 1 ≤ count place self.now.members }
-        ensures no { result ≡ false → count place self.now.members ≡ 0 }
-    {
-        times(&self.members, place) > 0
-    }
-
-    /// Whether the set has parts.
-    pub fn is_ring(&self) -> bool
-        ensures { result ≡ nat_lt 0 (length self.now.below) }
-    {
-        self.parts.len() > 0
-    }
-
-    /// What each set keeps, for a caller that needs to know.
-    pub fn know(&self)
-        ensures { Kept self.now }
-    {
-        let _members = &self.members;
-    }
-
-    /// The set with another width.
-    pub fn with_width(self, width: u32) -> Nest
-        ensures { result ≡ with_width width self }
-    {
-        let Nest {
-            members,
-            width: _,
-            near,
-            parts,
-        } = self;
-        Nest {
-            members,
-            width,
-            near,
-            parts,
+        match sets.get(self.key) {
+            None => &[],
+            Some(slot) => &slot.members,
         }
     }
 
-    /// The members, and the parts that the set is made of.
-    pub fn into_shell(self) -> (Vec<u32>, Vec<Part>)
-        ensures made { self ≡ nest_of result.0.items self.width self.near result.1.items }
-        ensures kept { IsMade result.0.items result.1.items }
+    /// What the set leaves for each place outside it over its width.
+    pub fn near(self, sets: &Slab<Slot>) -> &[u32]
+        ensures { result.now ≡ near_at sets.now self.key }
     {
-        let Nest {
-            members,
-            width: _,
-            near: _,
-            parts,
-        } = self;
-        (members, parts)
+        match sets.get(self.key) {
+            None => &[],
+            Some(slot) => &slot.near,
+        }
     }
 
     /// The parts of a ring.
-    pub fn into_parts(self) -> Vec<Part>
-        requires { 0 < length self.below }
-        ensures ring { IsRing result.items }
-        ensures made { self ≡ nest_of (members_in result.items) self.width self.near result.items }
+    pub fn parts(self, sets: &Slab<Slot>) -> &[Part]
+        ensures { result.now ≡ parts_at sets.now self.key }
     {
-        let Nest {
-            members: _,
-            width: _,
-            near: _,
-            parts,
-        } = self;
-        parts
+        match sets.get(self.key) {
+            None => &[],
+            Some(slot) => &slot.parts,
+        }
+    }
+
+    /// Whether the place is a member.
+    pub fn holds(self, sets: &Slab<Slot>, place: u32) -> bool
+        ensures value { result ≡ nat_lt 0 (count place (members_at sets.now self.key)) }
+        ensures yes { IsTrue result → 1 ≤ count place (members_at sets.now self.key) }
+        ensures no { result ≡ false → count place (members_at sets.now self.key) ≡ 0 }
+    {
+        times(self.members(sets), place) > 0
+    }
+
+    /// Whether the set has parts.
+    pub fn is_ring(self, sets: &Slab<Slot>) -> bool
+        ensures { result ≡ nat_lt 0 (length (set_in sets.now self).below) }
+    {
+        self.parts(sets).len() > 0
     }
 }
 
-fn members_of(alloc: Global, parts: &[Part]) -> Result<Vec<u32>, Memory>
-    ensures { IfOk result (λ ms. ms.items ≡ members_in parts.now) }
+/// The set of one place, as wide as it is high.
+pub fn single(
+    alloc: Global,
+    sets: &mut Slab<Slot>,
+    t: &DistTable,
+    place: u32,
+    heights: &[u32],
+) -> Result<Seat, Memory>
+    requires cell { place < length heights.now }
+    requires within { place < t.now.places }
+    ensures is { IfOk result (λ s. set_in sets.new s ≡ single_of s.key t.now place
+        (slice_index heights.now place)) }
+    ensures inserts { IfOk result (λ s. Inserts sets.old sets.new s.key) }
+    ensures table { IsTable t.now }
+{
+    let near = single_row(alloc, t, place)?;
+    let slot = Slot {
+        members: vec![in alloc; place]?,
+        near,
+        parts: Vec::new(alloc),
+    };
+    let key = sets.insert(slot)?;
+    Ok(Seat {
+        key,
+        width: heights[place as usize],
+    })
+}
+
+fn members_of(alloc: Global, sets: &Slab<Slot>, parts: &[Part]) -> Result<Vec<u32>, Memory>
+    ensures { IfOk result (λ ms. ms.items ≡ members_in (parts_in sets.now parts.now)) }
 {
     let mut members = Vec::new(alloc);
     for p in parts {
-        members.extend_from_slice(&p.nest.members)?;
+        members.extend_from_slice(p.seat.members(sets))?;
     }
     Ok(members)
 }
 
 /// The set of all members of a ring, without a width.
-pub fn ring_of(alloc: Global, parts: Vec<Part>) -> Result<Nest, Memory>
-    requires ring { IsRing parts.items }
-    requires rows { RowsAgree parts.items }
-    ensures { IfOk result (λ s. s ≡ the_ring parts.items) }
+pub fn ring_of(alloc: Global, sets: &mut Slab<Slot>, parts: Vec<Part>) -> Result<Seat, Memory>
+    requires ring { IsRing (parts_in sets.old parts.items) }
+    requires rows { RowsAgree (parts_in sets.old parts.items) }
+    requires sets { AreSets sets.old (bands_in (parts_in sets.old parts.items)) }
+    ensures is { IfOk result (λ s. set_in sets.new s ≡ the_ring s.key
+        (parts_in sets.old parts.items)) }
+    ensures inserts { IfOk result (λ s. Inserts sets.old sets.new s.key) }
 {
-    let members = members_of(alloc, &parts)?;
-    let near = row_of(alloc, &parts, &members)?;
-    Ok(Nest {
+    let members = members_of(alloc, sets, &parts)?;
+    let near = row_of(alloc, sets, &parts, &members)?;
+    let key = sets.insert(Slot {
         members,
-        width: 0,
         near,
         parts,
-    })
+    })?;
+    Ok(Seat { key, width: 0 })
 }

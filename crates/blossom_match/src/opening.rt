@@ -1,47 +1,45 @@
 ghost use Rattle.std.specs.Prelude.{◌≡◌, ◌≤◌, ℕ, IfOk};
 ghost use Rattle.blossom_match.specs.Bands.{count};
 ghost use Rattle.blossom_match.specs.Opens.{OpensAt};
+ghost use Rattle.blossom_match.specs.Slots.{core_in, couples_in, set_in, IsSet};
 
 use crate::couples::{Couple, pair_off};
-use crate::nest::Nest;
+use crate::nest::{Seat, Slot};
 use crate::ring::turned_to;
 use design_model::Memory;
+use slab::Slab;
 use std::alloc::Global;
 
 /// A set without its shell: the part with the member that is paired outside, and the rest in pairs.
 #[derive(Drop)]
 pub struct Opened {
-    pub members: Vec<u32>,
-    pub width: u32,
-    pub core: Option<Nest>,
+    pub core: Option<Seat>,
     pub couples: Vec<Couple>,
 }
 
 /// Takes a set apart at the member that is paired outside.
-pub fn open_at(alloc: Global, s: Nest, left: u32) -> Result<Opened, Memory>
-    requires there { count left s.members ≡ 1 }
-    requires once { (x : ℕ) → count x s.members ≤ 1 }
-    ensures { IfOk result (λ o. OpensAt left s o.members.items o.width o.core o.couples.items) }
+pub fn open_at(alloc: Global, sets: &Slab<Slot>, s: Seat, left: u32) -> Result<Opened, Memory>
+    requires set { IsSet sets.now s.key }
+    requires there { count left (set_in sets.now s).members ≡ 1 }
+    requires once { (x : ℕ) → count x (set_in sets.now s).members ≤ 1 }
+    ensures { IfOk result (λ o. OpensAt left (set_in sets.now s) (core_in sets.now o.core)
+        (couples_in sets.now o.couples.items)) }
 {
-    let width = s.width();
-    let (members, parts) = s.into_shell();
+    let mut parts = Vec::new(alloc);
+    parts.extend_from_slice(s.parts(sets))?;
     if parts.len() == 0 {
         return Ok(Opened {
-            members,
-            width,
             core: None,
             couples: Vec::new(alloc),
         });
     }
-    let mut rest = turned_to(parts, left).into_iter();
+    let mut rest = turned_to(sets, parts, left).into_iter();
     match rest.next() {
         None => unreachable!(),
         Some(p) => {
             let couples = pair_off(alloc, rest)?;
             Ok(Opened {
-                members,
-                width,
-                core: Some(p.nest),
+                core: Some(p.seat),
                 couples,
             })
         }

@@ -1,41 +1,42 @@
 ghost use Rattle.std.specs.Prelude.{◌≡◌, ◌%◌, length, IfOk};
 ghost use Rattle.blossom_match.specs.Tables.{IsMetric, KeepsTriangles};
 ghost use Rattle.blossom_match.specs.Phases.{IsMatched, Stands};
+ghost use Rattle.blossom_match.specs.Slots.{couples_in};
 
-use crate::couples::Couple;
 use crate::phase::pair_up;
 use crate::prices::priced;
 use crate::rows::far_cells;
-use crate::search::Standing;
+use crate::state::Standing;
 use crate::table::DistTable;
 use design_model::Memory;
 use std::alloc::Global;
 
 /// Sets in pairs that hold all places.
-pub fn couple_all(alloc: Global, t: &DistTable) -> Result<Vec<Couple>, Memory>
+pub fn couple_all(alloc: Global, t: &DistTable) -> Result<Standing, Memory>
     requires even { t.now.places % 2 ≡ 0 }
     requires triangles { KeepsTriangles t.now }
-    ensures { IfOk result (λ cs. IsMatched t.now cs.items) }
+    ensures { IfOk result (λ r. IsMatched t.now (couples_in r.sets r.couples.items)) }
 {
     let now = priced(alloc, t, t.places())?;
     if now.free.len() == 0 {
-        return Ok(now.couples);
+        return Ok(now);
     }
-    let couples = search_all(alloc, t, now)?;
-    Ok(couples)
+    let matched = search_all(alloc, t, now)?;
+    Ok(matched)
 }
 
 /// Searches from each free place in turn.
-fn search_all(alloc: Global, t: &DistTable, from: Standing) -> Result<Vec<Couple>, Memory>
+fn search_all(alloc: Global, t: &DistTable, from: Standing) -> Result<Standing, Memory>
     requires metric { IsMetric t.now }
-    requires stands { Stands t.now from.couples.items from.free.items from.heights.items }
+    requires stands { Stands t.now (couples_in from.sets from.couples.items) from.free.items
+        from.heights.items }
     requires even { length from.free.items % 2 ≡ 0 }
-    ensures { IfOk result (λ cs. IsMatched t.now cs.items) }
+    ensures { IfOk result (λ r. IsMatched t.now (couples_in r.sets r.couples.items)) }
 {
     let mut reach = far_cells(alloc, t.places() as usize)?;
     let mut now = from;
     while let Some(place) = now.free.pop() {
         now = pair_up(alloc, t, place, now, &mut reach)?;
     }
-    Ok(now.couples)
+    Ok(now)
 }

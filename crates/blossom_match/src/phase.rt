@@ -3,12 +3,15 @@ ghost use Rattle.blossom_match.specs.Tables.{IsMetric};
 ghost use Rattle.blossom_match.specs.Bounds.{CanSearch};
 ghost use Rattle.blossom_match.specs.Searches.{CanStepAt};
 ghost use Rattle.blossom_match.specs.Reaches.{SearchReaches};
+ghost use Rattle.blossom_match.specs.Slots.{couples_in};
+ghost use Rattle.blossom_match.specs.States.{search_value};
 ghost use Rattle.blossom_match.specs.Phases.{Begins, Goes, Leads, Stands, StepReaches};
 
 use crate::least::least;
 use crate::nest::{Link, single};
-use crate::reach::{lower_reach, reach_anew, reach_from, reach_more};
-use crate::search::{Search, Standing, Step, expand_at, grow_to, meet, shrink_by};
+use crate::reach::{lower_reach, reach_anew, reach_from};
+use crate::search::{Step, expand_at, grow_to, meet, shrink_by};
+use crate::state::{Search, Standing};
 use crate::table::DistTable;
 use crate::widening::widen;
 use design_model::Memory;
@@ -31,10 +34,11 @@ pub fn pair_up(
 ) -> Result<Standing, Memory>
     requires metric { IsMetric t.now }
     requires size { length reach.old ≡ t.now.places }
-    requires stands { Stands t.now from.couples.items
+    requires stands { Stands t.now (couples_in from.sets from.couples.items)
         (from.free.items ++ place ∷ []) from.heights.items }
     requires some { 1 ≤ length from.free.items }
-    ensures stands { IfOk result (λ r. Stands t.now r.couples.items r.free.items r.heights.items) }
+    ensures stands { IfOk result (λ r. Stands t.now (couples_in r.sets r.couples.items) r.free.items
+        r.heights.items) }
     ensures fewer { IfOk result (λ r. length r.free.items + 1 ≡ length from.free.items) }
 {
     let mut now = begin(alloc, t, place, from)?;
@@ -51,16 +55,19 @@ pub fn pair_up(
 pub fn begin(alloc: Global, t: &DistTable, place: u32, from: Standing) -> Result<Search, Memory>
     requires cell { place < length from.heights.items }
     requires within { place < t.now.places }
-    ensures { IfOk result (λ s. Begins t.now place from.couples.items from.free.items
-        from.heights.items s) }
+    ensures { IfOk result (λ s. Begins t.now place (couples_in from.sets from.couples.items)
+        from.free.items from.heights.items (search_value s)) }
 {
     let Standing {
+        sets,
         couples,
         free,
         heights,
     } = from;
-    let root = single(alloc, t, place, &heights)?;
+    let mut slots = sets;
+    let root = single(alloc, &mut slots, t, place, &heights)?;
     Ok(Search {
+        sets: slots,
         root,
         tree: Vec::new(alloc),
         rest: couples,
@@ -72,13 +79,13 @@ pub fn begin(alloc: Global, t: &DistTable, place: u32, from: Standing) -> Result
 /// Changes the widths as little as allows a step, and takes it.
 fn advance(alloc: Global, t: &DistTable, s: Search, reach: &mut [u32]) -> Result<Stepped, Memory>
     requires metric { IsMetric t.now }
-    requires search { CanSearch t.now s }
-    requires reaches { SearchReaches t.now s reach.old }
-    ensures goes { IfOk result (λ r. Goes t.now s r) }
+    requires search { CanSearch t.now (search_value s) }
+    requires reaches { SearchReaches t.now (search_value s) reach.old }
+    ensures goes { IfOk result (λ r. Goes t.now (search_value s) r) }
     ensures reaches { IfOk result (λ r. StepReaches t.now r reach.new) }
 {
     let change = least(t, reach, &s);
-    let wide = widen(alloc, s, change)?;
+    let wide = widen(s, change);
     lower_reach(change.by, reach);
     let next = take_step(alloc, t, wide, change.step, reach)?;
     Ok(next)
@@ -91,11 +98,12 @@ fn take_step(
     step: Step,
     reach: &mut [u32],
 ) -> Result<Stepped, Memory>
-    requires step { CanStepAt t.now s step }
-    requires reaches { SearchReaches t.now s reach.old }
-    ensures leads { IfOk result (λ r. Leads t.now s step r) }
+    requires step { CanStepAt t.now (search_value s) step }
+    requires reaches { SearchReaches t.now (search_value s) reach.old }
+    ensures leads { IfOk result (λ r. Leads t.now (search_value s) step r) }
     ensures reaches { IfOk result (λ r. StepReaches t.now r reach.new) }
 {
+    let before = s.tree.len();
     match step {
         Step::Meet(link) => {
             let standing = meet(alloc, t, s, link)?;
@@ -103,7 +111,7 @@ fn take_step(
         }
         Step::Grow(link) => {
             let grown = grow_to(s, link)?;
-            reach_more(&grown, reach);
+            reach_from(&grown, before, 1, reach);
             Ok(Stepped::More(grown))
         }
         Step::Shrink(link) => {
@@ -112,7 +120,6 @@ fn take_step(
             Ok(Stepped::More(shrunk))
         }
         Step::Expand(at) => {
-            let before = s.tree.len();
             let expanded = expand_at(alloc, s, at)?;
             reach_from(&expanded, at, expanded.tree.len() - before, reach);
             Ok(Stepped::More(expanded))

@@ -3,20 +3,25 @@ ghost use Rattle.blossom_match.specs.Bands.{count};
 ghost use Rattle.blossom_match.specs.Tables.{entry};
 ghost use Rattle.blossom_match.specs.Phases.{Stands};
 ghost use Rattle.blossom_match.specs.Prices.{AreHalves, CanPair, FindsTight, IsTightPair, LeavesRoom, Lies, Pairs};
+ghost use Rattle.blossom_match.specs.Slots.{couples_in};
+ghost use Rattle.blossom_match.specs.States.{standing_value};
 ghost use Rattle.blossom_match.specs.declared.table.TheConstants.{MAX_DISTANCE};
 
 use crate::nest::{Link, times};
 use crate::phase::begin;
-use crate::search::{Standing, meet, take_place};
+use crate::search::{meet, take_place};
+use crate::state::Standing;
 use crate::table::{DistTable, MAX_DISTANCE};
 use design_model::Memory;
+use slab::Slab;
 use std::alloc::Global;
 
 /// A price for each place, as high as the distances allow, and couples of places between which the
 /// prices leave no room.
 pub fn priced(alloc: Global, t: &DistTable, n: u32) -> Result<Standing, Memory>
     requires { n ≡ t.now.places }
-    ensures stands { IfOk result (λ r. Stands t.now r.couples.items r.free.items r.heights.items) }
+    ensures stands { IfOk result (λ r. Stands t.now (couples_in r.sets r.couples.items) r.free.items
+        r.heights.items) }
     ensures even { IfOk result (λ r. length r.free.items % 2 ≡ t.now.places % 2) }
 {
     let mut now = half_priced(alloc, t)?;
@@ -28,12 +33,15 @@ pub fn priced(alloc: Global, t: &DistTable, n: u32) -> Result<Standing, Memory>
 
 /// All places free, each at half of its least distance in halves of a step.
 fn half_priced(alloc: Global, t: &DistTable) -> Result<Standing, Memory>
-    ensures stands { IfOk result (λ r. Stands t.now r.couples.items r.free.items r.heights.items) }
+    ensures stands { IfOk result (λ r. Stands t.now (couples_in r.sets r.couples.items) r.free.items
+        r.heights.items) }
     ensures even { IfOk result (λ r. length r.free.items % 2 ≡ t.now.places % 2) }
 {
+    let sets = Slab::with_capacity(alloc, t.places() as usize)?;
     let heights = halves(alloc, t)?;
     let free = all_places(alloc, t.places())?;
     Ok(Standing {
+        sets,
         couples: Vec::new(alloc),
         free,
         heights,
@@ -102,9 +110,11 @@ fn lesser(t: &DistTable, heights: &[u32], place: u32, other: u32, best: u32) -> 
 /// Raises the price of a place that is free, and pairs it with a free one if no room is left between
 /// them.
 fn settle(alloc: Global, t: &DistTable, place: u32, from: Standing) -> Result<Standing, Memory>
-    requires stands { Stands t.now from.couples.items from.free.items from.heights.items }
+    requires stands { Stands t.now (couples_in from.sets from.couples.items) from.free.items
+        from.heights.items }
     requires within { place < t.now.places }
-    ensures stands { IfOk result (λ r. Stands t.now r.couples.items r.free.items r.heights.items) }
+    ensures stands { IfOk result (λ r. Stands t.now (couples_in r.sets r.couples.items) r.free.items
+        r.heights.items) }
     ensures even { IfOk result (λ r. length r.free.items % 2 ≡ length from.free.items % 2) }
 {
     if times(&from.free, place) == 0 {
@@ -122,12 +132,15 @@ fn settle(alloc: Global, t: &DistTable, place: u32, from: Standing) -> Result<St
 
 /// Raises the price of a free place as far as the distances allow.
 fn raise_price(t: &DistTable, place: u32, from: Standing) -> Standing
-    requires stands { Stands t.now from.couples.items from.free.items from.heights.items }
+    requires stands { Stands t.now (couples_in from.sets from.couples.items) from.free.items
+        from.heights.items }
     requires here { 1 ≤ count place from.free.items }
-    ensures stands { Stands t.now result.couples.items result.free.items result.heights.items }
+    ensures stands { Stands t.now (couples_in result.sets result.couples.items) result.free.items
+        result.heights.items }
     ensures free { result.free.items ≡ from.free.items }
 {
     let Standing {
+        sets,
         couples,
         free,
         heights,
@@ -136,6 +149,7 @@ fn raise_price(t: &DistTable, place: u32, from: Standing) -> Standing
     let price = room_at(t, &prices, place);
     prices[place as usize] = price;
     Standing {
+        sets,
         couples,
         free,
         heights: prices,
@@ -144,7 +158,8 @@ fn raise_price(t: &DistTable, place: u32, from: Standing) -> Standing
 
 /// Another free place, if the prices leave no room to it.
 fn tight_with(t: &DistTable, place: u32, s: &Standing) -> Option<u32>
-    requires stands { Stands t.now s.now.couples.items s.now.free.items s.now.heights.items }
+    requires stands { Stands t.now (couples_in s.now.sets s.now.couples.items) s.now.free.items
+        s.now.heights.items }
     requires here { 1 ≤ count place s.now.free.items }
     ensures { IfSome result (λ other. FindsTight t.now s.now.heights.items s.now.free.items place
         other) }
@@ -187,10 +202,11 @@ fn pair(
     other: u32,
     from: Standing,
 ) -> Result<Standing, Memory>
-    requires { CanPair t.now place other from }
-    ensures { IfOk result (λ r. Pairs t.now from r) }
+    requires { CanPair t.now place other (standing_value from) }
+    ensures { IfOk result (λ r. Pairs t.now (standing_value from) (standing_value r)) }
 {
     let Standing {
+        sets,
         couples,
         free,
         heights,
@@ -198,6 +214,7 @@ fn pair(
     let mut left = free;
     take_place(&mut left, place);
     let alone = Standing {
+        sets,
         couples,
         free: left,
         heights,

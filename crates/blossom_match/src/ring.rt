@@ -3,22 +3,24 @@ ghost use Rattle.blossom_match.specs.Lists.{Each};
 ghost use Rattle.blossom_match.specs.Bands.{count};
 ghost use Rattle.blossom_match.specs.Rings.{members_in, FirstHolds, HoldsAt, IsTurned};
 ghost use Rattle.blossom_match.specs.RingRows.{least_of, ring_row, row_for as the_row, HaveRows, RowsAgree};
+ghost use Rattle.blossom_match.specs.Slots.{parts_in};
 ghost use Rattle.blossom_match.specs.declared.table.TheConstants.{FAR};
 
-use crate::nest::Part;
+use crate::nest::{Part, Slot};
 use crate::rows::{clear, far_cells, merge};
 use design_model::Memory;
+use slab::Slab;
 use std::alloc::Global;
 use std::collections::VecDeque;
 
 /// The index of the part that holds the place.
-pub fn part_with(parts: &[Part], place: u32) -> usize
-    requires { 1 ≤ count place (members_in parts.now) }
+pub fn part_with(sets: &Slab<Slot>, parts: &[Part], place: u32) -> usize
+    requires { 1 ≤ count place (members_in (parts_in sets.now parts.now)) }
     ensures within { result < length parts.now }
-    ensures there { HoldsAt place parts.now result }
+    ensures there { HoldsAt place (parts_in sets.now parts.now) result }
 {
     for (i, p) in parts.iter().enumerate() {
-        if p.nest.holds(place) {
+        if p.seat.holds(sets, place) {
             return i;
         }
     }
@@ -26,13 +28,13 @@ pub fn part_with(parts: &[Part], place: u32) -> usize
 }
 
 /// The ring told from the part that holds the place.
-pub fn turned_to(parts: Vec<Part>, place: u32) -> Vec<Part>
-    requires { 1 ≤ count place (members_in parts.items) }
-    ensures turned { IsTurned parts.items result.items }
-    ensures first { FirstHolds place result.items }
+pub fn turned_to(sets: &Slab<Slot>, parts: Vec<Part>, place: u32) -> Vec<Part>
+    requires { 1 ≤ count place (members_in (parts_in sets.now parts.items)) }
+    ensures turned { IsTurned (parts_in sets.now parts.items) (parts_in sets.now result.items) }
+    ensures first { FirstHolds place (parts_in sets.now result.items) }
 {
     let mut ring = parts;
-    let at = part_with(&ring, place);
+    let at = part_with(sets, &ring, place);
     ring.rotate_left(at);
     ring
 }
@@ -50,45 +52,58 @@ pub fn listed(alloc: Global, chain: VecDeque<Part>) -> Result<Vec<Part>, Memory>
 }
 
 /// What a ring of the parts leaves for each place outside it.
-pub fn row_of(alloc: Global, parts: &[Part], members: &[u32]) -> Result<Vec<u32>, Memory>
+pub fn row_of(
+    alloc: Global,
+    sets: &Slab<Slot>,
+    parts: &[Part],
+    members: &[u32],
+) -> Result<Vec<u32>, Memory>
     requires some { 0 < length parts.now }
-    requires rows { RowsAgree parts.now }
-    requires members { members.now ≡ members_in parts.now }
-    ensures { IfOk result (λ row. row.items ≡ ring_row parts.now) }
+    requires rows { RowsAgree (parts_in sets.now parts.now) }
+    requires members { members.now ≡ members_in (parts_in sets.now parts.now) }
+    ensures { IfOk result (λ row. row.items ≡ ring_row (parts_in sets.now parts.now)) }
 {
-    let n = parts[0].nest.near().len();
-    let row = row_for(alloc, n, parts, members)?;
+    let n = parts[0].seat.near(sets).len();
+    let row = row_for(alloc, n, sets, parts, members)?;
     Ok(row)
 }
 
-fn row_for(alloc: Global, n: usize, parts: &[Part], members: &[u32]) -> Result<Vec<u32>, Memory>
-    requires rows { HaveRows n parts.now }
-    requires members { members.now ≡ members_in parts.now }
-    ensures { IfOk result (λ row. row.items ≡ the_row n parts.now) }
+fn row_for(
+    alloc: Global,
+    n: usize,
+    sets: &Slab<Slot>,
+    parts: &[Part],
+    members: &[u32],
+) -> Result<Vec<u32>, Memory>
+    requires rows { HaveRows n (parts_in sets.now parts.now) }
+    requires members { members.now ≡ members_in (parts_in sets.now parts.now) }
+    ensures { IfOk result (λ row. row.items ≡ the_row n (parts_in sets.now parts.now)) }
 {
     let mut row = far_cells(alloc, n)?;
-    fill(parts, members, &mut row);
+    fill(sets, parts, members, &mut row);
     Ok(row)
 }
 
 /// Makes the row in cells that are all far.
-fn fill(parts: &[Part], members: &[u32], cells: &mut [u32])
-    requires rows { HaveRows (length cells.old) parts.now }
-    requires members { members.now ≡ members_in parts.now }
+fn fill(sets: &Slab<Slot>, parts: &[Part], members: &[u32], cells: &mut [u32])
+    requires rows { HaveRows (length cells.old) (parts_in sets.now parts.now) }
+    requires members { members.now ≡ members_in (parts_in sets.now parts.now) }
     requires far { (x : ℕ) → x < length cells.old → slice_index cells.old x ≡ FAR }
-    ensures { cells.new ≡ the_row (length cells.old) parts.now }
+    ensures { cells.new ≡ the_row (length cells.old) (parts_in sets.now parts.now) }
 {
-    merge_all(parts, cells);
+    merge_all(sets, parts, cells);
     clear(members, cells);
 }
 
 /// The least that the parts leave over their widths.
-fn merge_all(parts: &[Part], cells: &mut [u32])
-    requires rows { Each (λ p. length p.nest.near ≡ length cells.old) parts.now }
+fn merge_all(sets: &Slab<Slot>, parts: &[Part], cells: &mut [u32])
+    requires rows { Each (λ p. length p.nest.near ≡ length cells.old)
+        (parts_in sets.now parts.now) }
     requires far { (x : ℕ) → x < length cells.old → slice_index cells.old x ≡ FAR }
-    ensures { (x : ℕ) → x < length cells.old → slice_index cells.new x ≡ least_of parts.now x }
+    ensures { (x : ℕ) → x < length cells.old
+        → slice_index cells.new x ≡ least_of (parts_in sets.now parts.now) x }
 {
     for p in parts {
-        merge(p.nest.near(), p.nest.width(), cells);
+        merge(p.seat.near(sets), p.seat.width, cells);
     }
 }

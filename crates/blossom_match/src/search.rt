@@ -1,36 +1,18 @@
 ghost use Rattle.std.specs.Prelude.{◌≡◌, ◌≤◌, ◌<◌, ◌+◌, ℕ, length, slice_index, IfOk};
 ghost use Rattle.blossom_match.specs.Bands.{count, hit};
 ghost use Rattle.blossom_match.specs.Searches.{Advances, CanStep, CanStepAt, ComesApart, Ends, HangsOn};
+ghost use Rattle.blossom_match.specs.States.{search_value, standing_value};
 ghost use Rattle.blossom_match.specs.declared.search.Step.TheVariants as step;
 
-use crate::branches::{Branch, augment, grow};
-use crate::couples::{Couple, take_couple};
+use crate::branches::{augment, grow};
+use crate::couples::take_couple;
 use crate::expanding::expand;
-use crate::nest::{Link, Nest, single};
+use crate::nest::{Link, single};
 use crate::shrinking::shrink;
+use crate::state::{Search, Standing};
 use crate::table::DistTable;
 use design_model::Memory;
 use std::alloc::Global;
-
-/// Sets in pairs, free places, and the height of each place: the widths of the sets that hold it, or
-/// the price of a free place.
-#[derive(Drop)]
-pub struct Standing {
-    pub couples: Vec<Couple>,
-    pub free: Vec<u32>,
-    pub heights: Vec<u32>,
-}
-
-/// A search for a way from the root to a free place: the tree, the couples beside it, the free
-/// places, and the height of each place.
-#[derive(Drop)]
-pub struct Search {
-    pub root: Nest,
-    pub tree: Vec<Branch>,
-    pub rest: Vec<Couple>,
-    pub free: Vec<u32>,
-    pub heights: Vec<u32>,
-}
 
 /// What can be done: a tight link from an outer set to a free place, to a couple or to another outer
 /// set, or an inner set without a width.
@@ -44,11 +26,13 @@ pub enum Step {
 
 /// Hangs the couple that the link leads to into the tree.
 pub fn grow_to(s: Search, link: Link) -> Result<Search, Memory>
-    requires { CanStep s (step.Grow link) }
-    ensures advances { IfOk result (λ r. Advances s (step.Grow link) r) }
-    ensures hangs { IfOk result (λ r. HangsOn s r) }
+    requires { CanStep (search_value s) (step.Grow link) }
+    ensures advances { IfOk result (λ r. Advances (search_value s) (step.Grow link)
+        (search_value r)) }
+    ensures hangs { IfOk result (λ r. HangsOn (search_value s) (search_value r)) }
 {
     let Search {
+        sets,
         root,
         tree,
         rest,
@@ -56,10 +40,11 @@ pub fn grow_to(s: Search, link: Link) -> Result<Search, Memory>
         heights,
     } = s;
     let mut left = rest;
-    let couple = take_couple(&mut left, link.to);
+    let couple = take_couple(&sets, &mut left, link.to);
     let mut grown = tree;
-    grow(&mut grown, link, couple)?;
+    grow(&sets, &mut grown, link, couple)?;
     Ok(Search {
+        sets,
         root,
         tree: grown,
         rest: left,
@@ -70,19 +55,23 @@ pub fn grow_to(s: Search, link: Link) -> Result<Search, Memory>
 
 /// Makes the ring that the link closes one outer set.
 pub fn shrink_by(alloc: Global, s: Search, link: Link) -> Result<Search, Memory>
-    requires { CanStep s (step.Shrink link) }
-    ensures { IfOk result (λ r. Advances s (step.Shrink link) r) }
+    requires { CanStep (search_value s) (step.Shrink link) }
+    ensures { IfOk result (λ r. Advances (search_value s) (step.Shrink link)
+        (search_value r)) }
 {
     let Search {
+        sets,
         root,
         tree,
         rest,
         free,
         heights,
     } = s;
+    let mut slots = sets;
     let mut shrunk = tree;
-    let top = shrink(alloc, root, &mut shrunk, link)?;
+    let top = shrink(alloc, &mut slots, root, &mut shrunk, link)?;
     Ok(Search {
+        sets: slots,
         root: top,
         tree: shrunk,
         rest,
@@ -93,21 +82,25 @@ pub fn shrink_by(alloc: Global, s: Search, link: Link) -> Result<Search, Memory>
 
 /// Takes the inner set of the branch at the index apart.
 pub fn expand_at(alloc: Global, s: Search, at: usize) -> Result<Search, Memory>
-    requires { CanStep s (step.Expand at) }
-    ensures advances { IfOk result (λ r. Advances s (step.Expand at) r) }
-    ensures apart { IfOk result (λ r. ComesApart at s r) }
+    requires { CanStep (search_value s) (step.Expand at) }
+    ensures advances { IfOk result (λ r. Advances (search_value s) (step.Expand at)
+        (search_value r)) }
+    ensures apart { IfOk result (λ r. ComesApart at (search_value s) (search_value r)) }
 {
     let Search {
+        sets,
         root,
         tree,
         rest,
         free,
         heights,
     } = s;
+    let mut slots = sets;
     let mut grown = tree;
     let mut more = rest;
-    expand(alloc, &root, &mut grown, at, &mut more)?;
+    expand(alloc, &mut slots, root, &mut grown, at, &mut more)?;
     Ok(Search {
+        sets: slots,
         root,
         tree: grown,
         rest: more,
@@ -118,22 +111,26 @@ pub fn expand_at(alloc: Global, s: Search, at: usize) -> Result<Search, Memory>
 
 /// Pairs all sets of the tree and the free place that the link leads to.
 pub fn meet(alloc: Global, t: &DistTable, s: Search, link: Link) -> Result<Standing, Memory>
-    requires { CanStepAt t.now s (step.Meet link) }
-    ensures { IfOk result (λ r. Ends t.now s (step.Meet link) r) }
+    requires { CanStepAt t.now (search_value s) (step.Meet link) }
+    ensures { IfOk result (λ r. Ends t.now (search_value s) (step.Meet link)
+        (standing_value r)) }
 {
     let Search {
+        sets,
         root,
         tree,
         rest,
         free,
         heights,
     } = s;
+    let mut slots = sets;
     let mut left = free;
     take_place(&mut left, link.to);
-    let met = single(alloc, t, link.to, &heights)?;
+    let met = single(alloc, &mut slots, t, link.to, &heights)?;
     let mut couples = rest;
-    augment(root, tree, link, met, &mut couples)?;
+    augment(&slots, root, tree, link, met, &mut couples)?;
     Ok(Standing {
+        sets: slots,
         couples,
         free: left,
         heights,

@@ -1,44 +1,44 @@
 ghost use Rattle.std.specs.Prelude.{◌≡◌, ◌≤◌, ◌++◌, ◌∷◌, [], ℕ, OnOk};
 ghost use Rattle.blossom_match.specs.Lists.{Each};
-ghost use Rattle.blossom_match.specs.Bands.{count};
-ghost use Rattle.blossom_match.specs.Couples.{couple_members, IsJoined};
+ghost use Rattle.blossom_match.specs.Bands.{bands, count};
+ghost use Rattle.blossom_match.specs.Couples.{couple_bands, couple_members, IsJoined};
+ghost use Rattle.blossom_match.specs.Slots.{couples_in, set_in, AreSets};
 ghost use Rattle.blossom_match.specs.Taken.{own_moat, TakesCouples, TakesNest};
 
 use crate::couples::Couple;
 use crate::matching::{Moat, Moats, Pair, Pairs};
-use crate::nest::{Link, Nest};
+use crate::nest::{Link, Seat, Slot};
 use crate::opening::{Opened, open_at};
 use design_model::{Memory, Numbers};
+use slab::Slab;
 use std::alloc::Global;
 
 /// Adds the pairs inside a set whose member `left` is paired outside, and its moats.
 #[cycle(taking)]
 pub fn take_nest(
     alloc: Global,
-    s: Nest,
+    sets: &Slab<Slot>,
+    s: Seat,
     left: u32,
     pairs: &mut Pairs,
     moats: &mut Moats,
 ) -> Result<(), Memory>
-    requires there { count left s.members ≡ 1 }
-    requires once { (x : ℕ) → count x s.members ≤ 1 }
-    ensures { OnOk result (TakesNest left s pairs.old pairs.new moats.old moats.new) }
+    requires sets { AreSets sets.now (bands (set_in sets.now s)) }
+    requires there { count left (set_in sets.now s).members ≡ 1 }
+    requires once { (x : ℕ) → count x (set_in sets.now s).members ≤ 1 }
+    ensures { OnOk result (TakesNest left (set_in sets.now s) pairs.old pairs.new moats.old
+        moats.new) }
 {
-    let Opened {
-        members,
-        width,
-        core,
-        couples,
-    } = open_at(alloc, s, left)?;
-    add_moat(members, width, moats)?;
+    let Opened { core, couples } = open_at(alloc, sets, s, left)?;
+    add_moat(alloc, s.members(sets), s.width, moats)?;
     match core {
         None => {
-            take_couples(alloc, couples, pairs, moats)?;
+            take_couples(alloc, sets, couples, pairs, moats)?;
             Ok(())
         }
         Some(part) => {
-            take_nest(alloc, part, left, pairs, moats)?;
-            take_couples(alloc, couples, pairs, moats)?;
+            take_nest(alloc, sets, part, left, pairs, moats)?;
+            take_couples(alloc, sets, couples, pairs, moats)?;
             Ok(())
         }
     }
@@ -48,30 +48,35 @@ pub fn take_nest(
 #[cycle(taking)]
 pub fn take_couples(
     alloc: Global,
+    sets: &Slab<Slot>,
     couples: Vec<Couple>,
     pairs: &mut Pairs,
     moats: &mut Moats,
 ) -> Result<(), Memory>
-    requires joined { Each IsJoined couples.items }
-    requires once { (x : ℕ) → count x (couple_members couples.items) ≤ 1 }
-    ensures { OnOk result (TakesCouples couples.items pairs.old pairs.new moats.old moats.new) }
+    requires sets { AreSets sets.now (couple_bands (couples_in sets.now couples.items)) }
+    requires joined { Each IsJoined (couples_in sets.now couples.items) }
+    requires once { (x : ℕ) → count x (couple_members (couples_in sets.now couples.items)) ≤ 1 }
+    ensures { OnOk result (TakesCouples (couples_in sets.now couples.items) pairs.old pairs.new
+        moats.old moats.new) }
 {
     let mut rest = couples.into_iter();
     while let Some(c) = rest.next() {
-        take_nest(alloc, c.first, c.link.from, pairs, moats)?;
-        take_nest(alloc, c.second, c.link.to, pairs, moats)?;
+        take_nest(alloc, sets, c.first, c.link.from, pairs, moats)?;
+        take_nest(alloc, sets, c.second, c.link.to, pairs, moats)?;
         add_pair(c.link, pairs)?;
     }
     Ok(())
 }
 
 /// A set of width 0 is left out.
-fn add_moat(members: Vec<u32>, width: u32, moats: &mut Moats) -> Result<(), Memory>
-    ensures { OnOk result (moats.new ≡ moats.old ++ own_moat members.items width) }
+fn add_moat(alloc: Global, members: &[u32], width: u32, moats: &mut Moats) -> Result<(), Memory>
+    ensures { OnOk result (moats.new ≡ moats.old ++ own_moat members.now width) }
 {
     if width > 0 {
+        let mut places = Numbers::new(alloc);
+        places.append(members)?;
         moats.push(Moat {
-            members: Numbers::from_vec(members),
+            members: places,
             width,
         })?;
     }

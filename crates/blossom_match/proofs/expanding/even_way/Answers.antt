@@ -1,7 +1,9 @@
 use Rattle.std.proofs.Common.{arith, List, length, ◌<◌, ap, subst}
 use Rattle.blossom_match.specs.Bands.{count}
 use Rattle.blossom_match.specs.Rings.{members_in, HoldsAt}
+use Rattle.blossom_match.specs.Slots.{part_in, parts_in}
 use Rattle.blossom_match.specs.declared.nest.Part.{Part}
+use Rattle.blossom_match.proofs.ListLemmas.{mapped_low}
 use Rattle.blossom_match.proofs.MirrorLemmas.{goes_on, goes_back, turned_places}
 use Rattle.blossom_match.proofs.expanding.even_way.Goals as goal
 
@@ -10,23 +12,30 @@ part_with-end-requires c =
     omega (
       arith,
       c.requires.exit_in,
-      ap (λ (qs : List Part). count c.args.exit (members_in qs)) c.deref.ensures.value,
+      ap (λ (qs : List Part). count c.args.exit (members_in (parts_in c.args.sets.now qs))) c.deref.ensures.value,
       turned_places
-          c.args.exit c.args.parts.items c.turned_to-ring.result.items c.turned_to-ring.ensures.turned,
+          c.args.exit (parts_in c.args.sets.now c.args.parts.items) (parts_in c.args.sets.now c.turned_to-ring.result.items)
+          c.turned_to-ring.ensures.turned,
     )
 
 pub returns-then-end-eq0 : goal.returns-then-end-eq0
 returns-then-end-eq0 c =
-    goes_on c.args.entry c.args.exit c.args.parts.items c.turned_to-ring.result.items c.part_with-end.result c.requires.ring
+    goes_on c.args.entry c.args.exit (parts_in c.args.sets.now c.args.parts.items)
+    (parts_in c.args.sets.now c.turned_to-ring.result.items) c.part_with-end.result c.requires.ring
     c.turned_to-ring.ensures.turned c.turned_to-ring.ensures.first
-    (subst (λ (qs : List Part). c.part_with-end.result < length qs) c.deref.ensures.value c.part_with-end.ensures.within)
-    (subst (λ (qs : List Part). HoldsAt c.args.exit qs c.part_with-end.result) c.deref.ensures.value c.part_with-end.ensures.there)
+    (mapped_low (part_in c.args.sets.now) c.turned_to-ring.result.items c.part_with-end.result
+    (subst (λ (qs : List Part). c.part_with-end.result < length qs) c.deref.ensures.value c.part_with-end.ensures.within))
+    (subst (λ (qs : List Part). HoldsAt c.args.exit (parts_in c.args.sets.now qs) c.part_with-end.result) c.deref.ensures.value
+    c.part_with-end.ensures.there)
     c.if-end-eq0.true
 
 pub returns-in_ok-back : goal.returns-in_ok-back
 returns-in_ok-back c =
-    goes_back c.args.entry c.args.exit c.args.parts.items c.turned_to-ring.result.items c.in_ok-back.back.items c.part_with-end.result
+    goes_back c.args.entry c.args.exit (parts_in c.args.sets.now c.args.parts.items)
+    (parts_in c.args.sets.now c.turned_to-ring.result.items) (parts_in c.args.sets.now c.in_ok-back.back.items) c.part_with-end.result
     c.requires.ring c.turned_to-ring.ensures.turned c.turned_to-ring.ensures.first
-    (subst (λ (qs : List Part). c.part_with-end.result < length qs) c.deref.ensures.value c.part_with-end.ensures.within)
-    (subst (λ (qs : List Part). HoldsAt c.args.exit qs c.part_with-end.result) c.deref.ensures.value c.part_with-end.ensures.there)
-    (omega (arith, c.if-end-eq0.false)) c.in_ok-back.ensures
+    (mapped_low (part_in c.args.sets.now) c.turned_to-ring.result.items c.part_with-end.result
+    (subst (λ (qs : List Part). c.part_with-end.result < length qs) c.deref.ensures.value c.part_with-end.ensures.within))
+    (subst (λ (qs : List Part). HoldsAt c.args.exit (parts_in c.args.sets.now qs) c.part_with-end.result) c.deref.ensures.value
+    c.part_with-end.ensures.there)
+    (omega (arith, c.if-end-eq0.false)) (c.in_ok-back.ensures c.args.sets.now)

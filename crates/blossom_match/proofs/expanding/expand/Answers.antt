@@ -1,41 +1,130 @@
-use Rattle.std.proofs.Common.{arith, ap}
-use Rattle.blossom_match.specs.Bands.{NestValue, count}
-use Rattle.blossom_match.proofs.ExpandLemmas.{can_lay, expanded, grows_at, split_at}
+use Rattle.std.proofs.Common.{arith}
+use Rattle.blossom_match.specs.Slots.{parts_in}
+use Rattle.blossom_match.proofs.FreedLemmas.{can_lay_freed, expanded_freed, freed, freed_sets, grows_freed, inner_slot, places_stay, ring_stays, split_slots}
 use Rattle.blossom_match.proofs.expanding.expand.Goals as goal
 
-pub into_parts-requires : goal.into_parts-requires
-into_parts-requires c =
-    (split_at c.args.root.now c.args.tree.now.items _ _ c.in-Some.b _ c.args.at c.requires c.in_ok-later.ensures.items
-    c.in_ok-later.ensures.tail c.in-Some.ensures.items).some
+pub remove-slot-requires : goal.remove-slot-requires
+remove-slot-requires c =
+    let sets = c.args.sets.now in
+    let s = split_slots sets c.args.root c.args.tree.now.items c.pop.new.self.items c.in_ok-later.later.items c.in-Some.b
+    c.args.rest.now.items c.split_off.new.self.items c.args.at c.requires.can c.in_ok-later.ensures.items c.in_ok-later.ensures.tail
+    c.in-Some.ensures.items in
+    inner_slot sets c.args.root c.args.tree.now.items c.pop.new.self.items c.in_ok-later.later.items c.in-Some.b c.args.rest.now.items s
+    c.requires.sets
+
+pub even_way-requires-clause-ring : goal.even_way-requires-clause-ring
+even_way-requires-clause-ring c =
+    let sets = c.args.sets.now in
+    let s = split_slots sets c.args.root c.args.tree.now.items c.pop.new.self.items c.in_ok-later.later.items c.in-Some.b
+    c.args.rest.now.items c.split_off.new.self.items c.args.at c.requires.can c.in_ok-later.ensures.items c.in_ok-later.ensures.tail
+    c.in-Some.ensures.items in
+    let f = freed sets c.args.root c.args.tree.now.items c.pop.new.self.items c.in_ok-later.later.items c.in-Some.b
+    c.args.rest.now.items c.remove-slot.new.self c.remove-slot.result s c.requires.sets c.remove-slot.ensures.value
+    c.remove-slot.ensures.updates in
+    ring_stays sets c.args.root c.args.tree.now.items c.pop.new.self.items c.in_ok-later.later.items c.in-Some.b c.args.rest.now.items
+    c.remove-slot.new.self c.remove-slot.result f
 
 pub even_way-requires-clause-entry_in : goal.even_way-requires-clause-entry_in
 even_way-requires-clause-entry_in c =
-    let s = split_at c.args.root.now c.args.tree.now.items _ _ c.in-Some.b _ c.args.at c.requires c.in_ok-later.ensures.items
-    c.in_ok-later.ensures.tail c.in-Some.ensures.items in
-    omega (arith, s.up_to, ap (λ (v : NestValue). count c.in-Some.b.up.to v.members) c.into_parts.ensures.made)
+    let sets = c.args.sets.now in
+    let s = split_slots sets c.args.root c.args.tree.now.items c.pop.new.self.items c.in_ok-later.later.items c.in-Some.b
+    c.args.rest.now.items c.split_off.new.self.items c.args.at c.requires.can c.in_ok-later.ensures.items c.in_ok-later.ensures.tail
+    c.in-Some.ensures.items in
+    let f = freed sets c.args.root c.args.tree.now.items c.pop.new.self.items c.in_ok-later.later.items c.in-Some.b
+    c.args.rest.now.items c.remove-slot.new.self c.remove-slot.result s c.requires.sets c.remove-slot.ensures.value
+    c.remove-slot.ensures.updates in
+    omega (
+      arith,
+      s.up_to,
+      places_stay sets c.args.root c.args.tree.now.items c.pop.new.self.items c.in_ok-later.later.items c.in-Some.b c.args.rest.now.items
+          c.remove-slot.new.self c.remove-slot.result f c.in-Some.b.up.to,
+    )
 
 pub even_way-requires-clause-exit_in : goal.even_way-requires-clause-exit_in
 even_way-requires-clause-exit_in c =
-    let s = split_at c.args.root.now c.args.tree.now.items _ _ c.in-Some.b _ c.args.at c.requires c.in_ok-later.ensures.items
-    c.in_ok-later.ensures.tail c.in-Some.ensures.items in
-    omega (arith, s.pair_from, ap (λ (v : NestValue). count c.in-Some.b.pair.from v.members) c.into_parts.ensures.made)
+    let sets = c.args.sets.now in
+    let s = split_slots sets c.args.root c.args.tree.now.items c.pop.new.self.items c.in_ok-later.later.items c.in-Some.b
+    c.args.rest.now.items c.split_off.new.self.items c.args.at c.requires.can c.in_ok-later.ensures.items c.in_ok-later.ensures.tail
+    c.in-Some.ensures.items in
+    let f = freed sets c.args.root c.args.tree.now.items c.pop.new.self.items c.in_ok-later.later.items c.in-Some.b
+    c.args.rest.now.items c.remove-slot.new.self c.remove-slot.result s c.requires.sets c.remove-slot.ensures.value
+    c.remove-slot.ensures.updates in
+    omega (
+      arith,
+      s.pair_from,
+      places_stay sets c.args.root c.args.tree.now.items c.pop.new.self.items c.in_ok-later.later.items c.in-Some.b c.args.rest.now.items
+          c.remove-slot.new.self c.remove-slot.result f c.in-Some.b.pair.from,
+    )
 
 pub lay-requires : goal.lay-requires
 lay-requires c =
-    let s = split_at c.args.root.now c.args.tree.now.items _ _ c.in-Some.b _ c.args.at c.requires c.in_ok-later.ensures.items
-    c.in_ok-later.ensures.tail c.in-Some.ensures.items in
-    can_lay c.args.root.now c.args.tree.now.items _ c.in-Some.b _ c.into_parts.result.items _ s c.into_parts.ensures.made
+    let sets = c.args.sets.now in
+    let s = split_slots sets c.args.root c.args.tree.now.items c.pop.new.self.items c.in_ok-later.later.items c.in-Some.b
+    c.args.rest.now.items c.split_off.new.self.items c.args.at c.requires.can c.in_ok-later.ensures.items c.in_ok-later.ensures.tail
+    c.in-Some.ensures.items in
+    let f = freed sets c.args.root c.args.tree.now.items c.pop.new.self.items c.in_ok-later.later.items c.in-Some.b
+    c.args.rest.now.items c.remove-slot.new.self c.remove-slot.result s c.requires.sets c.remove-slot.ensures.value
+    c.remove-slot.ensures.updates in
+    can_lay_freed sets c.args.root c.args.tree.now.items c.pop.new.self.items c.in_ok-later.later.items c.in-Some.b c.args.rest.now.items
+    c.remove-slot.new.self c.remove-slot.result (parts_in c.remove-slot.new.self c.in_ok-ring-in-Some.ring.items) s f
     c.in_ok-ring-in-Some.ensures
 
 pub returns-clause-expands : goal.returns-clause-expands
 returns-clause-expands c =
-    let s = split_at c.args.root.now c.args.tree.now.items _ _ c.in-Some.b _ c.args.at c.requires c.in_ok-later.ensures.items
-    c.in_ok-later.ensures.tail c.in-Some.ensures.items in
-    expanded c.args.root.now c.args.tree.now.items _ c.in-Some.b _ _ _ c.into_parts.result.items _ c.args.rest.now.items _ _ s
-    c.into_parts.ensures.ring c.into_parts.ensures.made c.in_ok-ring-in-Some.ensures
-    c.in_ok-couples-in-Some.ensures c.in_ok-append-in-Some.ensures.items c.in_ok-append-in-Some-2.ensures.items
+    let sets = c.args.sets.now in
+    let s = split_slots sets c.args.root c.args.tree.now.items c.pop.new.self.items c.in_ok-later.later.items c.in-Some.b
+    c.args.rest.now.items c.split_off.new.self.items c.args.at c.requires.can c.in_ok-later.ensures.items c.in_ok-later.ensures.tail
+    c.in-Some.ensures.items in
+    let f = freed sets c.args.root c.args.tree.now.items c.pop.new.self.items c.in_ok-later.later.items c.in-Some.b
+    c.args.rest.now.items c.remove-slot.new.self c.remove-slot.result s c.requires.sets c.remove-slot.ensures.value
+    c.remove-slot.ensures.updates in (
+      c.in-Some.b.inner.key,
+      expanded_freed sets c.args.root c.args.tree.now.items c.pop.new.self.items c.in_ok-later.later.items c.in-Some.b c.args.rest.now.items
+          c.remove-slot.new.self c.remove-slot.result (parts_in c.remove-slot.new.self c.in_ok-ring-in-Some.ring.items) _ _ _ _ s f
+          c.in_ok-ring-in-Some.ensures
+          c.in_ok-couples-in-Some.ensures c.in_ok-append-in-Some.ensures.items c.in_ok-append-in-Some-2.ensures.items,
+    )
 
 pub returns-clause-grows : goal.returns-clause-grows
 returns-clause-grows c =
-    grows_at c.args.root.now c.args.tree.now.items _ _ c.in-Some.b _ _ _ _ _ c.args.at c.requires c.in_ok-later.ensures.items
-    c.in_ok-later.ensures.tail c.in-Some.ensures.items c.in_ok-couples-in-Some.ensures c.in_ok-append-in-Some-2.ensures.items
+    let sets = c.args.sets.now in
+    let s = split_slots sets c.args.root c.args.tree.now.items c.pop.new.self.items c.in_ok-later.later.items c.in-Some.b
+    c.args.rest.now.items c.split_off.new.self.items c.args.at c.requires.can c.in_ok-later.ensures.items c.in_ok-later.ensures.tail
+    c.in-Some.ensures.items in
+    let f = freed sets c.args.root c.args.tree.now.items c.pop.new.self.items c.in_ok-later.later.items c.in-Some.b
+    c.args.rest.now.items c.remove-slot.new.self c.remove-slot.result s c.requires.sets c.remove-slot.ensures.value
+    c.remove-slot.ensures.updates in
+    grows_freed sets c.args.root c.args.tree.now.items c.pop.new.self.items c.in_ok-later.later.items c.in-Some.b c.args.rest.now.items
+    c.remove-slot.new.self c.remove-slot.result (parts_in c.remove-slot.new.self c.in_ok-ring-in-Some.ring.items)
+    c.split_off.new.self.items _ _ _ c.args.at c.requires.can
+    c.in_ok-later.ensures.items c.in_ok-later.ensures.tail c.in-Some.ensures.items f c.in_ok-couples-in-Some.ensures
+    c.in_ok-append-in-Some-2.ensures.items
+
+pub returns-clause-root : goal.returns-clause-root
+returns-clause-root c =
+    let sets = c.args.sets.now in
+    let s = split_slots sets c.args.root c.args.tree.now.items c.pop.new.self.items c.in_ok-later.later.items c.in-Some.b
+    c.args.rest.now.items c.split_off.new.self.items c.args.at c.requires.can c.in_ok-later.ensures.items c.in_ok-later.ensures.tail
+    c.in-Some.ensures.items in
+    let f = freed sets c.args.root c.args.tree.now.items c.pop.new.self.items c.in_ok-later.later.items c.in-Some.b
+    c.args.rest.now.items c.remove-slot.new.self c.remove-slot.result s c.requires.sets c.remove-slot.ensures.value
+    c.remove-slot.ensures.updates in
+    f.same_root
+
+pub returns-clause-sets : goal.returns-clause-sets
+returns-clause-sets c =
+    let sets = c.args.sets.now in
+    let s = split_slots sets c.args.root c.args.tree.now.items c.pop.new.self.items c.in_ok-later.later.items c.in-Some.b
+    c.args.rest.now.items c.split_off.new.self.items c.args.at c.requires.can c.in_ok-later.ensures.items c.in_ok-later.ensures.tail
+    c.in-Some.ensures.items in
+    let f = freed sets c.args.root c.args.tree.now.items c.pop.new.self.items c.in_ok-later.later.items c.in-Some.b
+    c.args.rest.now.items c.remove-slot.new.self c.remove-slot.result s c.requires.sets c.remove-slot.ensures.value
+    c.remove-slot.ensures.updates in
+    freed_sets sets c.args.root c.args.tree.now.items c.pop.new.self.items c.in_ok-later.later.items c.in-Some.b c.args.rest.now.items
+    c.remove-slot.new.self c.remove-slot.result (parts_in c.remove-slot.new.self c.in_ok-ring-in-Some.ring.items) c.lay.new.tree.items
+    c.append-in-Some.new.self.items
+    c.in_ok-couples-in-Some.couples.items c.append.new.self.items s c.requires.sets f
+    (expanded_freed sets c.args.root c.args.tree.now.items c.pop.new.self.items c.in_ok-later.later.items c.in-Some.b c.args.rest.now.items
+    c.remove-slot.new.self c.remove-slot.result (parts_in c.remove-slot.new.self c.in_ok-ring-in-Some.ring.items) _ _ _ _ s f
+    c.in_ok-ring-in-Some.ensures
+    c.in_ok-couples-in-Some.ensures c.in_ok-append-in-Some.ensures.items c.in_ok-append-in-Some-2.ensures.items)

@@ -1,22 +1,25 @@
-use Rattle.std.proofs.Common.{refl}
+use Rattle.std.proofs.Common.{ap, refl, List}
 use Rattle.std.specs.Vec.Iter.{into_iter_items}
+use Rattle.blossom_match.specs.Slots.{branch_in, part_in, parts_in, set_in}
+use Rattle.blossom_match.specs.declared.nest.Part.{Part}
 use Rattle.blossom_match.proofs.LayLemmas.{laid, laying_more}
+use Rattle.blossom_match.proofs.ListLemmas.{mapped_last}
 use Rattle.blossom_match.proofs.expanding.lay.Goals as goal
 
 pub returns-then-holds : goal.returns-then-holds
 returns-then-holds c =
-    laid c.args.root.now _ _ _ c.args.pair c.args.outer c.loop-p.outer _ (into_iter_items c.loop-p.left)
-    (into_iter_items c.next.new.self) c.in-Some.p c.loop-p.way _ _
-    c.loop-p.invariant.same c.loop-p.invariant.goes c.in-Some.ensures.items
-    (c.if-holds.ensures.yes refl) c.in_ok-push.ensures.items c.in_ok-couples.ensures
+    let sets = c.args.sets.now in
+    laid (set_in sets c.args.root) _ _ _ c.args.b.pair (set_in sets c.args.b.outer) _ (parts_in sets (into_iter_items c.loop-p.left))
+    (parts_in sets (into_iter_items c.next.new.self)) (part_in sets c.in-Some.p) c.loop-p.way _ _
+    c.loop-p.invariant (ap (λ (ps : List Part). parts_in sets ps) c.in-Some.ensures.items)
+    (c.if-holds.ensures.yes refl) (mapped_last (branch_in sets) _ _ _ c.in_ok-push.ensures.items) (c.in_ok-couples.ensures sets)
 
 pub loop-p-preserved : goal.loop-p-preserved
-loop-p-preserved c = record {
-  same = c.loop-p.invariant.same;
-  goes =
-      laying_more c.args.root.now _ _ _ c.args.pair c.args.outer _ (into_iter_items c.loop-p.left) (into_iter_items c.next.new.self)
-      (into_iter_items c.next-in-Some.new.self)
-      c.in-Some.p c.in-Some-next.q c.loop-p.way _ c.loop-p.invariant.goes c.in-Some.ensures.items c.in-Some-next.ensures.items
-      (c.if-holds.ensures.no refl)
-      c.in_ok-push-in-Some-next.ensures.items;
-}
+loop-p-preserved c =
+    let sets = c.args.sets.now in
+    laying_more (set_in sets c.args.root) _ _ _ c.args.b.pair (set_in sets c.args.b.outer) _
+    (parts_in sets (into_iter_items c.loop-p.left)) (parts_in sets (into_iter_items c.next.new.self))
+    (parts_in sets (into_iter_items c.next-in-Some.new.self)) (part_in sets c.in-Some.p) (part_in sets c.in-Some-next.q) c.loop-p.way _
+    c.loop-p.invariant (ap (λ (ps : List Part). parts_in sets ps) c.in-Some.ensures.items)
+    (ap (λ (ps : List Part). parts_in sets ps) c.in-Some-next.ensures.items)
+    (c.if-holds.ensures.no refl) (mapped_last (branch_in sets) _ _ _ c.in_ok-push-in-Some-next.ensures.items)

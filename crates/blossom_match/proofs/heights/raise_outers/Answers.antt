@@ -1,6 +1,9 @@
-use Rattle.std.proofs.Common.{arith, ap, ℕ, ◌*◌, List}
+use Rattle.std.proofs.Common.{get_or, arith, ap, ℕ, ◌*◌, List}
 use Rattle.blossom_match.specs.Bands.{count}
 use Rattle.blossom_match.proofs.RaisedLemmas.{outer_places, more_by}
+use Rattle.blossom_match.specs.Slots.{branch_in, branches_in}
+use Rattle.blossom_match.proofs.ListLemmas.{mapped_item, mapped_low}
+use Rattle.blossom_match.proofs.SeatLemmas.{no_branch}
 use Rattle.blossom_match.proofs.heights.raise_outers.Goals as goal
 
 pub raise-requires-clause-within : goal.raise-requires-clause-within
@@ -8,8 +11,10 @@ raise-requires-clause-within c = λ x here.
     c.loop-b.invariant.within x (omega (
       arith,
       here,
-      outer_places x c.args.tree.now c.loop-b.b-index c.b-item.result c.loop-b-test.true
-          c.b-item.is,
+      outer_places x (branches_in c.args.sets.now c.args.tree.now) c.loop-b.b-index
+          (branch_in c.args.sets.now (get_or c.args.tree.now c.loop-b.b-index no_branch))
+          (mapped_low (branch_in c.args.sets.now) c.args.tree.now c.loop-b.b-index c.loop-b-test.true)
+          (mapped_item (branch_in c.args.sets.now) c.args.tree.now c.loop-b.b-index no_branch),
       ap (λ (xs : List ℕ). count x xs) c.members.ensures,
     ))
 
@@ -17,7 +22,10 @@ pub raise-requires-clause-fits : goal.raise-requires-clause-fits
 raise-requires-clause-fits c = λ x.
     omega (
       arith,
-      more_by c.args.by _ _ _ (outer_places x c.args.tree.now c.loop-b.b-index c.b-item.result c.loop-b-test.true c.b-item.is),
+      more_by c.args.by _ _ _ (outer_places x (branches_in c.args.sets.now c.args.tree.now) c.loop-b.b-index
+          (branch_in c.args.sets.now (get_or c.args.tree.now c.loop-b.b-index no_branch))
+          (mapped_low (branch_in c.args.sets.now) c.args.tree.now c.loop-b.b-index c.loop-b-test.true)
+          (mapped_item (branch_in c.args.sets.now) c.args.tree.now c.loop-b.b-index no_branch)),
       c.loop-b.invariant.sum x,
       c.requires.fits x,
       ap (λ (xs : List ℕ). c.args.by * count x xs) c.members.ensures,
@@ -27,8 +35,10 @@ pub loop-b-preserved : goal.loop-b-preserved
 loop-b-preserved c = record {
   sum = λ x. omega (
     arith,
-    more_by c.args.by _ _ _ (outer_places x c.args.tree.now c.loop-b.b-index c.b-item.result c.loop-b-test.true
-        c.b-item.is),
+    more_by c.args.by _ _ _ (outer_places x (branches_in c.args.sets.now c.args.tree.now) c.loop-b.b-index
+        (branch_in c.args.sets.now (get_or c.args.tree.now c.loop-b.b-index no_branch))
+        (mapped_low (branch_in c.args.sets.now) c.args.tree.now c.loop-b.b-index c.loop-b-test.true)
+        (mapped_item (branch_in c.args.sets.now) c.args.tree.now c.loop-b.b-index no_branch)),
     c.loop-b.invariant.sum x,
     c.raise.ensures x,
     ap (λ (xs : List ℕ). c.args.by * count x xs) c.members.ensures,
@@ -37,8 +47,10 @@ loop-b-preserved c = record {
       let low = c.loop-b.invariant.within x (omega (
         arith,
         here,
-        outer_places x c.args.tree.now c.loop-b.b-index c.b-item.result
-            c.loop-b-test.true c.b-item.is,
+        outer_places x (branches_in c.args.sets.now c.args.tree.now) c.loop-b.b-index
+            (branch_in c.args.sets.now (get_or c.args.tree.now c.loop-b.b-index no_branch))
+            (mapped_low (branch_in c.args.sets.now) c.args.tree.now c.loop-b.b-index c.loop-b-test.true)
+            (mapped_item (branch_in c.args.sets.now) c.args.tree.now c.loop-b.b-index no_branch),
       )) in
       omega (arith, low, c.raise.auto.heights);
 }

@@ -1,46 +1,72 @@
-use Rattle.std.proofs.Common.{arith}
+use Rattle.std.proofs.Common.{get_or, arith}
 use Rattle.blossom_match.proofs.TreeLemmas.{base_in}
 use Rattle.blossom_match.proofs.ReachLemmas.{outer_within}
 use Rattle.blossom_match.proofs.AimLemmas.{below_next, below_root, outer_apart, root_apart}
+use Rattle.blossom_match.specs.Slots.{branch_in, branches_in, set_in}
+use Rattle.blossom_match.proofs.ListLemmas.{mapped_item, mapped_low}
+use Rattle.blossom_match.proofs.SeatLemmas.{no_branch}
 use Rattle.blossom_match.proofs.least.nearest.Goals as goal
 
 pub leaving-requires-clause-within : goal.leaving-requires-clause-within
 leaving-requires-clause-within c = λ a ha.
-    c.requires.can.within a (omega (arith, ha, base_in a c.args.root.now.members c.args.tree.now))
+    c.requires.can.within a (omega (
+      arith,
+      ha,
+      base_in a (set_in c.args.sets.now c.args.root).members
+          (branches_in c.args.sets.now c.args.tree.now),
+    ))
 
 pub returns-in-Some-clause-here : goal.returns-in-Some-clause-here
 returns-in-Some-clause-here c =
-    omega (arith, c.in-Some.ensures.1.here, base_in c.in-Some.a c.args.root.now.members c.args.tree.now)
+    omega (
+      arith,
+      c.in-Some.ensures.1.here,
+      base_in c.in-Some.a (set_in c.args.sets.now c.args.root).members
+          (branches_in c.args.sets.now c.args.tree.now),
+    )
 
 pub returns-in-Some-clause-apart : goal.returns-in-Some-clause-apart
 returns-in-Some-clause-apart c =
-    root_apart c.in-Some.a c.args.to c.args.root.now c.args.tree.now c.requires.can.once c.in-Some.ensures.1.here c.in-Some.ensures.0
+    root_apart c.in-Some.a c.args.to (set_in c.args.sets.now c.args.root) (branches_in c.args.sets.now c.args.tree.now)
+    c.requires.can.once c.in-Some.ensures.1.here c.in-Some.ensures.0
 
 pub loop-b-init : goal.loop-b-init
 loop-b-init c =
-    below_root c.args.t.now c.args.heights.now c.args.root.now c.args.tree.now c.args.to c.args.room c.requires.reached c.in_default.ensures
+    below_root c.args.t.now c.args.heights.now (set_in c.args.sets.now c.args.root) (branches_in c.args.sets.now c.args.tree.now)
+    c.args.to c.args.room c.requires.reached c.in_default.ensures
 
 pub leaving-requires-in-loop-b-clause-within : goal.leaving-requires-in-loop-b-clause-within
 leaving-requires-in-loop-b-clause-within c = λ a ha.
     c.requires.can.within a (omega (
       arith,
       ha,
-      outer_within a c.args.root.now.members c.args.tree.now c.loop-b.b-index c.b-item.result c.loop-b-test.true c.b-item.is,
+      outer_within a (set_in c.args.sets.now c.args.root).members (branches_in c.args.sets.now c.args.tree.now) c.loop-b.b-index
+          (branch_in c.args.sets.now (get_or c.args.tree.now c.loop-b.b-index no_branch))
+          (mapped_low (branch_in c.args.sets.now) c.args.tree.now c.loop-b.b-index c.loop-b-test.true)
+          (mapped_item (branch_in c.args.sets.now) c.args.tree.now c.loop-b.b-index no_branch),
     ))
 
 pub returns-in-Some-leaving-clause-here : goal.returns-in-Some-leaving-clause-here
 returns-in-Some-leaving-clause-here c = omega (
   arith,
   c.in-Some-leaving.ensures.1.here,
-  outer_within c.in-Some-leaving.a c.args.root.now.members c.args.tree.now c.loop-b.b-index c.b-item.result c.loop-b-test.true c.b-item.is,
+  outer_within c.in-Some-leaving.a (set_in c.args.sets.now c.args.root).members (branches_in c.args.sets.now c.args.tree.now)
+      c.loop-b.b-index (branch_in c.args.sets.now (get_or c.args.tree.now c.loop-b.b-index no_branch))
+      (mapped_low (branch_in c.args.sets.now) c.args.tree.now c.loop-b.b-index c.loop-b-test.true)
+      (mapped_item (branch_in c.args.sets.now) c.args.tree.now c.loop-b.b-index no_branch),
 )
 
 pub returns-in-Some-leaving-clause-apart : goal.returns-in-Some-leaving-clause-apart
 returns-in-Some-leaving-clause-apart c =
-    outer_apart c.in-Some-leaving.a c.args.to c.args.root.now c.args.tree.now c.loop-b.b-index c.b-item.result c.requires.can.once
-    c.loop-b-test.true c.b-item.is c.in-Some-leaving.ensures.1.here c.in-Some-leaving.ensures.0
+    outer_apart c.in-Some-leaving.a c.args.to (set_in c.args.sets.now c.args.root) (branches_in c.args.sets.now c.args.tree.now)
+    c.loop-b.b-index (branch_in c.args.sets.now (get_or c.args.tree.now c.loop-b.b-index no_branch)) c.requires.can.once
+    (mapped_low (branch_in c.args.sets.now) c.args.tree.now c.loop-b.b-index c.loop-b-test.true)
+    (mapped_item (branch_in c.args.sets.now) c.args.tree.now c.loop-b.b-index no_branch) c.in-Some-leaving.ensures.1.here
+    c.in-Some-leaving.ensures.0
 
 pub loop-b-preserved : goal.loop-b-preserved
 loop-b-preserved c =
-    below_next c.args.t.now c.args.heights.now c.args.tree.now c.loop-b.b-index c.b-item.result c.args.to c.args.room c.loop-b-test.true
-    c.b-item.is c.loop-b.invariant c.in_default-leaving.ensures
+    below_next c.args.t.now c.args.heights.now (branches_in c.args.sets.now c.args.tree.now) c.loop-b.b-index
+    (branch_in c.args.sets.now (get_or c.args.tree.now c.loop-b.b-index no_branch)) c.args.to c.args.room
+    (mapped_low (branch_in c.args.sets.now) c.args.tree.now c.loop-b.b-index c.loop-b-test.true)
+    (mapped_item (branch_in c.args.sets.now) c.args.tree.now c.loop-b.b-index no_branch) c.loop-b.invariant c.in_default-leaving.ensures

@@ -1,19 +1,63 @@
-use Rattle.std.proofs.Common.{arith, ap, sym, ◌∙◌, length, ◌≡◌, ℕ}
-use Rattle.blossom_match.specs.Rings.{nest_of}
-use Rattle.blossom_match.proofs.OpenLemmas.{opens_place, opens_ring}
+use Rattle.std.proofs.Common.{arith, ap, length, List, ℕ, ◌++◌, ◌≡◌, ◌<◌, ◌∙◌, subst, sym}
+use Rattle.std.proofs.lemmas.List.{length-map}
+use Rattle.std.specs.Vec.Iter.{into_iter_items}
+use Rattle.blossom_match.specs.Bands.{count}
+use Rattle.blossom_match.specs.Rings.{members_in, IsTurned}
+use Rattle.blossom_match.specs.Slots.{couples_in, members_at, near_at, part_in, parts_at, parts_in, set_in}
+use Rattle.blossom_match.specs.declared.couples.Couple.{Couple}
+use Rattle.blossom_match.specs.declared.nest.Part.{Part}
+use Rattle.blossom_match.proofs.OpenLemmas.{made_ring, opens_place, opens_ring}
+use Rattle.blossom_match.proofs.SlotLemmas.{is_made, set_made}
 use Rattle.blossom_match.proofs.opening.open_at.Goals as goal
+
+pub turned_to-requires : goal.turned_to-requires
+turned_to-requires c =
+    let sets = c.args.sets.now in
+    let s = c.args.s in
+    let copied = c.in_ok-extend_from_slice.ensures.items ∙ ap (λ (ps : List Part). ps ++ c.parts.result.now) c.new-parts.ensures.items
+    ∙ c.parts.ensures in
+    let some : 0 < length (parts_in sets (parts_at sets s.key)) = omega (
+      arith,
+      c.len.ensures,
+      c.if-len-eq0.false,
+      ap (λ (ps : List Part). length ps) copied,
+      length-map (parts_at sets s.key) (part_in sets),
+    ) in
+    let made = made_ring (members_at sets s.key) (parts_in sets (parts_at sets s.key)) some (is_made sets s.key c.requires.set) in
+    omega (
+      arith,
+      c.requires.there,
+      ap (λ (xs : List ℕ). count c.args.left xs) made.0,
+      ap (λ (ps : List Part). count c.args.left (members_in (parts_in sets ps))) copied,
+    )
 
 pub returns-then-len-eq0 : goal.returns-then-len-eq0
 returns-then-len-eq0 c =
-    let made = c.into_shell-members.ensures.made ∙ ap (λ (w : ℕ). nest_of c.into_shell-members.result.0.items w
-    c.args.s.near c.into_shell-members.result.1.items) (sym c.width-width.ensures) in
-    let none : length c.into_shell-members.result.1.items ≡ 0 = omega (arith, c.len.ensures, c.if-len-eq0.true) in
-    opens_place c.args.left _ c.args.s _ _ _ _ made c.into_shell-members.ensures.kept c.requires.there none c.new.ensures.items
+    let sets = c.args.sets.now in
+    let s = c.args.s in
+    let copied = c.in_ok-extend_from_slice.ensures.items ∙ ap (λ (ps : List Part). ps ++ c.parts.result.now) c.new-parts.ensures.items
+    ∙ c.parts.ensures in
+    let none : length (parts_in sets (parts_at sets s.key)) ≡ 0 = omega (
+      arith,
+      c.len.ensures,
+      c.if-len-eq0.true,
+      ap (λ (ps : List Part). length ps) copied,
+      length-map (parts_at sets s.key) (part_in sets),
+    ) in
+    opens_place c.args.left s.key s.width (set_in sets s) (members_at sets s.key) (near_at sets s.key) (parts_in sets (parts_at sets s.key))
+    _ (set_made sets s c.requires.set) (is_made sets s.key c.requires.set) c.requires.there none
+    (ap (λ (cs : List Couple). couples_in sets cs) c.new.ensures.items)
 
 pub returns : goal.returns
 returns c =
-    let made = c.into_shell-members.ensures.made ∙ ap (λ (w : ℕ). nest_of c.into_shell-members.result.0.items w
-    c.args.s.near c.into_shell-members.result.1.items) (sym c.width-width.ensures) in
-    opens_ring c.args.left _ c.args.s _ _ _ c.turned_to.result.items c.in-Some.p _ _ made c.into_shell-members.ensures.kept c.requires.there
-    c.turned_to.ensures.turned c.turned_to.ensures.first
-    (sym c.into_iter-rest.ensures.rest ∙ c.in-Some.ensures.items) c.in_ok-couples-in-Some.ensures
+    let sets = c.args.sets.now in
+    let s = c.args.s in
+    let copied = c.in_ok-extend_from_slice.ensures.items ∙ ap (λ (ps : List Part). ps ++ c.parts.result.now) c.new-parts.ensures.items
+    ∙ c.parts.ensures in
+    opens_ring c.args.left s.key s.width (set_in sets s) (members_at sets s.key) (near_at sets s.key) (parts_in sets (parts_at sets s.key))
+    (parts_in sets c.turned_to.result.items) (part_in sets c.in-Some.p) (parts_in sets (into_iter_items c.next.new.self)) _
+    (set_made sets s c.requires.set) (is_made sets s.key c.requires.set) c.requires.there
+    (subst (λ (ps : List Part). IsTurned (parts_in sets ps) (parts_in sets c.turned_to.result.items)) copied c.turned_to.ensures.turned)
+    c.turned_to.ensures.first
+    (ap (λ (ps : List Part). parts_in sets ps) (sym c.into_iter-rest.ensures.rest ∙ c.in-Some.ensures.items))
+    (c.in_ok-couples-in-Some.ensures sets)

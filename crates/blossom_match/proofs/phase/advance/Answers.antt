@@ -1,20 +1,25 @@
+use Rattle.blossom_match.specs.States.{search_value}
 use Rattle.blossom_match.proofs.EndLemmas.{can_step, can_widen_now, goes}
 use Rattle.blossom_match.proofs.LoweredLemmas.{still_reaches}
 use Rattle.blossom_match.proofs.phase.advance.Goals as goal
 
-pub widen-requires : goal.widen-requires
-widen-requires c = can_widen_now c.args.t.now c.args.s c.least-change.result c.requires.metric c.requires.search c.least-change.ensures
+pub widen-wide-requires : goal.widen-wide-requires
+widen-wide-requires c = can_widen_now c.args.t.now (search_value c.args.s) c.least-change.result c.requires.metric c.requires.search
+    c.least-change.ensures
 
 pub take_step-requires-clause-step : goal.take_step-requires-clause-step
-take_step-requires-clause-step c = can_step c.args.t.now c.args.s c.in_ok-wide.wide c.least-change.result c.requires.metric
-    c.requires.search c.least-change.ensures c.in_ok-wide.ensures.widens
+take_step-requires-clause-step c = can_step c.args.t.now (search_value c.args.s) (search_value c.widen-wide.result) c.least-change.result
+    c.requires.metric
+    c.requires.search c.least-change.ensures c.widen-wide.ensures.widens
 
 pub take_step-requires-clause-reaches : goal.take_step-requires-clause-reaches
 take_step-requires-clause-reaches c =
-    still_reaches c.args.t.now c.least-change.result.by c.args.s c.in_ok-wide.wide c.args.reach.now c.lower_reach.new.reach
-    c.requires.metric.table c.requires.search.search c.in_ok-wide.ensures.changes c.requires.reaches c.lower_reach.auto.reach
+    still_reaches c.args.t.now c.least-change.result.by (search_value c.args.s) (search_value c.widen-wide.result) c.args.reach.now
+    c.lower_reach.new.reach
+    c.requires.metric.table c.requires.search.search c.widen-wide.ensures.changes c.requires.reaches c.lower_reach.auto.reach
     c.lower_reach.ensures
 
 pub returns-clause-goes : goal.returns-clause-goes
-returns-clause-goes c = goes c.args.t.now c.args.s c.in_ok-wide.wide c.least-change.result c.in_ok-next.next c.requires.metric
-    c.requires.search c.least-change.ensures c.in_ok-wide.ensures.widens c.in_ok-next.ensures.leads
+returns-clause-goes c = goes c.args.t.now (search_value c.args.s) (search_value c.widen-wide.result) c.least-change.result
+    c.in_ok-next.next c.requires.metric
+    c.requires.search c.least-change.ensures c.widen-wide.ensures.widens c.in_ok-next.ensures.leads

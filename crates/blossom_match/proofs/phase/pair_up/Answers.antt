@@ -1,10 +1,13 @@
 use Rattle.std.proofs.Common.{arith}
+use Rattle.blossom_match.specs.Slots.{couples_in}
+use Rattle.blossom_match.specs.States.{search_value}
 use Rattle.blossom_match.proofs.EndLemmas.{begins, place_there}
 use Rattle.blossom_match.proofs.LoweredLemmas.{searched}
 use Rattle.blossom_match.proofs.phase.pair_up.Goals as goal
 
 pub begin-requires-clause-cell : goal.begin-requires-clause-cell
-begin-requires-clause-cell c = place_there c.args.t.now c.args.place c.args.from.couples.items c.args.from.free.items
+begin-requires-clause-cell c = place_there c.args.t.now c.args.place (couples_in c.args.from.sets c.args.from.couples.items)
+    c.args.from.free.items
     c.args.from.heights.items c.requires.stands
 
 pub begin-requires-clause-within : goal.begin-requires-clause-within
@@ -12,23 +15,27 @@ begin-requires-clause-within c =
     omega (
       arith,
       c.requires.stands.size,
-      place_there c.args.t.now c.args.place c.args.from.couples.items c.args.from.free.items c.args.from.heights.items
+      place_there c.args.t.now c.args.place (couples_in c.args.from.sets c.args.from.couples.items) c.args.from.free.items
+          c.args.from.heights.items
           c.requires.stands,
     )
 
 pub reach_anew-requires : goal.reach_anew-requires
 reach_anew-requires c =
-    let s = begins c.args.t.now c.args.place c.args.from.couples.items c.args.from.free.items c.args.from.heights.items c.in_ok-now.now
+    let s = begins c.args.t.now c.args.place (couples_in c.args.from.sets c.args.from.couples.items) c.args.from.free.items
+    c.args.from.heights.items (search_value c.in_ok-now.now)
     c.requires.stands c.requires.some c.in_ok-now.ensures in
-    record { t = c.args.t.now; can = searched c.args.t.now c.in_ok-now.now s.search; size = c.requires.size }
+    record { t = c.args.t.now; can = searched c.args.t.now (search_value c.in_ok-now.now) s.search; size = c.requires.size }
 
 pub steps-init : goal.steps-init
 steps-init c =
-    let s = begins c.args.t.now c.args.place c.args.from.couples.items c.args.from.free.items c.args.from.heights.items c.in_ok-now.now
+    let s = begins c.args.t.now c.args.place (couples_in c.args.from.sets c.args.from.couples.items) c.args.from.free.items
+    c.args.from.heights.items (search_value c.in_ok-now.now)
     c.requires.stands c.requires.some c.in_ok-now.ensures in
     record {
       search = s;
       free = c.in_ok-now.ensures.free;
-      reaches = c.reach_anew.ensures c.args.t.now c.in_ok-now.now.heights.items (searched c.args.t.now c.in_ok-now.now s.search)
+      reaches = c.reach_anew.ensures c.args.t.now c.in_ok-now.now.heights.items (searched c.args.t.now (search_value c.in_ok-now.now)
+          s.search)
           (omega (arith, c.reach_anew.auto.reach, c.requires.size));
     }

@@ -1,56 +1,110 @@
 use Rattle.blossom_match.specs.declared.search.Step.TheVariants as step
-use Rattle.std.proofs.Common.{arith, ◌-◌, subst, sym}
+use Rattle.std.proofs.Common.{arith, ap, List, [], ◌∷◌, ℕ, ◌-◌, drop, length, length-append, subst, sym, take}
+use Rattle.std.proofs.lemmas.List.{length-map}
+use Rattle.blossom_match.specs.Reaches.{ReachesOn}
+use Rattle.blossom_match.specs.Slots.{branch_in, branches_in}
+use Rattle.blossom_match.specs.States.{search_value}
+use Rattle.blossom_match.specs.Values.{BranchValue}
 use Rattle.blossom_match.specs.Searches.{Advances}
 use Rattle.blossom_match.specs.declared.search.Step.{Step}
-use Rattle.blossom_match.proofs.ReachLemmas.{grown_size}
+use Rattle.blossom_match.proofs.ReachLemmas.{grown_past, grown_size}
 use Rattle.blossom_match.proofs.LoweredLemmas.{anew, apart_more, is_reachable, one_more, steps_at}
 use Rattle.blossom_match.proofs.phase.take_step.Goals as goal
 
 pub grow_to-requires : goal.grow_to-requires
-grow_to-requires c = steps_at c.args.t.now c.args.s c.args.step (step.Grow c.in-Grow.link) c.in-Grow.is c.requires.step
+grow_to-requires c = steps_at c.args.t.now (search_value c.args.s) c.args.step (step.Grow c.in-Grow.link) c.in-Grow.is c.requires.step
 
-pub reach_more-requires-clause-can : goal.reach_more-requires-clause-can
-reach_more-requires-clause-can c =
-    is_reachable c.args.t.now c.args.s c.in_ok-grown-in-Grow.grown c.args.step (step.Grow c.in-Grow.link) c.args.reach.now c.in-Grow.is
+pub reach_from-requires-clause-can : goal.reach_from-requires-clause-can
+reach_from-requires-clause-can c =
+    is_reachable c.args.t.now (search_value c.args.s) (search_value c.in_ok-grown-in-Grow.grown) c.args.step (step.Grow c.in-Grow.link)
+    c.args.reach.now c.in-Grow.is
     c.requires.step c.in_ok-grown-in-Grow.ensures.advances c.requires.reaches
+
+pub reach_from-requires-clause-within : goal.reach_from-requires-clause-within
+reach_from-requires-clause-within c =
+    let s = c.args.s in
+    let r = c.in_ok-grown-in-Grow.grown in
+    let hangs = c.in_ok-grown-in-Grow.ensures.hangs in
+    omega (
+      arith,
+      c.len-before.ensures,
+      ap (λ (ks : List BranchValue). length ks) hangs.tree,
+      length-append (branches_in s.sets s.tree.items) (hangs.branch ∷ []),
+      length-map s.tree.items (branch_in s.sets),
+      length-map r.tree.items (branch_in r.sets),
+    )
 
 pub returns-in_ok-grown-in-Grow-clause-reaches : goal.returns-in_ok-grown-in-Grow-clause-reaches
 returns-in_ok-grown-in-Grow-clause-reaches c =
-    one_more c.args.t.now c.args.s c.in_ok-grown-in-Grow.grown c.args.step (step.Grow c.in-Grow.link) c.args.reach.now
-    c.reach_more.new.reach c.in-Grow.is c.requires.step c.in_ok-grown-in-Grow.ensures.advances c.in_ok-grown-in-Grow.ensures.hangs
-    c.requires.reaches c.reach_more.ensures
+    let s = search_value c.args.s in
+    one_more c.args.t.now s (search_value c.in_ok-grown-in-Grow.grown) c.args.step (step.Grow c.in-Grow.link) c.args.reach.now
+    c.reach_from.new.reach c.in-Grow.is c.requires.step c.in_ok-grown-in-Grow.ensures.advances c.in_ok-grown-in-Grow.ensures.hangs
+    c.requires.reaches
+    (subst (λ (n : ℕ). ReachesOn (take 1 (drop n (search_value c.in_ok-grown-in-Grow.grown).tree)) c.args.reach.now c.reach_from.new.reach)
+    (omega (arith, c.len-before.ensures, length-map c.args.s.tree.items (branch_in c.args.s.sets))) c.reach_from.ensures)
 
 pub reach_anew-requires : goal.reach_anew-requires
 reach_anew-requires c =
-    is_reachable c.args.t.now c.args.s c.in_ok-shrunk-in-Shrink.shrunk c.args.step (step.Shrink c.in-Shrink.link) c.args.reach.now
+    is_reachable c.args.t.now (search_value c.args.s) (search_value c.in_ok-shrunk-in-Shrink.shrunk) c.args.step
+    (step.Shrink c.in-Shrink.link) c.args.reach.now
     c.in-Shrink.is c.requires.step c.in_ok-shrunk-in-Shrink.ensures c.requires.reaches
 
 pub returns-in_ok-shrunk-in-Shrink-clause-reaches : goal.returns-in_ok-shrunk-in-Shrink-clause-reaches
 returns-in_ok-shrunk-in-Shrink-clause-reaches c =
-    anew c.args.t.now c.args.s c.in_ok-shrunk-in-Shrink.shrunk c.args.step (step.Shrink c.in-Shrink.link) c.args.reach.now
+    anew c.args.t.now (search_value c.args.s) (search_value c.in_ok-shrunk-in-Shrink.shrunk) c.args.step (step.Shrink c.in-Shrink.link)
+    c.args.reach.now
     c.reach_anew.new.reach c.in-Shrink.is c.requires.step c.in_ok-shrunk-in-Shrink.ensures c.requires.reaches
     c.reach_anew.auto.reach c.reach_anew.ensures
 
-pub reach_from-requires-clause-can : goal.reach_from-requires-clause-can
-reach_from-requires-clause-can c =
-    is_reachable c.args.t.now c.args.s c.in_ok-expanded-in-Expand.expanded c.args.step (step.Expand c.in-Expand.at) c.args.reach.now
+pub reach_from-requires-in-Expand-clause-can : goal.reach_from-requires-in-Expand-clause-can
+reach_from-requires-in-Expand-clause-can c =
+    is_reachable c.args.t.now (search_value c.args.s) (search_value c.in_ok-expanded-in-Expand.expanded) c.args.step
+    (step.Expand c.in-Expand.at) c.args.reach.now
     c.in-Expand.is c.requires.step c.in_ok-expanded-in-Expand.ensures.advances c.requires.reaches
+
+pub overflow_sub-len : goal.overflow_sub-len
+overflow_sub-len c =
+    let s = c.args.s in
+    let r = c.in_ok-expanded-in-Expand.expanded in
+    omega (
+      arith,
+      c.len.ensures,
+      c.len-before.ensures,
+      length-map s.tree.items (branch_in s.sets),
+      length-map r.tree.items (branch_in r.sets),
+      grown_size c.in-Expand.at (search_value s).tree (search_value r).tree c.in_ok-expanded-in-Expand.ensures.apart.grows,
+    )
+
+pub reach_from-requires-in-Expand-clause-within : goal.reach_from-requires-in-Expand-clause-within
+reach_from-requires-in-Expand-clause-within c =
+    let s = c.args.s in
+    let r = c.in_ok-expanded-in-Expand.expanded in
+    omega (
+      arith,
+      c.len.ensures,
+      c.len-before.ensures,
+      length-map s.tree.items (branch_in s.sets),
+      length-map r.tree.items (branch_in r.sets),
+      grown_past c.in-Expand.at (search_value s).tree (search_value r).tree c.in_ok-expanded-in-Expand.ensures.apart.grows,
+    )
 
 pub returns-in_ok-expanded-in-Expand-clause-reaches : goal.returns-in_ok-expanded-in-Expand-clause-reaches
 returns-in_ok-expanded-in-Expand-clause-reaches c =
     let apart = c.in_ok-expanded-in-Expand.ensures.apart in
-    apart_more c.args.t.now c.args.s c.in_ok-expanded-in-Expand.expanded c.args.step c.in-Expand.at
-    (c.len.result - c.len-before.result) c.args.reach.now c.reach_from.new.reach c.in-Expand.is c.requires.step
+    apart_more c.args.t.now (search_value c.args.s) (search_value c.in_ok-expanded-in-Expand.expanded) c.args.step c.in-Expand.at
+    (c.len.result - c.len-before.result) c.args.reach.now c.reach_from-in-Expand.new.reach c.in-Expand.is c.requires.step
     c.in_ok-expanded-in-Expand.ensures.advances apart
     (omega (
       arith,
       c.len.ensures,
       c.len-before.ensures,
-      grown_size c.in-Expand.at c.args.s.tree.items
-          c.in_ok-expanded-in-Expand.expanded.tree.items apart.grows,
-    )) c.requires.reaches c.reach_from.ensures
+      length-map c.args.s.tree.items (branch_in c.args.s.sets),
+      length-map c.in_ok-expanded-in-Expand.expanded.tree.items (branch_in c.in_ok-expanded-in-Expand.expanded.sets),
+      grown_size c.in-Expand.at (search_value c.args.s).tree
+          (search_value c.in_ok-expanded-in-Expand.expanded).tree apart.grows,
+    )) c.requires.reaches c.reach_from-in-Expand.ensures
 
 pub returns-in_ok-expanded-in-Expand-clause-leads : goal.returns-in_ok-expanded-in-Expand-clause-leads
 returns-in_ok-expanded-in-Expand-clause-leads c =
-    subst (λ (st : Step). Advances c.args.s st c.in_ok-expanded-in-Expand.expanded) (sym c.in-Expand.is)
+    subst (λ (st : Step). Advances (search_value c.args.s) st (search_value c.in_ok-expanded-in-Expand.expanded)) (sym c.in-Expand.is)
     c.in_ok-expanded-in-Expand.ensures.advances

@@ -5,15 +5,16 @@ use Rattle.blossom_match.specs.Sound.{IsFirm}
 use Rattle.blossom_match.specs.Trees.{outer_members}
 use Rattle.blossom_match.specs.Reaches.{Reaches}
 use Rattle.blossom_match.specs.TableValue.{TableValue}
-use Rattle.blossom_match.specs.declared.branches.Branch.{Branch}
+use Rattle.blossom_match.specs.Values.{BranchValue}
+use Rattle.blossom_match.specs.Slots.{branches_in}
 use Rattle.blossom_match.proofs.reach.reach_branches.Given as goal
 
 -- the outer sets so far are taken in
 abbrev pub invariant-loop-b : goal.invariant-loop-b
 invariant-loop-b l = record {
-  reaches : (t : TableValue) (hs : List ℕ) (root : NestValue) (before : List Branch)
-      → ((x : ℕ) → count x (outer_members root.members (before ++ l.tree)) ≤ 1)
-      → Each (IsFirm t (λ (a : ℕ). get_or hs a 0)) l.tree → Reaches t hs root before l.fn.reach
-      → Reaches t hs root (before ++ take l.b-index l.tree) l.reach;
+  reaches : (t : TableValue) (hs : List ℕ) (root : NestValue) (before : List BranchValue)
+      → ((x : ℕ) → count x (outer_members root.members (before ++ branches_in l.sets l.tree)) ≤ 1)
+      → Each (IsFirm t (λ (a : ℕ). get_or hs a 0)) (branches_in l.sets l.tree) → Reaches t hs root before l.fn.reach
+      → Reaches t hs root (before ++ take l.b-index (branches_in l.sets l.tree)) l.reach;
   size : length l.reach ≡ length l.fn.reach;
 }

@@ -1,5 +1,6 @@
 use Rattle.std.proofs.Common.{arith, ap, List, ℕ}
 use Rattle.blossom_match.specs.Bands.{count}
+use Rattle.blossom_match.specs.Slots.{parts_in}
 use Rattle.blossom_match.proofs.RowLemmas.{row_is}
 use Rattle.blossom_match.proofs.ring.fill.Goals as goal
 
@@ -14,5 +15,5 @@ clear-requires c = record {
 
 pub returns : goal.returns
 returns c =
-    row_is _ c.args.parts.now c.args.members.now c.merge_all.new.cells c.clear.new.cells c.requires.members
+    row_is _ (parts_in c.args.sets.now c.args.parts.now) c.args.members.now c.merge_all.new.cells c.clear.new.cells c.requires.members
     (omega (arith, c.clear.auto.cells, c.merge_all.auto.cells)) c.merge_all.ensures c.clear.ensures.on c.clear.ensures.off

@@ -1,15 +1,29 @@
 use Rattle.std.proofs.Common.{refl}
+use Rattle.blossom_match.specs.Slots.{branches_in, couple_in, couples_in, set_in}
+use Rattle.blossom_match.specs.States.{search_value}
 use Rattle.blossom_match.specs.Trees.{hung_by}
 use Rattle.blossom_match.proofs.SearchLemmas.{hung}
+use Rattle.blossom_match.proofs.StandLemmas.{grown_sets}
 use Rattle.blossom_match.proofs.search.grow_to.Goals as goal
 
 pub returns-clause-advances : goal.returns-clause-advances
-returns-clause-advances c = hung c.args.link c.args.s _ c.take_couple-couple.result c.take_couple-couple.ensures c.in_ok-grow.ensures refl
-    refl refl
+returns-clause-advances c =
+    hung c.args.link (search_value c.args.s) _ (couple_in c.args.s.sets c.take_couple-couple.result) c.take_couple-couple.ensures
+    c.in_ok-grow.ensures refl refl refl
 
 pub returns-clause-hangs : goal.returns-clause-hangs
 returns-clause-hangs c = record {
-  branch = hung_by c.args.link c.take_couple-couple.result;
+  branch = hung_by c.args.link (couple_in c.args.s.sets c.take_couple-couple.result);
   tree = c.in_ok-grow.ensures;
   root = refl;
 }
+
+pub invariant_of-result : goal.invariant_of-result
+invariant_of-result c =
+    let s = c.args.s in
+    record {
+      stand = grown_sets s.sets c.args.link.to c.args.link (set_in s.sets s.root) (branches_in s.sets s.tree.items) _
+          (couples_in s.sets s.rest.items) _ (couple_in s.sets c.take_couple-couple.result) c.take_couple-couple.ensures
+          c.in_ok-grow.ensures
+          s.stand;
+    }

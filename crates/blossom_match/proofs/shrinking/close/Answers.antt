@@ -1,10 +1,23 @@
+use Rattle.std.proofs.Common.{List, subst, sym, ◌∙◌}
+use Rattle.blossom_match.specs.RingRows.{RowsAgree}
+use Rattle.blossom_match.specs.Rings.{bands_in, IsRing}
+use Rattle.blossom_match.specs.Slots.{parts_in, set_in, AreSets}
+use Rattle.blossom_match.specs.declared.nest.Part.{Part}
 use Rattle.blossom_match.proofs.ShrinkLemmas.{ring_from}
 use Rattle.blossom_match.proofs.shrinking.close.Goals as goal
 
 pub ring_of-requires-clause-ring : goal.ring_of-requires-clause-ring
 ring_of-requires-clause-ring c =
-    rw (c.in_ok-parts.ensures, c.in_ok-push_front.ensures.items)
-    (ring_from c.args.top c.args.way c.args.chain.items c.args.to c.requires c.know.ensures)
+    let sets = c.args.sets.now in
+    subst (λ (ps : List Part). IsRing (parts_in sets ps)) (sym (c.in_ok-parts.ensures ∙ c.in_ok-push_front.ensures.items))
+    (ring_from (set_in sets c.args.top) c.args.way (parts_in sets c.args.chain.items) c.args.to c.requires.can c.requires.kept)
 
 pub ring_of-requires-clause-rows : goal.ring_of-requires-clause-rows
-ring_of-requires-clause-rows c = rw (c.in_ok-parts.ensures, c.in_ok-push_front.ensures.items) c.requires.rows
+ring_of-requires-clause-rows c =
+    subst (λ (ps : List Part). RowsAgree (parts_in c.args.sets.now ps)) (sym (c.in_ok-parts.ensures ∙ c.in_ok-push_front.ensures.items))
+    c.requires.can.rows
+
+pub ring_of-requires-clause-sets : goal.ring_of-requires-clause-sets
+ring_of-requires-clause-sets c =
+    subst (λ (ps : List Part). AreSets c.args.sets.now (bands_in (parts_in c.args.sets.now ps)))
+    (sym (c.in_ok-parts.ensures ∙ c.in_ok-push_front.ensures.items)) c.requires.sets

@@ -1,12 +1,13 @@
 use Rattle.std.proofs.Common.{◌≡◌, vec_len}
 use Rattle.blossom_match.specs.Shrinks.{Chaining}
+use Rattle.blossom_match.specs.Slots.{branches_in, parts_in, set_in}
 use Rattle.blossom_match.proofs.shrinking.shrink.Given as goal
 
 abbrev pub invariant-loop-b : goal.invariant-loop-b
 invariant-loop-b l = record {
-  same : l.root ≡ l.fn.root;
-  goes : Chaining l.fn.link l.fn.root l.fn.tree.items l.tree.items l.chain.items
-      l.aside.items l.way l.to;
+  same : l.sets ≡ l.fn.sets;
+  goes : Chaining l.fn.link (set_in l.sets l.fn.root) (branches_in l.sets l.fn.tree.items) (branches_in l.sets l.tree.items)
+      (parts_in l.sets l.chain.items) (branches_in l.sets l.aside.items) l.way l.to;
 }
 
 abbrev pub decreases-loop-b : goal.decreases-loop-b

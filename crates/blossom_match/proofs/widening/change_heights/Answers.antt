@@ -1,5 +1,6 @@
 use Rattle.std.proofs.Common.{arith, ap, ℕ, List, [], ◌*◌}
 use Rattle.blossom_match.specs.Bands.{count}
+use Rattle.blossom_match.specs.Slots.{branches_in, set_in}
 use Rattle.blossom_match.proofs.TreeLemmas.{base_in, outer-append}
 use Rattle.blossom_match.proofs.RaisedLemmas.{more_by}
 use Rattle.blossom_match.proofs.widening.change_heights.Goals as goal
@@ -10,8 +11,8 @@ raise-requires-clause-within c = λ x here.
       arith,
       here,
       ap (λ (xs : List ℕ). count x xs) c.members.ensures,
-      base_in x c.args.root.now.members
-          c.args.tree.now,
+      base_in x (set_in c.args.sets.now c.args.root).members
+          (branches_in c.args.sets.now c.args.tree.now),
     ))
 
 pub raise-requires-clause-fits : goal.raise-requires-clause-fits
@@ -21,12 +22,21 @@ raise-requires-clause-fits c = λ x.
       c.requires.rise x,
       ap (λ (xs : List ℕ). c.args.by * count x xs) c.members.ensures,
       more_by c.args.by _ _ _
-          (outer-append x c.args.root.now.members [] c.args.tree.now),
+          (outer-append x (set_in c.args.sets.now c.args.root).members [] (branches_in c.args.sets.now c.args.tree.now)),
     )
 
 pub raise_outers-requires-clause-within : goal.raise_outers-requires-clause-within
 raise_outers-requires-clause-within c = λ x here.
-    omega (arith, c.requires.cells x (omega (arith, here, outer-append x c.args.root.now.members [] c.args.tree.now)), c.raise.auto.heights)
+    omega (
+      arith,
+      c.requires.cells x (omega (
+        arith,
+        here,
+        outer-append x (set_in c.args.sets.now c.args.root).members []
+            (branches_in c.args.sets.now c.args.tree.now),
+      )),
+      c.raise.auto.heights,
+    )
 
 pub raise_outers-requires-clause-fits : goal.raise_outers-requires-clause-fits
 raise_outers-requires-clause-fits c = λ x.
@@ -36,7 +46,7 @@ raise_outers-requires-clause-fits c = λ x.
       c.raise.ensures x,
       ap (λ (xs : List ℕ). c.args.by * count x xs) c.members.ensures,
       more_by c.args.by _
-          _ _ (outer-append x c.args.root.now.members [] c.args.tree.now),
+          _ _ (outer-append x (set_in c.args.sets.now c.args.root).members [] (branches_in c.args.sets.now c.args.tree.now)),
     )
 
 pub lower_inners-requires-clause-within : goal.lower_inners-requires-clause-within
@@ -54,5 +64,6 @@ returns-clause-moves c = λ x.
       c.raise_outers.ensures x,
       c.lower_inners.ensures x,
       ap (λ (xs : List ℕ). c.args.by * count x xs) c.members.ensures,
-      more_by c.args.by _ _ _ (outer-append x c.args.root.now.members [] c.args.tree.now),
+      more_by c.args.by _ _ _ (outer-append x (set_in c.args.sets.now c.args.root).members []
+          (branches_in c.args.sets.now c.args.tree.now)),
     )

@@ -1,0 +1,54 @@
+-- That sets stand in slots is a fact, so that a type can keep it.
+use Rattle.std.specs.Prelude.{ℕ, zero, suc, List, [], ◌∷◌}
+use Rattle.std.proofs.Props.{props}
+use Rattle.blossom_match.specs.Lists.{Each}
+use Rattle.blossom_match.specs.Bands.{Band, Kept, NoneHold}
+use Rattle.blossom_match.specs.Rings.{IsLinkedRing, IsMade, IsRing, Linked}
+use Rattle.blossom_match.specs.Slots.{parts_at, IsSet, IsSetTo, Sets}
+use Rattle.blossom_match.specs.Values.{PartValue}
+use Rattle.blossom_match.specs.declared.nest.Part.{Part}
+
+none_hold-prop : (x : ℕ) (bs : List Band) → IsProp (NoneHold x bs)
+none_hold-prop x [] = hlevel props
+none_hold-prop x (b ∷ bs) = hlevel (props, none_hold-prop x bs)
+
+each-prop : {X : Type 0} (P : X → Type 0) → ((x : X) → IsProp (P x)) → (xs : List X) → IsProp
+    (Each P xs)
+each-prop P each [] = hlevel props
+each-prop P each (x ∷ xs) = hlevel (props, each x, each-prop P each xs)
+
+linked-prop : (p : PartValue) (ps : List PartValue) → IsProp (Linked p ps)
+linked-prop p [] = hlevel props
+linked-prop p (q ∷ qs) = hlevel (props, linked-prop q qs)
+
+linked_ring-prop : (ps : List PartValue) → IsProp (IsLinkedRing ps)
+linked_ring-prop [] = hlevel props
+linked_ring-prop (p ∷ ps) = linked-prop p _
+
+kept-prop : (p : PartValue) → IsProp (Kept p.nest)
+kept-prop p = hlevel (props, none_hold-prop)
+
+ring-prop : (ps : List PartValue) → IsProp (IsRing ps)
+ring-prop ps = hlevel (
+  props,
+  linked_ring-prop ps,
+  each-prop (λ (p : PartValue). Kept p.nest)
+      kept-prop ps,
+)
+
+made-prop : (ms : List ℕ) (ps : List PartValue) → IsProp (IsMade ms ps)
+made-prop ms [] = hlevel props
+made-prop ms (p ∷ ps) = hlevel (props, ring-prop (p ∷ ps))
+
+set_to-prop : (n : ℕ) (sets : Sets) (key : ℕ) → IsProp (IsSetTo n sets key)
+set_to-prop zero sets key = hlevel props
+set_to-prop (suc n) sets key =
+    hlevel (
+      props,
+      made-prop,
+      each-prop (λ (p : Part). IsSetTo n sets p.seat.key) (λ p. set_to-prop n sets p.seat.key)
+          (parts_at sets key),
+    )
+
+pub set-prop : (sets : Sets) (key : ℕ) → IsProp (IsSet sets key)
+set-prop sets key = hlevel (props, set_to-prop)

@@ -1,0 +1,119 @@
+-- Odd sets in the slots of a slab. A slot keeps what doesn't change while its set stands, and names
+-- the parts of a ring by key; a width stands with the name of its set.
+use Rattle.std.specs.Prelude.{◌≡◌, ◌≢◌, ℕ, zero, suc, ◌≤◌, List, [], map, length, Option, Some, None}
+use Rattle.slab.specs.Slab.{Slab, get, ContainsKey}
+use Rattle.blossom_match.specs.Lists.{Each}
+use Rattle.blossom_match.specs.Bands.{Band, NestValue, uses}
+use Rattle.blossom_match.specs.Rings.{nest_of, IsMade}
+use Rattle.blossom_match.specs.Values.{PartValue, CoupleValue, BranchValue}
+use Rattle.blossom_match.specs.declared.nest.Seat.{Seat}
+use Rattle.blossom_match.specs.declared.nest.Part.{Part}
+use Rattle.blossom_match.specs.declared.nest.Slot.{Slot}
+use Rattle.blossom_match.specs.declared.couples.Couple.{Couple}
+use Rattle.blossom_match.specs.declared.branches.Branch.{Branch}
+
+-- the slots in which sets stand, by key
+abbrev pub Sets : Type 0
+Sets = Slab Slot
+
+-- what a slot keeps; where there is none, no members and no parts
+abbrev pub members_of : Option Slot → List ℕ
+members_of None = []
+members_of (Some s) = s.members.items
+
+abbrev pub near_of : Option Slot → List ℕ
+near_of None = []
+near_of (Some s) = s.near.items
+
+abbrev pub parts_of : Option Slot → List Part
+parts_of None = []
+parts_of (Some s) = s.parts.items
+
+-- what the slot under the key keeps
+abbrev pub members_at : Sets → ℕ → List ℕ
+members_at sets key = members_of (get sets key)
+
+abbrev pub near_at : Sets → ℕ → List ℕ
+near_at sets key = near_of (get sets key)
+
+abbrev pub parts_at : Sets → ℕ → List Part
+parts_at sets key = parts_of (get sets key)
+
+-- a part with these sets inside
+abbrev pub with_inside : Sets → Part → List PartValue → PartValue
+with_inside sets p inside = record {
+  nest = nest_of p.seat.key (members_at sets p.seat.key) p.seat.width (near_at sets p.seat.key)
+      inside;
+  next = p.next;
+}
+
+-- a part with so many levels of sets inside
+abbrev pub part_to : ℕ → Sets → Part → PartValue
+part_to zero sets p = with_inside sets p []
+part_to (suc n) sets p = with_inside sets p (map (part_to n sets) (parts_at sets p.seat.key))
+
+-- the set of a seat. A part has fewer members than the whole, so that there are no more levels than
+-- members.
+abbrev pub set_in : Sets → Seat → NestValue
+set_in sets s = nest_of s.key (members_at sets s.key) s.width (near_at sets s.key)
+    (map (part_to (length (members_at sets s.key)) sets) (parts_at sets s.key))
+
+-- the sets of a part, of a couple and of a branch
+abbrev pub part_in : Sets → Part → PartValue
+part_in sets p = record { nest = set_in sets p.seat; next = p.next }
+
+abbrev pub couple_in : Sets → Couple → CoupleValue
+couple_in sets c = record {
+  first = set_in sets c.first;
+  second = set_in sets c.second;
+  link = c.link;
+}
+
+abbrev pub branch_in : Sets → Branch → BranchValue
+branch_in sets b = record {
+  up = b.up;
+  inner = set_in sets b.inner;
+  pair = b.pair;
+  outer = set_in sets b.outer;
+}
+
+-- the set of a seat, if there is one
+abbrev pub core_in : Sets → Option Seat → Option NestValue
+core_in sets None = None
+core_in sets (Some s) = Some (set_in sets s)
+
+-- so of all parts, couples and branches
+abbrev pub parts_in : Sets → List Part → List PartValue
+parts_in sets ps = map (part_in sets) ps
+
+abbrev pub couples_in : Sets → List Couple → List CoupleValue
+couples_in sets cs = map (couple_in sets) cs
+
+abbrev pub branches_in : Sets → List Branch → List BranchValue
+branches_in sets bs = map (branch_in sets) bs
+
+-- the slot under the key has one place or a ring, and so have those of its parts, so many levels down
+abbrev pub IsSetTo : ℕ → Sets → ℕ → Type 0
+IsSetTo zero sets key = ⊥
+IsSetTo (suc n) sets key = ContainsKey sets key
+    × IsMade (members_at sets key) (parts_in sets (parts_at sets key))
+    × Each (λ (p : Part). IsSetTo n sets p.seat.key) (parts_at sets key)
+
+-- so on all levels: there are no more than members
+pub record IsSet (sets : Sets) (key : ℕ) : Type 0 where
+  pub to : (n : ℕ) → length (members_at sets key) ≤ n → IsSetTo n sets key
+
+-- all sets stand in slots, no two under one key
+pub record AreSets (sets : Sets) (bands : List Band) : Type 0 where
+  pub each : (k : ℕ) → 1 ≤ uses k bands → IsSet sets k
+  pub once : (k : ℕ) → uses k bands ≤ 1
+
+-- every other key keeps its slot
+abbrev pub KeepOthers : Sets → Sets → ℕ → Type 0
+KeepOthers old new key = (k : ℕ) → k ≢ key → get new k ≡ get old k
+
+-- a set more, under a key that none had
+pub record Inserts (old new : Sets) (key : ℕ) : Type 0 where
+  pub fresh : get old key ≡ None
+  pub others : KeepOthers old new key
+  pub set : IsSet new key
