@@ -10,6 +10,7 @@ use Rattle.blossom_match.specs.Values.{CoupleValue, SearchValue}
 use Rattle.blossom_match.specs.Slots.{couples_in}
 use Rattle.blossom_match.specs.States.{search_value, standing_value}
 use Rattle.blossom_match.specs.declared.search.Step.{Step}
+use Rattle.blossom_match.specs.declared.state.Standing.{Standing}
 use Rattle.blossom_match.specs.declared.phase.Stepped.{Stepped}
 use Rattle.blossom_match.specs.declared.phase.Stepped.TheVariants.{More, Done}
 
@@ -18,6 +19,10 @@ pub record Stands (t : TableValue) (couples : List CoupleValue) (free heights : 
   where
     pub standing : IsStanding t (λ x. slice_index heights x) couples free
     pub size : length heights ≡ t.places
+
+-- so does what stands between two searches
+abbrev pub StandsAt : TableValue → Standing → Type 0
+StandsAt t s = Stands t (couples_in s.sets s.couples.items) s.free.items s.heights.items
 
 -- couples that hold all places
 pub record IsMatched (t : TableValue) (couples : List CoupleValue) : Type 0 where
@@ -43,8 +48,7 @@ Leads t s step (Done r) = Ends t s step (standing_value r)
 abbrev pub Goes : TableValue → SearchValue → Stepped → Type 0
 Goes t s (More r) = CanSearch t (search_value r) × (size_of (search_value r) < size_of s)
     × (r.free.items ≡ s.free)
-Goes t s (Done r) = Stands t (couples_in r.sets r.couples.items) r.free.items r.heights.items
-    × (length r.free.items + 1 ≡ length s.free)
+Goes t s (Done r) = StandsAt t r × (length r.free.items + 1 ≡ length s.free)
 
 -- what is left for each place after the step
 abbrev pub StepReaches : TableValue → Stepped → List ℕ → Type 0

@@ -92,7 +92,8 @@ couples_in sets cs = map (couple_in sets) cs
 abbrev pub branches_in : Sets → List Branch → List BranchValue
 branches_in sets bs = map (branch_in sets) bs
 
--- the slot under the key has one place or a ring, and so have those of its parts, so many levels down
+-- the slot under the key has one place or a ring, and so have those of its parts, so many levels
+-- down
 abbrev pub IsSetTo : ℕ → Sets → ℕ → Type 0
 IsSetTo zero sets key = ⊥
 IsSetTo (suc n) sets key = ContainsKey sets key

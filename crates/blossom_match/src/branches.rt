@@ -35,24 +35,19 @@ pub fn grow(
 fn hung(sets: &Slab<Slot>, up: Link, couple: Couple) -> Branch
     ensures { branch_in sets.now result ≡ hung_by up (couple_in sets.now couple) }
 {
-    let Couple {
-        first,
-        second,
-        link,
-    } = couple;
-    if first.holds(sets, up.to) {
+    if couple.first.holds(sets, up.to) {
         Branch {
             up,
-            inner: first,
-            pair: link,
-            outer: second,
+            inner: couple.first,
+            pair: couple.link,
+            outer: couple.second,
         }
     } else {
         Branch {
             up,
-            inner: second,
-            pair: link.back(),
-            outer: first,
+            inner: couple.second,
+            pair: couple.link.back(),
+            outer: couple.first,
         }
     }
 }

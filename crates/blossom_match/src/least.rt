@@ -184,8 +184,7 @@ fn aim_at_outers(
 
 /// The change of an aim, with the link from an outer place that leaves so much.
 fn change_to(t: &DistTable, heights: &[u32], reach: &[u32], s: &Search, aim: Aim) -> Change
-    requires { CanLead t.now heights.now (search_value s.now).root (search_value s.now).tree
-        reach.now aim }
+    requires { CanLead t.now heights.now (search_value s.now).root (search_value s.now).tree reach.now aim }
     ensures { LeadsTo t.now heights.now (search_value s.now).root (search_value s.now).tree
         reach.now aim result }
 {

@@ -158,8 +158,7 @@ pub fn ring_of(alloc: Global, sets: &mut Slab<Slot>, parts: Vec<Part>) -> Result
     requires ring { IsRing (parts_in sets.old parts.items) }
     requires rows { RowsAgree (parts_in sets.old parts.items) }
     requires sets { AreSets sets.old (bands_in (parts_in sets.old parts.items)) }
-    ensures is { IfOk result (λ s. set_in sets.new s ≡ the_ring s.key
-        (parts_in sets.old parts.items)) }
+    ensures is { IfOk result (λ s. set_in sets.new s ≡ the_ring s.key (parts_in sets.old parts.items)) }
     ensures inserts { IfOk result (λ s. Inserts sets.old sets.new s.key) }
 {
     let members = members_of(alloc, sets, &parts)?;

@@ -1,6 +1,6 @@
 ghost use Rattle.std.specs.Prelude.{◌≡◌, ◌%◌, length, IfOk};
 ghost use Rattle.blossom_match.specs.Tables.{IsMetric, KeepsTriangles};
-ghost use Rattle.blossom_match.specs.Phases.{IsMatched, Stands};
+ghost use Rattle.blossom_match.specs.Phases.{IsMatched, StandsAt};
 ghost use Rattle.blossom_match.specs.Slots.{couples_in};
 
 use crate::phase::pair_up;
@@ -28,8 +28,7 @@ pub fn couple_all(alloc: Global, t: &DistTable) -> Result<Standing, Memory>
 /// Searches from each free place in turn.
 fn search_all(alloc: Global, t: &DistTable, from: Standing) -> Result<Standing, Memory>
     requires metric { IsMetric t.now }
-    requires stands { Stands t.now (couples_in from.sets from.couples.items) from.free.items
-        from.heights.items }
+    requires stands { StandsAt t.now from }
     requires even { length from.free.items % 2 ≡ 0 }
     ensures { IfOk result (λ r. IsMatched t.now (couples_in r.sets r.couples.items)) }
 {

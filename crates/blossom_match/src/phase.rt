@@ -5,7 +5,7 @@ ghost use Rattle.blossom_match.specs.Searches.{CanStepAt};
 ghost use Rattle.blossom_match.specs.Reaches.{SearchReaches};
 ghost use Rattle.blossom_match.specs.Slots.{couples_in};
 ghost use Rattle.blossom_match.specs.States.{search_value};
-ghost use Rattle.blossom_match.specs.Phases.{Begins, Goes, Leads, Stands, StepReaches};
+ghost use Rattle.blossom_match.specs.Phases.{Begins, Goes, Leads, Stands, StandsAt, StepReaches};
 
 use crate::least::least;
 use crate::nest::{Link, single};
@@ -37,8 +37,7 @@ pub fn pair_up(
     requires stands { Stands t.now (couples_in from.sets from.couples.items)
         (from.free.items ++ place ∷ []) from.heights.items }
     requires some { 1 ≤ length from.free.items }
-    ensures stands { IfOk result (λ r. Stands t.now (couples_in r.sets r.couples.items) r.free.items
-        r.heights.items) }
+    ensures stands { IfOk result (λ r. StandsAt t.now r) }
     ensures fewer { IfOk result (λ r. length r.free.items + 1 ≡ length from.free.items) }
 {
     let mut now = begin(alloc, t, place, from)?;

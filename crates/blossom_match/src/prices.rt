@@ -1,9 +1,8 @@
 ghost use Rattle.std.specs.Prelude.{◌≡◌, ◌≢◌, ◌≤◌, ◌<◌, ◌+◌, ◌*◌, ◌%◌, ℕ, IsTrue, length, nat_lt, slice_index, if◌then◌else◌, IfOk, IfSome};
 ghost use Rattle.blossom_match.specs.Bands.{count};
 ghost use Rattle.blossom_match.specs.Tables.{entry};
-ghost use Rattle.blossom_match.specs.Phases.{Stands};
+ghost use Rattle.blossom_match.specs.Phases.{StandsAt};
 ghost use Rattle.blossom_match.specs.Prices.{AreHalves, CanPair, FindsTight, IsTightPair, LeavesRoom, Lies, Pairs};
-ghost use Rattle.blossom_match.specs.Slots.{couples_in};
 ghost use Rattle.blossom_match.specs.States.{standing_value};
 ghost use Rattle.blossom_match.specs.declared.table.TheConstants.{MAX_DISTANCE};
 
@@ -20,8 +19,7 @@ use std::alloc::Global;
 /// prices leave no room.
 pub fn priced(alloc: Global, t: &DistTable, n: u32) -> Result<Standing, Memory>
     requires { n ≡ t.now.places }
-    ensures stands { IfOk result (λ r. Stands t.now (couples_in r.sets r.couples.items) r.free.items
-        r.heights.items) }
+    ensures stands { IfOk result (λ r. StandsAt t.now r) }
     ensures even { IfOk result (λ r. length r.free.items % 2 ≡ t.now.places % 2) }
 {
     let mut now = half_priced(alloc, t)?;
@@ -33,8 +31,7 @@ pub fn priced(alloc: Global, t: &DistTable, n: u32) -> Result<Standing, Memory>
 
 /// All places free, each at half of its least distance in halves of a step.
 fn half_priced(alloc: Global, t: &DistTable) -> Result<Standing, Memory>
-    ensures stands { IfOk result (λ r. Stands t.now (couples_in r.sets r.couples.items) r.free.items
-        r.heights.items) }
+    ensures stands { IfOk result (λ r. StandsAt t.now r) }
     ensures even { IfOk result (λ r. length r.free.items % 2 ≡ t.now.places % 2) }
 {
     let sets = Slab::with_capacity(alloc, t.places() as usize)?;
@@ -50,8 +47,7 @@ fn half_priced(alloc: Global, t: &DistTable) -> Result<Standing, Memory>
 
 /// The places from 0 on.
 fn all_places(alloc: Global, n: u32) -> Result<Vec<u32>, Memory>
-    ensures counts { IfOk result (λ xs. (x : ℕ) → count x xs.items
-        ≡ (if nat_lt x n then 1 else 0)) }
+    ensures counts { IfOk result (λ xs. (x : ℕ) → count x xs.items ≡ (if nat_lt x n then 1 else 0)) }
     ensures size { IfOk result (λ xs. length xs.items ≡ n) }
 {
     let mut places = Vec::new(alloc);
@@ -97,8 +93,7 @@ fn lesser(t: &DistTable, heights: &[u32], place: u32, other: u32, best: u32) -> 
     requires other_in { other < t.now.places }
     requires low { place ≢ other → slice_index heights.now other ≤ 2 * entry t.now place other }
     ensures less { result ≤ best }
-    ensures room { place ≢ other → result + slice_index heights.now other
-        ≤ 2 * entry t.now place other }
+    ensures room { place ≢ other → result + slice_index heights.now other ≤ 2 * entry t.now place other }
 {
     if place == other {
         best
@@ -110,11 +105,9 @@ fn lesser(t: &DistTable, heights: &[u32], place: u32, other: u32, best: u32) -> 
 /// Raises the price of a place that is free, and pairs it with a free one if no room is left between
 /// them.
 fn settle(alloc: Global, t: &DistTable, place: u32, from: Standing) -> Result<Standing, Memory>
-    requires stands { Stands t.now (couples_in from.sets from.couples.items) from.free.items
-        from.heights.items }
+    requires stands { StandsAt t.now from }
     requires within { place < t.now.places }
-    ensures stands { IfOk result (λ r. Stands t.now (couples_in r.sets r.couples.items) r.free.items
-        r.heights.items) }
+    ensures stands { IfOk result (λ r. StandsAt t.now r) }
     ensures even { IfOk result (λ r. length r.free.items % 2 ≡ length from.free.items % 2) }
 {
     if times(&from.free, place) == 0 {
@@ -132,11 +125,9 @@ fn settle(alloc: Global, t: &DistTable, place: u32, from: Standing) -> Result<St
 
 /// Raises the price of a free place as far as the distances allow.
 fn raise_price(t: &DistTable, place: u32, from: Standing) -> Standing
-    requires stands { Stands t.now (couples_in from.sets from.couples.items) from.free.items
-        from.heights.items }
+    requires stands { StandsAt t.now from }
     requires here { 1 ≤ count place from.free.items }
-    ensures stands { Stands t.now (couples_in result.sets result.couples.items) result.free.items
-        result.heights.items }
+    ensures stands { StandsAt t.now result }
     ensures free { result.free.items ≡ from.free.items }
 {
     let Standing {
@@ -158,11 +149,9 @@ fn raise_price(t: &DistTable, place: u32, from: Standing) -> Standing
 
 /// Another free place, if the prices leave no room to it.
 fn tight_with(t: &DistTable, place: u32, s: &Standing) -> Option<u32>
-    requires stands { Stands t.now (couples_in s.now.sets s.now.couples.items) s.now.free.items
-        s.now.heights.items }
+    requires stands { StandsAt t.now s.now }
     requires here { 1 ≤ count place s.now.free.items }
-    ensures { IfSome result (λ other. FindsTight t.now s.now.heights.items s.now.free.items place
-        other) }
+    ensures { IfSome result (λ other. FindsTight t.now s.now.heights.items s.now.free.items place other) }
 {
     tight_place(t, &s.heights, &s.free, place)
 }
@@ -220,14 +209,10 @@ fn pair(
         heights,
     };
     let search = begin(alloc, t, place, alone)?;
-    let met = meet(
-        alloc,
-        t,
-        search,
-        Link {
-            from: place,
-            to: other,
-        },
-    )?;
+    let link = Link {
+        from: place,
+        to: other,
+    };
+    let met = meet(alloc, t, search, link)?;
     Ok(met)
 }

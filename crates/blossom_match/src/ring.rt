@@ -97,8 +97,7 @@ fn fill(sets: &Slab<Slot>, parts: &[Part], members: &[u32], cells: &mut [u32])
 
 /// The least that the parts leave over their widths.
 fn merge_all(sets: &Slab<Slot>, parts: &[Part], cells: &mut [u32])
-    requires rows { Each (λ p. length p.nest.near ≡ length cells.old)
-        (parts_in sets.now parts.now) }
+    requires rows { Each (λ p. length p.nest.near ≡ length cells.old) (parts_in sets.now parts.now) }
     requires far { (x : ℕ) → x < length cells.old → slice_index cells.old x ≡ FAR }
     ensures { (x : ℕ) → x < length cells.old
         → slice_index cells.new x ≡ least_of (parts_in sets.now parts.now) x }

@@ -42,8 +42,7 @@ pub fn merge(near: &[u32], width: u32, cells: &mut [u32])
 pub fn clear(places: &[u32], cells: &mut [u32])
     requires within { (x : ℕ) → 1 ≤ count x places.now → x < length cells.old }
     ensures on { (x : ℕ) → 1 ≤ count x places.now → slice_index cells.new x ≡ FAR }
-    ensures off { (x : ℕ) → count x places.now ≡ 0
-        → slice_index cells.new x ≡ slice_index cells.old x }
+    ensures off { (x : ℕ) → count x places.now ≡ 0 → slice_index cells.new x ≡ slice_index cells.old x }
 {
     for a in places {
         cells[*a as usize] = FAR;

@@ -27,8 +27,7 @@ pub enum Step {
 /// Hangs the couple that the link leads to into the tree.
 pub fn grow_to(s: Search, link: Link) -> Result<Search, Memory>
     requires { CanStep (search_value s) (step.Grow link) }
-    ensures advances { IfOk result (λ r. Advances (search_value s) (step.Grow link)
-        (search_value r)) }
+    ensures advances { IfOk result (λ r. Advances (search_value s) (step.Grow link) (search_value r)) }
     ensures hangs { IfOk result (λ r. HangsOn (search_value s) (search_value r)) }
 {
     let Search {
@@ -56,8 +55,7 @@ pub fn grow_to(s: Search, link: Link) -> Result<Search, Memory>
 /// Makes the ring that the link closes one outer set.
 pub fn shrink_by(alloc: Global, s: Search, link: Link) -> Result<Search, Memory>
     requires { CanStep (search_value s) (step.Shrink link) }
-    ensures { IfOk result (λ r. Advances (search_value s) (step.Shrink link)
-        (search_value r)) }
+    ensures { IfOk result (λ r. Advances (search_value s) (step.Shrink link) (search_value r)) }
 {
     let Search {
         sets,
@@ -83,8 +81,7 @@ pub fn shrink_by(alloc: Global, s: Search, link: Link) -> Result<Search, Memory>
 /// Takes the inner set of the branch at the index apart.
 pub fn expand_at(alloc: Global, s: Search, at: usize) -> Result<Search, Memory>
     requires { CanStep (search_value s) (step.Expand at) }
-    ensures advances { IfOk result (λ r. Advances (search_value s) (step.Expand at)
-        (search_value r)) }
+    ensures advances { IfOk result (λ r. Advances (search_value s) (step.Expand at) (search_value r)) }
     ensures apart { IfOk result (λ r. ComesApart at (search_value s) (search_value r)) }
 {
     let Search {
@@ -112,8 +109,7 @@ pub fn expand_at(alloc: Global, s: Search, at: usize) -> Result<Search, Memory>
 /// Pairs all sets of the tree and the free place that the link leads to.
 pub fn meet(alloc: Global, t: &DistTable, s: Search, link: Link) -> Result<Standing, Memory>
     requires { CanStepAt t.now (search_value s) (step.Meet link) }
-    ensures { IfOk result (λ r. Ends t.now (search_value s) (step.Meet link)
-        (standing_value r)) }
+    ensures { IfOk result (λ r. Ends t.now (search_value s) (step.Meet link) (standing_value r)) }
 {
     let Search {
         sets,

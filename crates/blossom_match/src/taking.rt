@@ -26,8 +26,7 @@ pub fn take_nest(
     requires sets { AreSets sets.now (bands (set_in sets.now s)) }
     requires there { count left (set_in sets.now s).members ≡ 1 }
     requires once { (x : ℕ) → count x (set_in sets.now s).members ≤ 1 }
-    ensures { OnOk result (TakesNest left (set_in sets.now s) pairs.old pairs.new moats.old
-        moats.new) }
+    ensures { OnOk result (TakesNest left (set_in sets.now s) pairs.old pairs.new moats.old moats.new) }
 {
     let Opened { core, couples } = open_at(alloc, sets, s, left)?;
     add_moat(alloc, s.members(sets), s.width, moats)?;

@@ -54,10 +54,8 @@ fn change_widths(s: Search, by: u32) -> Search
 
 /// Raises the places of the outer sets, and lowers those of the inner sets.
 fn change_heights(sets: &Slab<Slot>, root: Seat, tree: &[Branch], by: u32, heights: &mut [u32])
-    requires { CanChangeHeights by (set_in sets.now root) (branches_in sets.now tree.now)
-        heights.old }
-    ensures moves { Moves by (set_in sets.now root) (branches_in sets.now tree.now) heights.old
-        heights.new }
+    requires { CanChangeHeights by (set_in sets.now root) (branches_in sets.now tree.now) heights.old }
+    ensures moves { Moves by (set_in sets.now root) (branches_in sets.now tree.now) heights.old heights.new }
     ensures size { length heights.new ≡ length heights.old }
 {
     raise(root.members(sets), by, heights);
