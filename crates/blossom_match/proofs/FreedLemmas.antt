@@ -7,7 +7,7 @@ use Rattle.blossom_match.specs.Bands.{Band, NestValue, bands, count, hit, uses}
 use Rattle.blossom_match.specs.Couples.{couple_bands}
 use Rattle.blossom_match.specs.Rings.{bands_in, members_in, nest_of, IsRing}
 use Rattle.blossom_match.specs.Lays.{CanLay, Expanding, Expands, GoesEvenly, GrowsAt, Lays}
-use Rattle.blossom_match.specs.Slots.{branch_in, branches_in, couple_in, couples_in, members_at, members_of, near_at, part_in, parts_at, parts_in, parts_of, set_in, AreSets, Sets}
+use Rattle.blossom_match.specs.Slots.{branch_in, branches_in, couple_in, couples_in, members_at, members_of, near_at, part_in, parts_at, parts_in, parts_of, set_in, AreSets, Slots}
 use Rattle.blossom_match.specs.Trees.{all_bands, branch_bands}
 use Rattle.blossom_match.specs.Values.{BranchValue, CoupleValue, PartValue}
 use Rattle.blossom_match.specs.declared.nest.Seat.{Seat}
@@ -71,12 +71,12 @@ inner_used k root tree bs b later rest is =
     )
 
 -- a ring has parts
-shown : (sets : Sets) (s : Seat) → 0 < length (set_in sets s).below → 0 < length (parts_in sets (parts_at sets s.key))
+shown : (sets : Slots) (s : Seat) → 0 < length (set_in sets s).below → 0 < length (parts_in sets (parts_at sets s.key))
 shown sets s some =
     ltb-true 0 (length (parts_in sets (parts_at sets s.key))) (ap (λ (n : ℕ). ltb 0 n) (length-map (parts_at sets s.key) (part_in sets))
     ∙ parts_show (length (members_at sets s.key)) sets (parts_at sets s.key) ∙ lt-ltb 0 (length (set_in sets s).below) some)
 
-module _ (old : Sets) (root : Seat) (tree bs later : List Branch) (b : Branch) (rest : List Couple) where
+module _ (old : Slots) (root : Seat) (tree bs later : List Branch) (b : Branch) (rest : List Couple) where
   abbrev IsSplit : Type 0
   IsSplit = SplitAt (set_in old root) (branches_in old tree) (branches_in old bs) (branch_in old b) (branches_in old later)
 
@@ -101,9 +101,10 @@ module _ (old : Sets) (root : Seat) (tree bs later : List Branch) (b : Branch) (
   pub inner_slot : IsSplit → Stand → ContainsKey old b.inner.key
   inner_slot s are = has_slot old b.inner.key (set_of old b.inner (inner_sets s are))
 
-  module _ (new : Sets) (slot : Slot) where
+  module _ (new : Slots) (slot : Slot) where
     -- the ring that the slot held, and that all others are as they were
     pub record Freed : Type 0 where
+      pub apart : IsSplit
       pub ring : IsRing (parts_in old slot.parts.items)
       pub made : set_in old b.inner ≡ nest_of b.inner.key (members_in (parts_in old slot.parts.items)) b.inner.width
           (near_at old b.inner.key) (parts_in old slot.parts.items)
@@ -154,6 +155,7 @@ module _ (old : Sets) (root : Seat) (tree bs later : List Branch) (b : Branch) (
         let kl = keep_branches old new later (can_left old new l c can4) in
         let kc = keep_couples old new rest (can_right old new l c can4) in
         record {
+          apart = s;
           ring = all.1;
           made = made;
           same_root = kr.same;
@@ -168,93 +170,89 @@ module _ (old : Sets) (root : Seat) (tree bs later : List Branch) (b : Branch) (
           split = sum;
         }
 
-    pub ring_stays : Freed → IsRing (parts_in new slot.parts.items)
-    ring_stays f = subst (λ (ps : List PartValue). IsRing ps) (sym f.same_parts) f.ring
+module _ {old new : Slots} {root : Seat} {tree bs later : List Branch} {b : Branch} {rest : List Couple} {slot : Slot}
+    (f : Freed old root tree bs later b rest new slot) where
+  pub ring_stays : IsRing (parts_in new slot.parts.items)
+  ring_stays = subst (λ (ps : List PartValue). IsRing ps) (sym f.same_parts) f.ring
 
-    -- the ring's places are those of the inner set
-    pub places_stay : Freed → (x : ℕ) → count x (members_in (parts_in new slot.parts.items)) ≡ count x (set_in old b.inner).members
-    places_stay f x =
-        ap (λ (ps : List PartValue). count x (members_in ps)) f.same_parts ∙ sym (ap (λ (v : NestValue). count x v.members) f.made)
+  -- the ring's places are those of the inner set
+  pub places_stay : (x : ℕ) → count x (members_in (parts_in new slot.parts.items)) ≡ count x (set_in old b.inner).members
+  places_stay x =
+      ap (λ (ps : List PartValue). count x (members_in ps)) f.same_parts ∙ sym (ap (λ (v : NestValue). count x v.members) f.made)
 
-    abbrev Evenly : List PartValue → Type 0
-    Evenly ring = GoesEvenly b.up.to b.pair.from (parts_in new slot.parts.items) ring
+  abbrev Evenly : List PartValue → Type 0
+  Evenly ring = GoesEvenly b.up.to b.pair.from (parts_in new slot.parts.items) ring
 
-    evenly_old : (ring : List PartValue) → Freed → Evenly ring → GoesEvenly b.up.to b.pair.from (parts_in old slot.parts.items) ring
-    evenly_old ring f g = subst (λ (ps : List PartValue). GoesEvenly b.up.to b.pair.from ps ring) f.same_parts g
+  evenly_old : (ring : List PartValue) → Evenly ring → GoesEvenly b.up.to b.pair.from (parts_in old slot.parts.items) ring
+  evenly_old ring g = subst (λ (ps : List PartValue). GoesEvenly b.up.to b.pair.from ps ring) f.same_parts g
 
-    pub can_lay_freed : (ring : List PartValue) → IsSplit → Freed → Evenly ring
-        → CanLay (set_in new root) (branches_in new bs) ring b.up b.pair (set_in new b.outer)
-    can_lay_freed ring s f g =
-        let can = can_lay b.inner.key (set_in old root) (branches_in old tree) (branches_in old bs) (branch_in old b)
-        (branches_in old later)
-        (parts_in old slot.parts.items) ring s f.made (evenly_old ring f g) in
-        subst (λ (v : NestValue). CanLay v (branches_in new bs) ring b.up b.pair (set_in new b.outer)) (sym f.same_root)
-        (subst (λ (ks : List BranchValue). CanLay (set_in old root) ks ring b.up b.pair (set_in new b.outer)) (sym f.same_before)
-        (subst (λ (v : NestValue). CanLay (set_in old root) (branches_in old bs) ring b.up b.pair v) (sym f.same_outer) can))
+  pub can_lay_freed : (ring : List PartValue) → Evenly ring
+      → CanLay (set_in new root) (branches_in new bs) ring b.up b.pair (set_in new b.outer)
+  can_lay_freed ring g =
+      let can = can_lay b.inner.key (set_in old root) (branches_in old tree) (branches_in old bs) (branch_in old b)
+      (branches_in old later) (parts_in old slot.parts.items) ring f.apart f.made (evenly_old ring g) in
+      subst (λ (v : NestValue). CanLay v (branches_in new bs) ring b.up b.pair (set_in new b.outer)) (sym f.same_root)
+      (subst (λ (ks : List BranchValue). CanLay (set_in old root) ks ring b.up b.pair (set_in new b.outer)) (sym f.same_before)
+      (subst (λ (v : NestValue). CanLay (set_in old root) (branches_in old bs) ring b.up b.pair v) (sym f.same_outer) can))
 
-    abbrev Laid : List PartValue → List BranchValue → List CoupleValue → Type 0
-    Laid ring mid cs = Lays (set_in new root) (branches_in new bs) ring b.up b.pair (set_in new b.outer) mid cs
+  abbrev Laid : List PartValue → List BranchValue → List CoupleValue → Type 0
+  Laid ring mid cs = Lays (set_in new root) (branches_in new bs) ring b.up b.pair (set_in new b.outer) mid cs
 
-    laid_old : (ring : List PartValue) (mid : List BranchValue) (cs : List CoupleValue) → Freed → Laid ring mid cs
-        → Lays (set_in old root) (branches_in old bs) ring b.up b.pair (set_in old b.outer) mid cs
-    laid_old ring mid cs f l =
-        subst (λ (v : NestValue). Lays v (branches_in old bs) ring b.up b.pair (set_in old b.outer) mid cs) f.same_root
-        (subst (λ (ks : List BranchValue). Lays (set_in new root) ks ring b.up b.pair (set_in old b.outer) mid cs) f.same_before
-        (subst (λ (v : NestValue). Lays (set_in new root) (branches_in new bs) ring b.up b.pair v mid cs) f.same_outer l))
+  laid_old : (ring : List PartValue) (mid : List BranchValue) (cs : List CoupleValue) → Laid ring mid cs
+      → Lays (set_in old root) (branches_in old bs) ring b.up b.pair (set_in old b.outer) mid cs
+  laid_old ring mid cs l =
+      subst (λ (v : NestValue). Lays v (branches_in old bs) ring b.up b.pair (set_in old b.outer) mid cs) f.same_root
+      (subst (λ (ks : List BranchValue). Lays (set_in new root) ks ring b.up b.pair (set_in old b.outer) mid cs) f.same_before
+      (subst (λ (v : NestValue). Lays (set_in new root) (branches_in new bs) ring b.up b.pair v mid cs) f.same_outer l))
 
-    module _ (ring : List PartValue) (mid now : List Branch) (cs all : List Couple) where
-      mid_more : Freed → now ≡ mid ++ later → branches_in new now ≡ branches_in new mid ++ branches_in old later
-      mid_more f m =
-          ap (λ (ks : List Branch). branches_in new ks) m ∙ map-append (branch_in new) mid later
-          ∙ ap (λ (ks : List BranchValue). branches_in new mid ++ ks) f.same_later
+  module _ (ring : List PartValue) (mid now : List Branch) (cs all : List Couple) where
+    mid_more : now ≡ mid ++ later → branches_in new now ≡ branches_in new mid ++ branches_in old later
+    mid_more m =
+        ap (λ (ks : List Branch). branches_in new ks) m ∙ map-append (branch_in new) mid later
+        ∙ ap (λ (ks : List BranchValue). branches_in new mid ++ ks) f.same_later
 
-      pub expanded_freed : IsSplit → Freed → Evenly ring → Laid ring (branches_in new mid) (couples_in new cs) → all ≡ rest ++ cs
-          → now ≡ mid ++ later
-          → Expands b.inner.key (set_in old root) (branches_in old tree) (branches_in new now) (couples_in old rest) (couples_in new all)
-      expanded_freed s f g l e m =
-          expanded b.inner.key (set_in old root) (branches_in old tree) (branches_in old bs) (branch_in old b) (branches_in old later)
-          (branches_in new mid) (branches_in new now) (parts_in old slot.parts.items) ring (couples_in old rest) (couples_in new cs)
-          (couples_in new all) s f.ring f.made (evenly_old ring f g) (laid_old ring (branches_in new mid) (couples_in new cs) f l)
-          (ap (λ (ks : List Couple). couples_in new ks) e ∙ map-append (couple_in new) rest cs
-          ∙ ap (λ (ks : List CoupleValue). ks ++ couples_in new cs) f.same_rest) (mid_more f m)
+    pub expanded_freed : Evenly ring → Laid ring (branches_in new mid) (couples_in new cs) → all ≡ rest ++ cs → now ≡ mid ++ later
+        → Expands b.inner.key (set_in old root) (branches_in old tree) (branches_in new now) (couples_in old rest) (couples_in new all)
+    expanded_freed g l e m =
+        expanded b.inner.key (set_in old root) (branches_in old tree) (branches_in old bs) (branch_in old b) (branches_in old later)
+        (branches_in new mid) (branches_in new now) (parts_in old slot.parts.items) ring (couples_in old rest) (couples_in new cs)
+        (couples_in new all) f.apart f.ring f.made (evenly_old ring g) (laid_old ring (branches_in new mid) (couples_in new cs) l)
+        (ap (λ (ks : List Couple). couples_in new ks) e ∙ map-append (couple_in new) rest cs
+        ∙ ap (λ (ks : List CoupleValue). ks ++ couples_in new cs) f.same_rest) (mid_more m)
 
-      -- no set more than before but the parts of the one that came apart
-      pub freed_sets : IsSplit → Stand → Freed
-          → Expands b.inner.key (set_in old root) (branches_in old tree) (branches_in new now) (couples_in old rest) (couples_in new all)
-          → AreSets new (all_bands (set_in new root) (branches_in new now) (couples_in new all))
-      freed_sets s are f x =
-          let count = λ (k : ℕ). omega_sum k f x in
-          record {
-            each = λ k u. f.kept.sets k (omega (arith, u, count k));
-            once = λ k. omega (arith, count k, are.once k, f.split k);
-          }
-        where
-          omega_sum : (k : ℕ) → Freed
-              → Expands b.inner.key (set_in old root) (branches_in old tree) (branches_in new now) (couples_in old rest)
-              (couples_in new all)
-              → uses k (all_bands (set_in new root) (branches_in new now) (couples_in new all))
-              ≡ uses k (others (set_in old root) (branches_in old bs) (parts_in old slot.parts.items) (set_in old b.outer)
-              (branches_in old later) (couples_in old rest))
-          omega_sum k f x =
-              omega (
-                arith,
-                all_uses k (set_in new root) (branches_in new now) (couples_in new all),
-                all_uses k (set_in old root) (branches_in old tree) (couples_in old rest),
-                ap (λ (v : NestValue). uses k (bands v)) f.same_root,
-                x.sums (uses k) (uses-append k),
-                f.split k,
-              )
+    -- the sets after it are the others
+    now_uses : (k : ℕ)
+        → Expands b.inner.key (set_in old root) (branches_in old tree) (branches_in new now) (couples_in old rest) (couples_in new all)
+        → uses k (all_bands (set_in new root) (branches_in new now) (couples_in new all))
+        ≡ uses k (others (set_in old root) (branches_in old bs) (parts_in old slot.parts.items) (set_in old b.outer)
+        (branches_in old later) (couples_in old rest))
+    now_uses k x =
+        omega (
+          arith,
+          all_uses k (set_in new root) (branches_in new now) (couples_in new all),
+          all_uses k (set_in old root) (branches_in old tree) (couples_in old rest),
+          ap (λ (v : NestValue). uses k (bands v)) f.same_root,
+          x.sums (uses k) (uses-append k),
+          f.split k,
+        )
 
-    pub grows_freed : (ring : List PartValue) (kept mid now : List Branch) (cs : List Couple) (at : ℕ)
+    -- no set more than before but the parts of the one that came apart
+    pub freed_sets : Stand old root tree bs later b rest → Evenly ring → Laid ring (branches_in new mid) (couples_in new cs)
+        → all ≡ rest ++ cs → now ≡ mid ++ later → AreSets new (all_bands (set_in new root) (branches_in new now) (couples_in new all))
+    freed_sets are g l e m =
+        let x = expanded_freed g l e m in
+        record {
+          each = λ k u. f.kept.sets k (omega (arith, u, now_uses k x));
+          once = λ k. omega (arith, now_uses k x, are.once k, f.split k);
+        }
+
+    pub grows_freed : (kept : List Branch) (at : ℕ)
         → Expanding (set_in old root) (branches_in old tree) at → kept ≡ take (at + 1) tree → later ≡ drop (at + 1) tree
-        → kept ≡ bs ++ b ∷ [] → Freed → Laid ring (branches_in new mid) (couples_in new cs) → now ≡ mid ++ later
+        → kept ≡ bs ++ b ∷ [] → Laid ring (branches_in new mid) (couples_in new cs) → now ≡ mid ++ later
         → GrowsAt at (branches_in old tree) (branches_in new now)
-    grows_freed ring kept mid now cs at ex e g h f l m =
+    grows_freed kept at ex e g h l m =
         grows_at (set_in old root) (branches_in old tree) (branches_in old kept) (branches_in old bs) (branch_in old b)
-        (branches_in old later)
-        (branches_in new mid) (branches_in new now) ring (couples_in new cs) at ex
+        (branches_in old later) (branches_in new mid) (branches_in new now) ring (couples_in new cs) at ex
         (ap (λ (ks : List Branch). branches_in old ks) e ∙ sym (mapped_take (branch_in old) (at + 1) tree))
         (ap (λ (ks : List Branch). branches_in old ks) g ∙ sym (mapped_drop (branch_in old) (at + 1) tree))
-        (mapped_last (branch_in old) kept bs b h) (laid_old ring (branches_in new mid) (couples_in new cs) f l)
-        (ap (λ (ks : List Branch). branches_in new ks) m ∙ map-append (branch_in new) mid later
-        ∙ ap (λ (ks : List BranchValue). branches_in new mid ++ ks) f.same_later)
+        (mapped_last (branch_in old) kept bs b h) (laid_old ring (branches_in new mid) (couples_in new cs) l) (mid_more m)

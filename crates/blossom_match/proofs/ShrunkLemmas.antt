@@ -6,7 +6,7 @@ use Rattle.blossom_match.specs.Bands.{NestValue, Kept, bands, uses}
 use Rattle.blossom_match.specs.Couples.{couple_bands}
 use Rattle.blossom_match.specs.Rings.{bands_in}
 use Rattle.blossom_match.specs.Shrinks.{branch_of, part_of, ring_value, Chaining, Closable, Shrinking, Shrinks}
-use Rattle.blossom_match.specs.Slots.{branch_in, branches_in, parts_in, set_in, AreSets, Inserts, Sets}
+use Rattle.blossom_match.specs.Slots.{branch_in, branches_in, parts_in, set_in, AreSets, Inserts, Slots}
 use Rattle.blossom_match.specs.Sound.{IsFirm}
 use Rattle.blossom_match.specs.Trees.{all_bands, branch_bands}
 use Rattle.blossom_match.specs.Values.{BranchValue, CoupleValue, PartValue}
@@ -40,7 +40,7 @@ last_kept link root tree left bs b chain aside way to sh c e =
     (last.inner.kept, last.outer.kept)
 
 -- the sets of a ring that closes
-pub ring_sets : (sets : Sets) (link : Link) (root : NestValue) (tree left bs : List BranchValue) (b : BranchValue)
+pub ring_sets : (sets : Slots) (link : Link) (root : NestValue) (tree left bs : List BranchValue) (b : BranchValue)
     (chain : List PartValue) (aside : List BranchValue) (way : Link) (to : ℕ) → Chaining link root tree left chain aside way to
     → left ≡ bs ++ b ∷ [] → AreSets sets (all_bands root tree []) → AreSets sets (bands_in (part_of b.outer way ∷ chain))
 ring_sets sets link root tree left bs b chain aside way to c e are =
@@ -53,7 +53,7 @@ ring_sets sets link root tree left bs b chain aside way to c e are =
       branch_bands_push (uses k) (uses-append k) bs b,
     ))
 
-pub root_sets : (sets : Sets) (link : Link) (root : NestValue) (tree left : List BranchValue)
+pub root_sets : (sets : Slots) (link : Link) (root : NestValue) (tree left : List BranchValue)
     (chain : List PartValue) (aside : List BranchValue) (way : Link) (to : ℕ) → Chaining link root tree left chain aside way to
     → AreSets sets (all_bands root tree []) → AreSets sets (bands_in (part_of root way ∷ chain))
 root_sets sets link root tree left chain aside way to c are =
@@ -64,7 +64,7 @@ root_sets sets link root tree left chain aside way to c are =
       c.sums (uses k) (uses-append k),
     ))
 
-module _ (old new : Sets) (link : Link) (root : Seat) (tree : List Branch) (left bs aside : List Branch)
+module _ (old new : Slots) (link : Link) (root : Seat) (tree : List Branch) (left bs aside : List Branch)
     (chain : List Part) (way : Link) (to : ℕ) (ring : Seat) where
   abbrev Goes : Type 0
   Goes = Chaining link (set_in old root) (branches_in old tree) (branches_in old left) (parts_in old chain) (branches_in old aside) way to

@@ -1,4 +1,4 @@
--- Sets in slots: what a slot more and a slot less leave.
+-- Slots in slots: what a slot more and a slot less leave.
 use Rattle.std.proofs.Common.{◌≡◌, ℕ, zero, suc, ◌+◌, ◌≤◌, ◌<◌, List, [], ◌∷◌, ◌++◌, map, length, ltb, Option, Some, None, IsSome, arith, length-append, refl, sym, ap, subst, ◌∙◌}
 use Rattle.std.proofs.lemmas.Bool.{lt-ltb}
 use Rattle.slab.specs.Slab.{get, ContainsKey, Updates}
@@ -10,7 +10,7 @@ use Rattle.blossom_match.specs.RingRows.{ring_of, ring_row}
 use Rattle.blossom_match.specs.Shrinks.{branch_of, part_of}
 use Rattle.blossom_match.specs.Trees.{branch_bands}
 use Rattle.blossom_match.specs.Values.{BranchValue, CoupleValue, PartValue}
-use Rattle.blossom_match.specs.Slots.{branch_in, branches_in, couple_in, couples_in, members_at, members_of, near_at, near_of, part_in, part_to, parts_at, parts_in, parts_of, set_in, with_inside, AreSets, Inserts, IsSet, IsSetTo, KeepOthers, Sets}
+use Rattle.blossom_match.specs.Slots.{branch_in, branches_in, couple_in, couples_in, members_at, members_of, near_at, near_of, part_in, part_to, parts_at, parts_in, parts_of, set_in, with_inside, AreSets, Inserts, IsSet, IsSetTo, KeepOthers, Slots}
 use Rattle.blossom_match.specs.declared.nest.Link.{Link}
 use Rattle.blossom_match.specs.declared.nest.Seat.{Seat}
 use Rattle.blossom_match.specs.declared.nest.Part.{Part}
@@ -36,7 +36,7 @@ fewer_each n (p ∷ ps) kept two =
           (fewer_each (n + length p.nest.members) ps kept.1 (omega (arith, kept.0.odd))),
     )
 
-sizes : (sets : Sets) (ms : List ℕ) (ps : List Part) (m : ℕ) → IsMade ms (parts_in sets ps) → length ms ≤ m
+sizes : (sets : Slots) (ms : List ℕ) (ps : List Part) (m : ℕ) → IsMade ms (parts_in sets ps) → length ms ≤ m
     → Each (λ (p : Part). length (members_at sets p.seat.key) < m) ps
 sizes sets ms [] m made low = tt
 sizes sets ms (p ∷ ps) m made low =
@@ -47,7 +47,7 @@ sizes sets ms (p ∷ ps) m made low =
     (fewer_each 0 (parts_in sets (p ∷ ps)) made.1.kept (omega (arith, made.1.three))))
 
 -- as many levels as members, or more, show all sets inside
-levels_list : (m : ℕ) (sets : Sets) (P : ℕ → Type 0)
+levels_list : (m : ℕ) (sets : Slots) (P : ℕ → Type 0)
     → ((n k : ℕ) → P k → length (members_at sets k) ≤ n → map (part_to n sets) (parts_at sets k) ≡ parts_in sets (parts_at sets k))
     → (ps : List Part) → Each (λ (p : Part). P p.seat.key) ps → Each (λ (p : Part). length (members_at sets p.seat.key) < m) ps
     → map (part_to m sets) ps ≡ parts_in sets ps
@@ -60,14 +60,14 @@ levels_list (suc m) sets P all (p ∷ ps) are low =
     ap (λ (xs : List PartValue). with_inside sets p xs ∷ map (part_to (suc m) sets) ps) inside
     ∙ ap (λ (xs : List PartValue). part_in sets p ∷ xs) rest
 
-levels : (a m : ℕ) (sets : Sets) (k : ℕ) → IsSetTo a sets k → length (members_at sets k) ≤ m
+levels : (a m : ℕ) (sets : Slots) (k : ℕ) → IsSetTo a sets k → length (members_at sets k) ≤ m
     → map (part_to m sets) (parts_at sets k) ≡ parts_in sets (parts_at sets k)
 levels zero m sets k is low = absurd is
 levels (suc a) m sets k is low =
     levels_list m sets (IsSetTo a sets) (λ n j. levels a n sets j) (parts_at sets k) is.2
     (sizes sets (members_at sets k) (parts_at sets k) m is.1 low)
 
-made_to : (a : ℕ) (sets : Sets) (s : Seat) → IsSetTo a sets s.key
+made_to : (a : ℕ) (sets : Slots) (s : Seat) → IsSetTo a sets s.key
     → set_in sets s ≡ nest_of s.key (members_at sets s.key) s.width (near_at sets s.key) (parts_in sets (parts_at sets s.key))
 made_to a sets s is =
     ap (λ (ps : List PartValue). nest_of s.key (members_at sets s.key) s.width (near_at sets s.key) ps)
@@ -83,7 +83,7 @@ each_both P Q R f [] p q = tt
 each_both P Q R f (x ∷ xs) p q = (f x p.0 q.0, each_both P Q R f xs p.1 q.1)
 
 -- so many levels are enough
-to_all : (a : ℕ) (sets : Sets) (k : ℕ) → IsSetTo a sets k → (n : ℕ) → length (members_at sets k) ≤ n → IsSetTo n sets k
+to_all : (a : ℕ) (sets : Slots) (k : ℕ) → IsSetTo a sets k → (n : ℕ) → length (members_at sets k) ≤ n → IsSetTo n sets k
 to_all zero sets k is n low = absurd is
 to_all (suc a) sets k is zero low = absurd (omega (arith, low, made_some (members_at sets k) (parts_in sets (parts_at sets k)) is.1))
 to_all (suc a) sets k is (suc n) low = (
@@ -94,29 +94,29 @@ to_all (suc a) sets k is (suc n) low = (
       (sizes sets (members_at sets k) (parts_at sets k) (suc n) is.1 low),
 )
 
-set_to : (a : ℕ) (sets : Sets) (k : ℕ) → IsSetTo a sets k → IsSet sets k
+set_to : (a : ℕ) (sets : Slots) (k : ℕ) → IsSetTo a sets k → IsSet sets k
 set_to a sets k is = record { to = to_all a sets k is }
 
-levels_of : (sets : Sets) (k : ℕ) → IsSet sets k → IsSetTo (length (members_at sets k)) sets k
+levels_of : (sets : Slots) (k : ℕ) → IsSet sets k → IsSetTo (length (members_at sets k)) sets k
 levels_of sets k is = is.to (length (members_at sets k)) (omega arith)
 
 -- a set by its parts
-pub set_made : (sets : Sets) (s : Seat) → IsSet sets s.key
+pub set_made : (sets : Slots) (s : Seat) → IsSet sets s.key
     → set_in sets s ≡ nest_of s.key (members_at sets s.key) s.width (near_at sets s.key) (parts_in sets (parts_at sets s.key))
 set_made sets s is = made_to (length (members_at sets s.key)) sets s (levels_of sets s.key is)
 
-made_at : (a : ℕ) (sets : Sets) (k : ℕ) → IsSetTo a sets k → IsMade (members_at sets k) (parts_in sets (parts_at sets k))
+made_at : (a : ℕ) (sets : Slots) (k : ℕ) → IsSetTo a sets k → IsMade (members_at sets k) (parts_in sets (parts_at sets k))
 made_at zero sets k is = absurd is
 made_at (suc a) sets k is = is.1
 
-pub is_made : (sets : Sets) (k : ℕ) → IsSet sets k → IsMade (members_at sets k) (parts_in sets (parts_at sets k))
+pub is_made : (sets : Slots) (k : ℕ) → IsSet sets k → IsMade (members_at sets k) (parts_in sets (parts_at sets k))
 is_made sets k is = made_at (length (members_at sets k)) sets k (levels_of sets k is)
 
-slot_at : (a : ℕ) (sets : Sets) (k : ℕ) → IsSetTo a sets k → ContainsKey sets k
+slot_at : (a : ℕ) (sets : Slots) (k : ℕ) → IsSetTo a sets k → ContainsKey sets k
 slot_at zero sets k is = absurd is
 slot_at (suc a) sets k is = is.0
 
-pub has_slot : (sets : Sets) (k : ℕ) → IsSet sets k → ContainsKey sets k
+pub has_slot : (sets : Slots) (k : ℕ) → IsSet sets k → ContainsKey sets k
 has_slot sets k is = slot_at (length (members_at sets k)) sets k (levels_of sets k is)
 
 -- what follows of the one and of the other follows of their sum
@@ -125,14 +125,14 @@ either zero n one two some = two (omega (arith, some))
 either (suc m) n one two some = one (omega arith)
 
 -- each set inside is a set
-inside_list : (a : ℕ) (sets : Sets) → ((s : Seat) (j : ℕ) → IsSetTo a sets s.key → 1 ≤ uses j (bands (set_in sets s)) → IsSet sets j)
+inside_list : (a : ℕ) (sets : Slots) → ((s : Seat) (j : ℕ) → IsSetTo a sets s.key → 1 ≤ uses j (bands (set_in sets s)) → IsSet sets j)
     → (ps : List Part) (j : ℕ) → Each (λ (p : Part). IsSetTo a sets p.seat.key) ps → 1 ≤ uses j (bands_in (parts_in sets ps)) → IsSet sets j
 inside_list a sets all [] j are some = absurd (omega arith)
 inside_list a sets all (p ∷ ps) j are some =
     either (uses j (bands (set_in sets p.seat))) (uses j (bands_in (parts_in sets ps))) (all p.seat j are.0)
     (inside_list a sets all ps j are.1) (omega (arith, some, uses-append j (bands (set_in sets p.seat)) (bands_in (parts_in sets ps))))
 
-inside_to : (a : ℕ) (sets : Sets) (s : Seat) (j : ℕ) → IsSetTo a sets s.key → 1 ≤ uses j (bands (set_in sets s)) → IsSet sets j
+inside_to : (a : ℕ) (sets : Slots) (s : Seat) (j : ℕ) → IsSetTo a sets s.key → 1 ≤ uses j (bands (set_in sets s)) → IsSet sets j
 inside_to zero sets s j is some = absurd is
 inside_to (suc a) sets s j is some =
     either (hit j s.key) (uses j (bands_in (parts_in sets (parts_at sets s.key))))
@@ -140,20 +140,20 @@ inside_to (suc a) sets s j is some =
     (inside_list a sets (λ r k. inside_to a sets r k) (parts_at sets s.key) j is.2)
     (omega (arith, some, ap (λ (v : NestValue). uses j (bands v)) (made_to (suc a) sets s is)))
 
-pub inside : (sets : Sets) (s : Seat) (j : ℕ) → IsSet sets s.key → 1 ≤ uses j (bands (set_in sets s)) → IsSet sets j
+pub inside : (sets : Slots) (s : Seat) (j : ℕ) → IsSet sets s.key → 1 ≤ uses j (bands (set_in sets s)) → IsSet sets j
 inside sets s j is = inside_to (length (members_at sets s.key)) sets s j (levels_of sets s.key is)
 
 -- a seat finds the same set in other slots
-pub record IsKept (old new : Sets) (s : Seat) : Type 0 where
+pub record IsKept (old new : Slots) (s : Seat) : Type 0 where
   pub set : IsSet new s.key
   pub same : set_in new s ≡ set_in old s
 
 -- where each key inside keeps its slot, so does the set
-abbrev KeepsTo : ℕ → Sets → Sets → Type 0
+abbrev KeepsTo : ℕ → Slots → Slots → Type 0
 KeepsTo a old new = (s : Seat) → IsSetTo a old s.key → ((j : ℕ) → 1 ≤ uses j (bands (set_in old s)) → get new j ≡ get old j)
     → IsSetTo a new s.key × (set_in new s ≡ set_in old s)
 
-keeps_list : (a : ℕ) (old new : Sets) → KeepsTo a old new → (ps : List Part) → Each (λ (p : Part). IsSetTo a old p.seat.key) ps
+keeps_list : (a : ℕ) (old new : Slots) → KeepsTo a old new → (ps : List Part) → Each (λ (p : Part). IsSetTo a old p.seat.key) ps
     → ((j : ℕ) → 1 ≤ uses j (bands_in (parts_in old ps)) → get new j ≡ get old j)
     → Each (λ (p : Part). IsSetTo a new p.seat.key) ps × (parts_in new ps ≡ parts_in old ps)
 keeps_list a old new keeps [] are same = (tt, refl)
@@ -166,7 +166,7 @@ keeps_list a old new keeps (p ∷ ps) are same =
           ∙ ap (λ (qs : List PartValue). part_in old p ∷ qs) rest.1,
     )
 
-keeps_to : (a : ℕ) (old new : Sets) → KeepsTo a old new
+keeps_to : (a : ℕ) (old new : Slots) → KeepsTo a old new
 keeps_to zero old new s is same = absurd is
 keeps_to (suc a) old new s is same =
     let k = s.key in
@@ -184,7 +184,7 @@ keeps_to (suc a) old new s is same =
           ∙ ap (λ (qs : List PartValue). nest_of k (members_at old k) s.width (near_at old k) qs) parts.1 ∙ sym made,
     )
 
-pub set_kept : (old new : Sets) (s : Seat) → IsSet old s.key → ((j : ℕ) → 1 ≤ uses j (bands (set_in old s)) → get new j ≡ get old j)
+pub set_kept : (old new : Slots) (s : Seat) → IsSet old s.key → ((j : ℕ) → 1 ≤ uses j (bands (set_in old s)) → get new j ≡ get old j)
     → IsKept old new s
 set_kept old new s is same =
     let n = length (members_at old s.key) in
@@ -192,10 +192,10 @@ set_kept old new s is same =
     record { set = set_to n new s.key k.0; same = k.1 }
 
 -- the sets of a list, and that they are the same in other slots
-pub record AreKept (old new : Sets) (was : List Band) : Type 0 where
+pub record AreKept (old new : Slots) (was : List Band) : Type 0 where
   pub sets : (j : ℕ) → 1 ≤ uses j was → IsSet new j
 
-seat_kept : (old new : Sets) (s : Seat) → IsSet old s.key → ((j : ℕ) → 1 ≤ uses j (bands (set_in old s)) → get new j ≡ get old j)
+seat_kept : (old new : Slots) (s : Seat) → IsSet old s.key → ((j : ℕ) → 1 ≤ uses j (bands (set_in old s)) → get new j ≡ get old j)
     → AreKept old new (bands (set_in old s)) × (set_in new s ≡ set_in old s)
 seat_kept old new s is same =
     let k = set_kept old new s is same in (
@@ -205,42 +205,42 @@ seat_kept old new s is same =
       k.same,
     )
 
-pub kept_append : (old new : Sets) (xs ys : List Band) → AreKept old new xs → AreKept old new ys → AreKept old new (xs ++ ys)
+pub kept_append : (old new : Slots) (xs ys : List Band) → AreKept old new xs → AreKept old new ys → AreKept old new (xs ++ ys)
 kept_append old new xs ys a b = record {
   sets = λ j u. either (uses j xs) (uses j ys) (a.sets j) (b.sets j) (omega (arith, u, uses-append j xs ys));
 }
 
 -- the slots of these sets stay, and there are sets in them
-pub record CanKeep (old new : Sets) (was : List Band) : Type 0 where
+pub record CanKeep (old new : Slots) (was : List Band) : Type 0 where
   pub each : (j : ℕ) → 1 ≤ uses j was → IsSet old j
   pub same : (j : ℕ) → 1 ≤ uses j was → get new j ≡ get old j
 
-pub can_left : (old new : Sets) (xs ys : List Band) → CanKeep old new (xs ++ ys) → CanKeep old new xs
+pub can_left : (old new : Slots) (xs ys : List Band) → CanKeep old new (xs ++ ys) → CanKeep old new xs
 can_left old new xs ys c = record {
   each = λ j u. c.each j (omega (arith, u, uses-append j xs ys));
   same = λ j u. c.same j (omega (arith, u, uses-append j xs ys));
 }
 
-pub can_right : (old new : Sets) (xs ys : List Band) → CanKeep old new (xs ++ ys) → CanKeep old new ys
+pub can_right : (old new : Slots) (xs ys : List Band) → CanKeep old new (xs ++ ys) → CanKeep old new ys
 can_right old new xs ys c = record {
   each = λ j u. c.each j (omega (arith, u, uses-append j xs ys));
   same = λ j u. c.same j (omega (arith, u, uses-append j xs ys));
 }
 
-pub record SeatKept (old new : Sets) (s : Seat) : Type 0 where
+pub record SeatKept (old new : Slots) (s : Seat) : Type 0 where
   pub kept : AreKept old new (bands (set_in old s))
   pub same : set_in new s ≡ set_in old s
 
-pub keep_seat : (old new : Sets) (s : Seat) → CanKeep old new (bands (set_in old s)) → SeatKept old new s
+pub keep_seat : (old new : Slots) (s : Seat) → CanKeep old new (bands (set_in old s)) → SeatKept old new s
 keep_seat old new s c =
     let k = seat_kept old new s (c.each s.key (omega (arith, hit_same s.key))) c.same in
     record { kept = k.0; same = k.1 }
 
-pub record PartsKept (old new : Sets) (ps : List Part) : Type 0 where
+pub record PartsKept (old new : Slots) (ps : List Part) : Type 0 where
   pub kept : AreKept old new (bands_in (parts_in old ps))
   pub same : parts_in new ps ≡ parts_in old ps
 
-pub keep_parts : (old new : Sets) (ps : List Part) → CanKeep old new (bands_in (parts_in old ps)) → PartsKept old new ps
+pub keep_parts : (old new : Slots) (ps : List Part) → CanKeep old new (bands_in (parts_in old ps)) → PartsKept old new ps
 keep_parts old new [] c = record { kept = record { sets = λ j u. absurd (omega arith) }; same = refl }
 keep_parts old new (p ∷ ps) c =
     let first = bands (set_in old p.seat) in
@@ -252,14 +252,14 @@ keep_parts old new (p ∷ ps) c =
       same = ap (λ (v : NestValue). part_of v p.next ∷ parts_in new ps) k.same ∙ ap (λ (qs : List PartValue). part_in old p ∷ qs) rest.same;
     }
 
-pub record CouplesKept (old new : Sets) (cs : List Couple) : Type 0 where
+pub record CouplesKept (old new : Slots) (cs : List Couple) : Type 0 where
   pub kept : AreKept old new (couple_bands (couples_in old cs))
   pub same : couples_in new cs ≡ couples_in old cs
 
 abbrev couple_of : NestValue → NestValue → Link → CoupleValue
 couple_of first second link = record { first = first; second = second; link = link }
 
-pub keep_couples : (old new : Sets) (cs : List Couple) → CanKeep old new (couple_bands (couples_in old cs)) → CouplesKept old new cs
+pub keep_couples : (old new : Slots) (cs : List Couple) → CanKeep old new (couple_bands (couples_in old cs)) → CouplesKept old new cs
 keep_couples old new [] c = record { kept = record { sets = λ j u. absurd (omega arith) }; same = refl }
 keep_couples old new (k ∷ cs) c =
     let one = bands (set_in old k.first) in
@@ -276,11 +276,11 @@ keep_couples old new (k ∷ cs) c =
           ∙ ap (λ (ks : List CoupleValue). couple_in old k ∷ ks) rest.same;
     }
 
-pub record BranchesKept (old new : Sets) (bs : List Branch) : Type 0 where
+pub record BranchesKept (old new : Slots) (bs : List Branch) : Type 0 where
   pub kept : AreKept old new (branch_bands (branches_in old bs))
   pub same : branches_in new bs ≡ branches_in old bs
 
-pub keep_branches : (old new : Sets) (bs : List Branch) → CanKeep old new (branch_bands (branches_in old bs)) → BranchesKept old new bs
+pub keep_branches : (old new : Slots) (bs : List Branch) → CanKeep old new (branch_bands (branches_in old bs)) → BranchesKept old new bs
 keep_branches old new [] c = record { kept = record { sets = λ j u. absurd (omega arith) }; same = refl }
 keep_branches old new (b ∷ bs) c =
     let one = bands (set_in old b.inner) in
@@ -297,13 +297,13 @@ keep_branches old new (b ∷ bs) c =
           ∙ ap (λ (ks : List BranchValue). branch_in old b ∷ ks) rest.same;
     }
 
-pub no_slot : (sets : Sets) (j key : ℕ) → ContainsKey sets j → j ≡ key → get sets key ≡ None → ⊥
+pub no_slot : (sets : Slots) (j key : ℕ) → ContainsKey sets j → j ≡ key → get sets key ≡ None → ⊥
 no_slot sets j key has e none =
     let gone = subst (λ (o : Option Slot). IsSome o) (ap (get sets) e ∙ none) has in
     absurd (cc)
 
 -- a key more changes no set that was there
-pub inserted_keeps : (old new : Sets) (key : ℕ) (was : List Band) → get old key ≡ None → KeepOthers old new key
+pub inserted_keeps : (old new : Slots) (key : ℕ) (was : List Band) → get old key ≡ None → KeepOthers old new key
     → ((j : ℕ) → 1 ≤ uses j was → IsSet old j) → CanKeep old new was
 inserted_keeps old new key was fresh others each = record {
   each = each;
@@ -311,7 +311,7 @@ inserted_keeps old new key was fresh others each = record {
 }
 
 -- a key less changes no set without it
-pub removed_keeps : (old new : Sets) (key : ℕ) (was : List Band) → KeepOthers old new key → uses key was ≡ 0
+pub removed_keeps : (old new : Slots) (key : ℕ) (was : List Band) → KeepOthers old new key → uses key was ≡ 0
     → ((j : ℕ) → 1 ≤ uses j was → IsSet old j) → CanKeep old new was
 removed_keeps old new key was others none each = record {
   each = each;
@@ -319,12 +319,12 @@ removed_keeps old new key was others none each = record {
 }
 
 -- a set has others inside where it has parts
-pub parts_show : (m : ℕ) (sets : Sets) (ps : List Part) → ltb 0 (length ps) ≡ ltb 0 (length (bands_in (map (part_to m sets) ps)))
+pub parts_show : (m : ℕ) (sets : Slots) (ps : List Part) → ltb 0 (length ps) ≡ ltb 0 (length (bands_in (map (part_to m sets) ps)))
 parts_show m sets [] = refl
 parts_show m sets (p ∷ ps) =
     lt-ltb 0 (length (p ∷ ps)) (omega arith) ∙ sym (lt-ltb 0 (length (bands_in (map (part_to m sets) (p ∷ ps)))) (omega arith))
 
-each_set : (old new : Sets) (ps : List Part) → ((j : ℕ) → 1 ≤ uses j (bands_in (parts_in old ps)) → IsSet new j)
+each_set : (old new : Slots) (ps : List Part) → ((j : ℕ) → 1 ≤ uses j (bands_in (parts_in old ps)) → IsSet new j)
     → Each (λ (p : Part). IsSet new p.seat.key) ps
 each_set old new [] sets = tt
 each_set old new (p ∷ ps) sets =
@@ -338,11 +338,11 @@ ring_made ms [] same ring = absurd (omega (arith, ring.three))
 ring_made ms (p ∷ ps) same ring = (same, ring)
 
 -- a ring's slot beside those of its parts
-pub record RingMore (old new : Sets) (key : ℕ) (parts : List Part) : Type 0 where
+pub record RingMore (old new : Slots) (key : ℕ) (parts : List Part) : Type 0 where
   pub inserts : Inserts old new key
   pub same : set_in new (record { key = key; width = 0 }) ≡ ring_of key (parts_in old parts)
 
-pub ring_more : (old new : Sets) (key : ℕ) (slot : Slot) → get old key ≡ None → Updates old new key (Some slot)
+pub ring_more : (old new : Slots) (key : ℕ) (slot : Slot) → get old key ≡ None → Updates old new key (Some slot)
     → AreSets old (bands_in (parts_in old slot.parts.items)) → IsRing (parts_in old slot.parts.items)
     → slot.members.items ≡ members_in (parts_in old slot.parts.items) → slot.near.items ≡ ring_row (parts_in old slot.parts.items)
     → RingMore old new key slot.parts.items
@@ -368,21 +368,21 @@ ring_more old new key slot fresh up sets ring ms near =
     }
 
 -- fewer sets
-pub sets_fewer : (sets : Sets) (bs cs : List Band) → AreSets sets bs → ((k : ℕ) → uses k cs ≤ uses k bs) → AreSets sets cs
+pub sets_fewer : (sets : Slots) (bs cs : List Band) → AreSets sets bs → ((k : ℕ) → uses k cs ≤ uses k bs) → AreSets sets cs
 sets_fewer sets bs cs a fewer =
     record { each = λ k u. a.each k (omega (arith, u, fewer k)); once = λ k. omega (arith, a.once k, fewer k) }
 
-pub sets_left : (sets : Sets) (xs ys : List Band) → AreSets sets (xs ++ ys) → AreSets sets xs
+pub sets_left : (sets : Slots) (xs ys : List Band) → AreSets sets (xs ++ ys) → AreSets sets xs
 sets_left sets xs ys a = sets_fewer sets (xs ++ ys) xs a (λ k. omega (arith, uses-append k xs ys))
 
-pub sets_right : (sets : Sets) (xs ys : List Band) → AreSets sets (xs ++ ys) → AreSets sets ys
+pub sets_right : (sets : Slots) (xs ys : List Band) → AreSets sets (xs ++ ys) → AreSets sets ys
 sets_right sets xs ys a = sets_fewer sets (xs ++ ys) ys a (λ k. omega (arith, uses-append k xs ys))
 
-pub set_of : (sets : Sets) (s : Seat) → AreSets sets (bands (set_in sets s)) → IsSet sets s.key
+pub set_of : (sets : Slots) (s : Seat) → AreSets sets (bands (set_in sets s)) → IsSet sets s.key
 set_of sets s a = a.each s.key (omega (arith, hit_same s.key))
 
 -- a set stays one where there is a key more
-pub set_more : (old new : Sets) (key k : ℕ) → get old key ≡ None → KeepOthers old new key → IsSet old k → IsSet new k
+pub set_more : (old new : Slots) (key k : ℕ) → get old key ≡ None → KeepOthers old new key → IsSet old k → IsSet new k
 set_more old new key k fresh others is =
     let s : Seat = record { key = k; width = 0 } in
     (set_kept old new s is (λ j u. others j (λ e. no_slot old j key (has_slot old j (inside old s j is u)) e fresh))).set

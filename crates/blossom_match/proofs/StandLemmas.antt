@@ -6,7 +6,7 @@ use Rattle.blossom_match.specs.Couples.{couple_bands}
 use Rattle.blossom_match.specs.Rings.{back_of}
 use Rattle.blossom_match.specs.Searches.{CanStepAt}
 use Rattle.blossom_match.specs.Shrinks.{Shrinks}
-use Rattle.blossom_match.specs.Slots.{branches_in, couples_in, set_in, AreSets, Inserts, IsSet, Sets}
+use Rattle.blossom_match.specs.Slots.{branches_in, couples_in, set_in, AreSets, Inserts, IsSet, Slots}
 use Rattle.blossom_match.specs.Trees.{all_bands, branch_bands, hung_by, outer_members, inner_members, Augmenting, Augments, TakesOut}
 use Rattle.blossom_match.specs.TableValue.{TableValue}
 use Rattle.blossom_match.specs.Values.{BranchValue, CoupleValue, SearchValue}
@@ -21,14 +21,14 @@ use Rattle.blossom_match.proofs.SearchLemmas.{is_one}
 use Rattle.blossom_match.proofs.ShrunkLemmas.{all_uses}
 use Rattle.blossom_match.proofs.TreeLemmas.{branch_bands_push, couple_bands-append}
 
-unused_case : (n : ℕ) (sets : Sets) (key : ℕ) (bs : List Band) → uses key bs ≡ n → AreSets sets bs → get sets key ≡ None
+unused_case : (n : ℕ) (sets : Slots) (key : ℕ) (bs : List Band) → uses key bs ≡ n → AreSets sets bs → get sets key ≡ None
     → uses key bs ≡ 0
 unused_case zero sets key bs e are fresh = e
 unused_case (suc n) sets key bs e are fresh =
     absurd (no_slot sets key key (has_slot sets key (are.each key (omega (arith, e)))) refl fresh)
 
 -- a vacant key stands for no set
-pub unused : (sets : Sets) (key : ℕ) (bs : List Band) → AreSets sets bs → get sets key ≡ None → uses key bs ≡ 0
+pub unused : (sets : Slots) (key : ℕ) (bs : List Band) → AreSets sets bs → get sets key ≡ None → uses key bs ≡ 0
 unused sets key bs are fresh = unused_case (uses key bs) sets key bs refl are fresh
 
 once_case : (n k key was now : ℕ) → hit k key ≡ n → now ≡ was + hit k key → was ≤ 1 → (k ≡ key → was ≡ 0) → now ≤ 1
@@ -37,14 +37,14 @@ once_case (suc n) k key was now e sum one none =
     let same = hit_is k key (omega (arith, e)) in
     omega (arith, none same, sum, hit_same key, ap (λ (j : ℕ). hit j key) same)
 
-set_case : (n : ℕ) (old new : Sets) (k key : ℕ) (was now : List Band) → hit k key ≡ n → Inserts old new key → AreSets old was
+set_case : (n : ℕ) (old new : Slots) (k key : ℕ) (was now : List Band) → hit k key ≡ n → Inserts old new key → AreSets old was
     → uses k now ≡ uses k was + hit k key → 1 ≤ uses k now → IsSet new k
 set_case zero old new k key was now e ins are sum u = set_more old new key k ins.fresh ins.others (are.each k (omega (arith, e, sum, u)))
 set_case (suc n) old new k key was now e ins are sum u =
     subst (λ (j : ℕ). IsSet new j) (sym (hit_is k key (omega (arith, e)))) ins.set
 
 -- a set more
-pub more_sets : (old new : Sets) (key : ℕ) (was now : List Band) → Inserts old new key → AreSets old was
+pub more_sets : (old new : Slots) (key : ℕ) (was now : List Band) → Inserts old new key → AreSets old was
     → ((k : ℕ) → uses k now ≡ uses k was + hit k key) → AreSets new now
 more_sets old new key was now ins are sum = record {
   each = λ k u. set_case (hit k key) old new k key was now refl ins are (sum k) u;
@@ -53,31 +53,31 @@ more_sets old new key was now ins are sum = record {
 }
 
 -- sets that were there stay where one more stands
-pub seat_stays : (old new : Sets) (key : ℕ) (bs : List Band) (s : Seat) → Inserts old new key → AreSets old bs
+pub seat_stays : (old new : Slots) (key : ℕ) (bs : List Band) (s : Seat) → Inserts old new key → AreSets old bs
     → ((k : ℕ) → uses k (bands (set_in old s)) ≤ uses k bs) → set_in new s ≡ set_in old s
 seat_stays old new key bs s ins are low =
     (keep_seat old new s (inserted_keeps old new key (bands (set_in old s)) ins.fresh ins.others
     (λ k u. are.each k (omega (arith, u, low k))))).same
 
-pub couples_stay : (old new : Sets) (key : ℕ) (bs : List Band) (cs : List Couple) → Inserts old new key → AreSets old bs
+pub couples_stay : (old new : Slots) (key : ℕ) (bs : List Band) (cs : List Couple) → Inserts old new key → AreSets old bs
     → ((k : ℕ) → uses k (couple_bands (couples_in old cs)) ≤ uses k bs) → couples_in new cs ≡ couples_in old cs
 couples_stay old new key bs cs ins are low =
     (keep_couples old new cs (inserted_keeps old new key (couple_bands (couples_in old cs)) ins.fresh ins.others
     (λ k u. are.each k (omega (arith, u, low k))))).same
 
-pub branches_stay : (old new : Sets) (key : ℕ) (bs : List Band) (ks : List Branch) → Inserts old new key → AreSets old bs
+pub branches_stay : (old new : Slots) (key : ℕ) (bs : List Band) (ks : List Branch) → Inserts old new key → AreSets old bs
     → ((k : ℕ) → uses k (branch_bands (branches_in old ks)) ≤ uses k bs) → branches_in new ks ≡ branches_in old ks
 branches_stay old new key bs ks ins are low =
     (keep_branches old new ks (inserted_keeps old new key (branch_bands (branches_in old ks)) ins.fresh ins.others
     (λ k u. are.each k (omega (arith, u, low k))))).same
 
 -- a search where one more set stands
-pub record AllStay (old new : Sets) (root : Seat) (tree : List Branch) (rest : List Couple) : Type 0 where
+pub record AllStay (old new : Slots) (root : Seat) (tree : List Branch) (rest : List Couple) : Type 0 where
   pub same_root : set_in new root ≡ set_in old root
   pub same_tree : branches_in new tree ≡ branches_in old tree
   pub same_rest : couples_in new rest ≡ couples_in old rest
 
-pub all_stay : (old new : Sets) (key : ℕ) (root : Seat) (tree : List Branch) (rest : List Couple) → Inserts old new key
+pub all_stay : (old new : Slots) (key : ℕ) (root : Seat) (tree : List Branch) (rest : List Couple) → Inserts old new key
     → AreSets old (all_bands (set_in old root) (branches_in old tree) (couples_in old rest)) → AllStay old new root tree rest
 all_stay old new key root tree rest ins are =
     let all = all_bands (set_in old root) (branches_in old tree) (couples_in old rest) in
@@ -88,14 +88,14 @@ all_stay old new key root tree rest ins are =
       same_rest = couples_stay old new key all rest ins are (λ k. omega (arith, sum k));
     }
 
-pub augmenting_new : (old new : Sets) (root : Seat) (tree : List Branch) (rest : List Couple) (m : NestValue) (link : Link)
+pub augmenting_new : (old new : Slots) (root : Seat) (tree : List Branch) (rest : List Couple) (m : NestValue) (link : Link)
     → AllStay old new root tree rest → Augmenting m link (set_in old root) (branches_in old tree)
     → Augmenting m link (set_in new root) (branches_in new tree)
 augmenting_new old new root tree rest m link stay can =
     subst (λ (v : NestValue). Augmenting m link v (branches_in new tree)) (sym stay.same_root)
     (subst (λ (ks : List BranchValue). Augmenting m link (set_in old root) ks) (sym stay.same_tree) can)
 
-pub augments_old : (old new : Sets) (root : Seat) (tree : List Branch) (rest : List Couple) (m : NestValue) (link : Link)
+pub augments_old : (old new : Slots) (root : Seat) (tree : List Branch) (rest : List Couple) (m : NestValue) (link : Link)
     (now : List CoupleValue) → AllStay old new root tree rest
     → Augments (set_in new root) m link (branches_in new tree) (couples_in new rest) now
     → Augments (set_in old root) m link (branches_in old tree) (couples_in old rest) now
@@ -120,7 +120,7 @@ hung_uses false k up c h e = omega (
   ap (λ (b : BranchValue). uses k (bands b.outer)) e,
 )
 
-pub grown_sets : (sets : Sets) (place : ℕ) (up : Link) (root : NestValue) (tree now : List BranchValue) (rest left : List CoupleValue)
+pub grown_sets : (sets : Slots) (place : ℕ) (up : Link) (root : NestValue) (tree now : List BranchValue) (rest left : List CoupleValue)
     (c : CoupleValue) → TakesOut place rest left c → now ≡ tree ++ hung_by up c ∷ [] → AreSets sets (all_bands root tree rest)
     → AreSets sets (all_bands root now left)
 grown_sets sets place up root tree now rest left c out e are =
@@ -140,7 +140,7 @@ grown_sets sets place up root tree now rest left c out e are =
     ))
 
 -- a ring closes
-pub closed_sets : (old new : Sets) (key : ℕ) (link : Link) (root top : NestValue) (tree now : List BranchValue)
+pub closed_sets : (old new : Slots) (key : ℕ) (link : Link) (root top : NestValue) (tree now : List BranchValue)
     (rest left : List CoupleValue)
     → Inserts old new key → Shrinks key link root top tree now → left ≡ rest → AreSets old (all_bands root tree rest)
     → AreSets new (all_bands top now left)
@@ -185,7 +185,7 @@ can_augment t link s m can e =
     }
 
 -- all sets of the tree and the one of the free place are couples
-pub met_sets : (old new : Sets) (link : Link) (root m : NestValue) (tree : List BranchValue) (rest now : List CoupleValue)
+pub met_sets : (old new : Slots) (link : Link) (root m : NestValue) (tree : List BranchValue) (rest now : List CoupleValue)
     → Inserts old new m.key → m.below ≡ [] → Augments root m link tree rest now
     → AreSets old (all_bands root tree rest) → AreSets new (couple_bands now)
 met_sets old new link root m tree rest now ins alone aug are =
@@ -197,7 +197,7 @@ met_sets old new link root m tree rest now ins alone aug are =
     ))
 
 -- a search of one place more
-pub begun_sets : (old new : Sets) (m : NestValue) (tree : List BranchValue) (rest left : List CoupleValue) → Inserts old new m.key
+pub begun_sets : (old new : Slots) (m : NestValue) (tree : List BranchValue) (rest left : List CoupleValue) → Inserts old new m.key
     → m.below ≡ [] → tree ≡ [] → left ≡ rest
     → AreSets old (couple_bands rest) → AreSets new (all_bands m tree left)
 begun_sets old new m tree rest left ins alone none e are =

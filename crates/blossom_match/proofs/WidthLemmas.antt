@@ -12,7 +12,7 @@ use Rattle.blossom_match.specs.TableValue.{TableValue}
 use Rattle.blossom_match.specs.Tables.{IsTable}
 use Rattle.blossom_match.specs.declared.table.TheConstants.{MAX_DISTANCE}
 use Rattle.blossom_match.specs.Values.{BranchValue, CoupleValue, SearchValue}
-use Rattle.blossom_match.specs.Slots.{branch_in, branches_in, AreSets, Sets}
+use Rattle.blossom_match.specs.Slots.{branch_in, branches_in, AreSets, Slots}
 use Rattle.blossom_match.specs.declared.branches.Branch.{Branch}
 use Rattle.blossom_match.specs.declared.least.Change.{Change}
 use Rattle.std.proofs.lemmas.List.Edits.{map_over_more}
@@ -309,11 +309,11 @@ resized_more by xs ys i low size e =
     ap (λ (b : Branch). set (set ys i a) i (outer_resized by b)) (get_or-set_same ys i a no_branch (omega (arith, low, size)))
     ∙ set-set ys i a (outer_resized by a) ∙ map_over_more (resized by) xs ys i x low e (get_or_self ys i no_branch)
 
-pub can_resize : (by : ℕ) (sets : Sets) (bs : List Branch) → Each (CanChange by) (branches_in sets bs) → Each (CanResize by) bs
+pub can_resize : (by : ℕ) (sets : Slots) (bs : List Branch) → Each (CanChange by) (branches_in sets bs) → Each (CanResize by) bs
 can_resize by sets [] can = tt
 can_resize by sets (b ∷ bs) can = (record { room = can.0.room; wide = can.0.wide }, can_resize by sets bs can.1)
 
-pub all_resized : (by : ℕ) (sets : Sets) (bs : List Branch) → branches_in sets (map (resized by) bs) ≡ all_changed by
+pub all_resized : (by : ℕ) (sets : Slots) (bs : List Branch) → branches_in sets (map (resized by) bs) ≡ all_changed by
     (branches_in sets bs)
 all_resized by sets [] = refl
 all_resized by sets (b ∷ bs) =
@@ -332,7 +332,7 @@ uses_same k by (b ∷ bs) =
       uses-append k b.outer.below (branch_bands (all_changed by bs)),
     )
 
-pub changed_sets : (sets : Sets) (by w : ℕ) (root : NestValue) (tree now : List BranchValue) (rest : List CoupleValue)
+pub changed_sets : (sets : Slots) (by w : ℕ) (root : NestValue) (tree now : List BranchValue) (rest : List CoupleValue)
     → now ≡ all_changed by tree → AreSets sets (all_bands root tree rest) → AreSets sets (all_bands (with_width w root) now rest)
 changed_sets sets by w root tree now rest e are =
     sets_fewer sets (all_bands root tree rest) (all_bands (with_width w root) now rest) are (λ k. omega (

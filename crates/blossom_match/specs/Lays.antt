@@ -50,8 +50,7 @@ WayInto way (p ∷ ps) = (count way.to p.nest.members ≡ 1) × Linked p ps
 
 -- a way from the tree into a ring, and a pair out of it
 pub record CanLay (root : NestValue) (tree : List BranchValue) (ring : List PartValue)
-    (way pair : Link)
-    (outer : NestValue) : Type 0 where
+    (way pair : Link) (outer : NestValue) : Type 0 where
   pub grown : IsGrown root.members tree
   pub from : 1 ≤ count way.from (outer_members root.members tree)
   pub into : WayInto way ring
@@ -62,8 +61,8 @@ pub record CanLay (root : NestValue) (tree : List BranchValue) (ring : List Part
 
 -- the parts up to the pair's end are branches, and the rest are couples
 pub record Lays (root : NestValue) (old : List BranchValue) (ring : List PartValue)
-    (way pair : Link)
-    (outer : NestValue) (new : List BranchValue) (cs : List CoupleValue) : Type 0 where
+    (way pair : Link) (outer : NestValue) (new : List BranchValue)
+    (cs : List CoupleValue) : Type 0 where
   pub grown : IsGrown root.members new
   pub joined : Each IsJoined cs
   pub places : (x : ℕ) → count x (outer_members root.members new) + count x (inner_members new)

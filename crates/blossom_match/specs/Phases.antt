@@ -15,10 +15,10 @@ use Rattle.blossom_match.specs.declared.phase.Stepped.{Stepped}
 use Rattle.blossom_match.specs.declared.phase.Stepped.TheVariants.{More, Done}
 
 -- couples and free places with the heights that they make
-pub record Stands (t : TableValue) (couples : List CoupleValue) (free heights : List ℕ) : Type 0
-  where
-    pub standing : IsStanding t (λ x. slice_index heights x) couples free
-    pub size : length heights ≡ t.places
+pub record Stands (t : TableValue) (couples : List CoupleValue)
+    (free heights : List ℕ) : Type 0 where
+  pub standing : IsStanding t (λ x. slice_index heights x) couples free
+  pub size : length heights ≡ t.places
 
 -- so does what stands between two searches
 abbrev pub StandsAt : TableValue → Standing → Type 0

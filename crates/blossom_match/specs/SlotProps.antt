@@ -4,7 +4,7 @@ use Rattle.std.proofs.Props.{props}
 use Rattle.blossom_match.specs.Lists.{Each}
 use Rattle.blossom_match.specs.Bands.{Band, Kept, NoneHold}
 use Rattle.blossom_match.specs.Rings.{IsLinkedRing, IsMade, IsRing, Linked}
-use Rattle.blossom_match.specs.Slots.{parts_at, IsSet, IsSetTo, Sets}
+use Rattle.blossom_match.specs.Slots.{parts_at, IsSet, IsSetTo, Slots}
 use Rattle.blossom_match.specs.Values.{PartValue}
 use Rattle.blossom_match.specs.declared.nest.Part.{Part}
 
@@ -12,8 +12,8 @@ none_hold-prop : (x : ℕ) (bs : List Band) → IsProp (NoneHold x bs)
 none_hold-prop x [] = hlevel props
 none_hold-prop x (b ∷ bs) = hlevel (props, none_hold-prop x bs)
 
-each-prop : {X : Type 0} (P : X → Type 0) → ((x : X) → IsProp (P x)) → (xs : List X) → IsProp
-    (Each P xs)
+each-prop : {X : Type 0} (P : X → Type 0) → ((x : X) → IsProp (P x)) → (xs : List X)
+    → IsProp (Each P xs)
 each-prop P each [] = hlevel props
 each-prop P each (x ∷ xs) = hlevel (props, each x, each-prop P each xs)
 
@@ -29,18 +29,14 @@ kept-prop : (p : PartValue) → IsProp (Kept p.nest)
 kept-prop p = hlevel (props, none_hold-prop)
 
 ring-prop : (ps : List PartValue) → IsProp (IsRing ps)
-ring-prop ps = hlevel (
-  props,
-  linked_ring-prop ps,
-  each-prop (λ (p : PartValue). Kept p.nest)
-      kept-prop ps,
-)
+ring-prop ps =
+    hlevel (props, linked_ring-prop ps, each-prop (λ (p : PartValue). Kept p.nest) kept-prop ps)
 
 made-prop : (ms : List ℕ) (ps : List PartValue) → IsProp (IsMade ms ps)
 made-prop ms [] = hlevel props
 made-prop ms (p ∷ ps) = hlevel (props, ring-prop (p ∷ ps))
 
-set_to-prop : (n : ℕ) (sets : Sets) (key : ℕ) → IsProp (IsSetTo n sets key)
+set_to-prop : (n : ℕ) (sets : Slots) (key : ℕ) → IsProp (IsSetTo n sets key)
 set_to-prop zero sets key = hlevel props
 set_to-prop (suc n) sets key =
     hlevel (
@@ -50,5 +46,5 @@ set_to-prop (suc n) sets key =
           (parts_at sets key),
     )
 
-pub set-prop : (sets : Sets) (key : ℕ) → IsProp (IsSet sets key)
+pub set-prop : (sets : Slots) (key : ℕ) → IsProp (IsSet sets key)
 set-prop sets key = hlevel (props, set_to-prop)

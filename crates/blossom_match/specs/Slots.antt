@@ -13,8 +13,8 @@ use Rattle.blossom_match.specs.declared.couples.Couple.{Couple}
 use Rattle.blossom_match.specs.declared.branches.Branch.{Branch}
 
 -- the slots in which sets stand, by key
-abbrev pub Sets : Type 0
-Sets = Slab Slot
+abbrev pub Slots : Type 0
+Slots = Slab Slot
 
 -- what a slot keeps; where there is none, no members and no parts
 abbrev pub members_of : Option Slot → List ℕ
@@ -30,17 +30,17 @@ parts_of None = []
 parts_of (Some s) = s.parts.items
 
 -- what the slot under the key keeps
-abbrev pub members_at : Sets → ℕ → List ℕ
+abbrev pub members_at : Slots → ℕ → List ℕ
 members_at sets key = members_of (get sets key)
 
-abbrev pub near_at : Sets → ℕ → List ℕ
+abbrev pub near_at : Slots → ℕ → List ℕ
 near_at sets key = near_of (get sets key)
 
-abbrev pub parts_at : Sets → ℕ → List Part
+abbrev pub parts_at : Slots → ℕ → List Part
 parts_at sets key = parts_of (get sets key)
 
 -- a part with these sets inside
-abbrev pub with_inside : Sets → Part → List PartValue → PartValue
+abbrev pub with_inside : Slots → Part → List PartValue → PartValue
 with_inside sets p inside = record {
   nest = nest_of p.seat.key (members_at sets p.seat.key) p.seat.width (near_at sets p.seat.key)
       inside;
@@ -48,28 +48,28 @@ with_inside sets p inside = record {
 }
 
 -- a part with so many levels of sets inside
-abbrev pub part_to : ℕ → Sets → Part → PartValue
+abbrev pub part_to : ℕ → Slots → Part → PartValue
 part_to zero sets p = with_inside sets p []
 part_to (suc n) sets p = with_inside sets p (map (part_to n sets) (parts_at sets p.seat.key))
 
 -- the set of a seat. A part has fewer members than the whole, so that there are no more levels than
 -- members.
-abbrev pub set_in : Sets → Seat → NestValue
+abbrev pub set_in : Slots → Seat → NestValue
 set_in sets s = nest_of s.key (members_at sets s.key) s.width (near_at sets s.key)
     (map (part_to (length (members_at sets s.key)) sets) (parts_at sets s.key))
 
--- the sets of a part, of a couple and of a branch
-abbrev pub part_in : Sets → Part → PartValue
+-- a part, a couple and a branch with the sets of their seats
+abbrev pub part_in : Slots → Part → PartValue
 part_in sets p = record { nest = set_in sets p.seat; next = p.next }
 
-abbrev pub couple_in : Sets → Couple → CoupleValue
+abbrev pub couple_in : Slots → Couple → CoupleValue
 couple_in sets c = record {
   first = set_in sets c.first;
   second = set_in sets c.second;
   link = c.link;
 }
 
-abbrev pub branch_in : Sets → Branch → BranchValue
+abbrev pub branch_in : Slots → Branch → BranchValue
 branch_in sets b = record {
   up = b.up;
   inner = set_in sets b.inner;
@@ -78,43 +78,43 @@ branch_in sets b = record {
 }
 
 -- the set of a seat, if there is one
-abbrev pub core_in : Sets → Option Seat → Option NestValue
+abbrev pub core_in : Slots → Option Seat → Option NestValue
 core_in sets None = None
 core_in sets (Some s) = Some (set_in sets s)
 
 -- so of all parts, couples and branches
-abbrev pub parts_in : Sets → List Part → List PartValue
+abbrev pub parts_in : Slots → List Part → List PartValue
 parts_in sets ps = map (part_in sets) ps
 
-abbrev pub couples_in : Sets → List Couple → List CoupleValue
+abbrev pub couples_in : Slots → List Couple → List CoupleValue
 couples_in sets cs = map (couple_in sets) cs
 
-abbrev pub branches_in : Sets → List Branch → List BranchValue
+abbrev pub branches_in : Slots → List Branch → List BranchValue
 branches_in sets bs = map (branch_in sets) bs
 
 -- the slot under the key has one place or a ring, and so have those of its parts, so many levels
 -- down
-abbrev pub IsSetTo : ℕ → Sets → ℕ → Type 0
+abbrev pub IsSetTo : ℕ → Slots → ℕ → Type 0
 IsSetTo zero sets key = ⊥
 IsSetTo (suc n) sets key = ContainsKey sets key
     × IsMade (members_at sets key) (parts_in sets (parts_at sets key))
     × Each (λ (p : Part). IsSetTo n sets p.seat.key) (parts_at sets key)
 
 -- so on all levels: there are no more than members
-pub record IsSet (sets : Sets) (key : ℕ) : Type 0 where
+pub record IsSet (sets : Slots) (key : ℕ) : Type 0 where
   pub to : (n : ℕ) → length (members_at sets key) ≤ n → IsSetTo n sets key
 
 -- all sets stand in slots, no two under one key
-pub record AreSets (sets : Sets) (bands : List Band) : Type 0 where
+pub record AreSets (sets : Slots) (bands : List Band) : Type 0 where
   pub each : (k : ℕ) → 1 ≤ uses k bands → IsSet sets k
   pub once : (k : ℕ) → uses k bands ≤ 1
 
 -- every other key keeps its slot
-abbrev pub KeepOthers : Sets → Sets → ℕ → Type 0
+abbrev pub KeepOthers : Slots → Slots → ℕ → Type 0
 KeepOthers old new key = (k : ℕ) → k ≢ key → get new k ≡ get old k
 
 -- a set more, under a key that none had
-pub record Inserts (old new : Sets) (key : ℕ) : Type 0 where
+pub record Inserts (old new : Slots) (key : ℕ) : Type 0 where
   pub fresh : get old key ≡ None
   pub others : KeepOthers old new key
   pub set : IsSet new key

@@ -3,9 +3,8 @@ ghost use Rattle.blossom_match.specs.Slots.{branch_in, branches_in, couple_in, c
 ghost use Rattle.blossom_match.specs.Trees.{Augmenting, Augments, hung_by};
 
 use crate::couples::Couple;
-use crate::nest::{Link, Seat, Slot};
+use crate::nest::{Link, Seat, Sets};
 use design_model::Memory;
-use slab::Slab;
 
 /// An inner set below an outer one, and the outer set that it is paired with. The link `up` leads
 /// from an earlier outer set to the inner set, and `pair` from the inner set to its partner.
@@ -18,12 +17,7 @@ pub struct Branch {
 }
 
 /// Hangs a couple below the outer set that the link comes from.
-pub fn grow(
-    sets: &Slab<Slot>,
-    tree: &mut Vec<Branch>,
-    up: Link,
-    couple: Couple,
-) -> Result<(), Memory>
+pub fn grow(sets: &Sets, tree: &mut Vec<Branch>, up: Link, couple: Couple) -> Result<(), Memory>
     ensures { OnOk result (branches_in sets.now tree.new.items
         ≡ branches_in sets.now tree.old.items ++ hung_by up (couple_in sets.now couple) ∷ []) }
 {
@@ -32,7 +26,7 @@ pub fn grow(
     Ok(())
 }
 
-fn hung(sets: &Slab<Slot>, up: Link, couple: Couple) -> Branch
+fn hung(sets: &Sets, up: Link, couple: Couple) -> Branch
     ensures { branch_in sets.now result ≡ hung_by up (couple_in sets.now couple) }
 {
     if couple.first.holds(sets, up.to) {
@@ -54,7 +48,7 @@ fn hung(sets: &Slab<Slot>, up: Link, couple: Couple) -> Branch
 
 /// Pairs along the way from the link to the root, so that each branch becomes a couple.
 pub fn augment(
-    sets: &Slab<Slot>,
+    sets: &Sets,
     root: Seat,
     tree: Vec<Branch>,
     link: Link,

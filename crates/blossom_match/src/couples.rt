@@ -2,12 +2,11 @@ ghost use Rattle.std.specs.Prelude.{◌≡◌, ◌≤◌, ◌<◌, ◌+◌, leng
 ghost use Rattle.std.specs.Vec.Iter.{into_iter_items};
 ghost use Rattle.blossom_match.specs.Bands.{count};
 ghost use Rattle.blossom_match.specs.Couples.{couple_members, couples_along, CoupleHolds};
-ghost use Rattle.blossom_match.specs.Slots.{couple_in, couples_in, parts_in, Sets};
+ghost use Rattle.blossom_match.specs.Slots.{couple_in, couples_in, parts_in, Slots};
 ghost use Rattle.blossom_match.specs.Trees.{TakesOut};
 
-use crate::nest::{Link, Part, Seat, Slot};
+use crate::nest::{Link, Part, Seat, Sets};
 use design_model::Memory;
-use slab::Slab;
 use std::alloc::Global;
 
 /// Two sets that are paired by a link from the first to the second.
@@ -20,7 +19,7 @@ pub struct Couple {
 
 /// The parts two by two.
 pub fn pair_off(alloc: Global, parts: std::vec::IntoIter<Part>) -> Result<Vec<Couple>, Memory>
-    ensures { IfOk result (λ cs. (sets : Sets) → couples_in sets cs.items
+    ensures { IfOk result (λ cs. (sets : Slots) → couples_in sets cs.items
         ≡ couples_along (parts_in sets (into_iter_items parts))) }
 {
     let mut left = parts;
@@ -37,7 +36,7 @@ pub fn pair_off(alloc: Global, parts: std::vec::IntoIter<Part>) -> Result<Vec<Co
     Ok(out)
 }
 
-fn couple_with(sets: &Slab<Slot>, couples: &[Couple], place: u32) -> usize
+fn couple_with(sets: &Sets, couples: &[Couple], place: u32) -> usize
     requires { 1 ≤ count place (couple_members (couples_in sets.now couples.now)) }
     ensures within { result < length couples.now }
     ensures there { CoupleHolds place (couples_in sets.now couples.now) result }
@@ -51,7 +50,7 @@ fn couple_with(sets: &Slab<Slot>, couples: &[Couple], place: u32) -> usize
 }
 
 /// Takes out the couple that holds the place.
-pub fn take_couple(sets: &Slab<Slot>, couples: &mut Vec<Couple>, place: u32) -> Couple
+pub fn take_couple(sets: &Sets, couples: &mut Vec<Couple>, place: u32) -> Couple
     requires { 1 ≤ count place (couple_members (couples_in sets.now couples.old.items)) }
     ensures { TakesOut place (couples_in sets.now couples.old.items)
         (couples_in sets.now couples.new.items) (couple_in sets.now result) }

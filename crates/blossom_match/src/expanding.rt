@@ -2,15 +2,14 @@ ghost use Rattle.std.specs.Prelude.{◌≡◌, ◌≤◌, ℕ, IfOk, OnOk};
 ghost use Rattle.blossom_match.specs.Bands.{count};
 ghost use Rattle.blossom_match.specs.Rings.{members_in, IsRing};
 ghost use Rattle.blossom_match.specs.Lays.{mirror_of, CanLay, Expanding, Expands, GoesEvenly, GrowsAt, Lays};
-ghost use Rattle.blossom_match.specs.Slots.{branches_in, couples_in, parts_in, set_in, AreSets, Sets};
+ghost use Rattle.blossom_match.specs.Slots.{branches_in, couples_in, parts_in, set_in, AreSets, Slots};
 ghost use Rattle.blossom_match.specs.Trees.{all_bands};
 
 use crate::branches::Branch;
 use crate::couples::{Couple, pair_off};
-use crate::nest::{Part, Seat, Slot};
+use crate::nest::{Part, Seat, Sets};
 use crate::ring::{listed, part_with, turned_to};
 use design_model::Memory;
-use slab::Slab;
 use std::alloc::Global;
 use std::collections::VecDeque;
 
@@ -18,7 +17,7 @@ use std::collections::VecDeque;
 /// vacant.
 pub fn expand(
     alloc: Global,
-    sets: &mut Slab<Slot>,
+    sets: &mut Sets,
     root: Seat,
     tree: &mut Vec<Branch>,
     at: usize,
@@ -54,7 +53,7 @@ pub fn expand(
 /// part that is left.
 fn even_way(
     alloc: Global,
-    sets: &Slab<Slot>,
+    sets: &Sets,
     parts: Vec<Part>,
     entry: u32,
     exit: u32,
@@ -77,7 +76,7 @@ fn even_way(
 
 /// The ring told the other way round, from the same first part.
 fn mirrored(alloc: Global, ring: Vec<Part>) -> Result<Vec<Part>, Memory>
-    ensures { IfOk result (λ ps. (sets : Sets) → parts_in sets ps.items
+    ensures { IfOk result (λ ps. (sets : Slots) → parts_in sets ps.items
         ≡ mirror_of (parts_in sets ring.items)) }
 {
     let mut left = ring.into_iter();
@@ -103,7 +102,7 @@ fn mirrored(alloc: Global, ring: Vec<Part>) -> Result<Vec<Part>, Memory>
 /// Makes branches of the parts up to that with the end of the branch's pair, and pairs the rest.
 fn lay(
     alloc: Global,
-    sets: &Slab<Slot>,
+    sets: &Sets,
     root: Seat,
     tree: &mut Vec<Branch>,
     ring: Vec<Part>,

@@ -5,8 +5,7 @@ ghost use Rattle.blossom_match.specs.Heights.{CanFall, CanRise, Falls, HasCells,
 ghost use Rattle.blossom_match.specs.Slots.{branches_in};
 
 use crate::branches::Branch;
-use crate::nest::Slot;
-use slab::Slab;
+use crate::nest::Sets;
 
 /// Raises the heights of the places.
 pub fn raise(members: &[u32], by: u32, heights: &mut [u32])
@@ -31,7 +30,7 @@ fn lower(members: &[u32], by: u32, heights: &mut [u32])
 }
 
 /// Raises the places of all outer sets but the root.
-pub fn raise_outers(sets: &Slab<Slot>, tree: &[Branch], by: u32, heights: &mut [u32])
+pub fn raise_outers(sets: &Sets, tree: &[Branch], by: u32, heights: &mut [u32])
     requires within { HasCells (λ x. count x (outer_members [] (branches_in sets.now tree.now))) heights.old }
     requires fits { CanRise (λ x. by * count x (outer_members [] (branches_in sets.now tree.now)))
         heights.old }
@@ -44,7 +43,7 @@ pub fn raise_outers(sets: &Slab<Slot>, tree: &[Branch], by: u32, heights: &mut [
 }
 
 /// Lowers the places of all inner sets.
-pub fn lower_inners(sets: &Slab<Slot>, tree: &[Branch], by: u32, heights: &mut [u32])
+pub fn lower_inners(sets: &Sets, tree: &[Branch], by: u32, heights: &mut [u32])
     requires within { HasCells (λ x. count x (inner_members (branches_in sets.now tree.now))) heights.old }
     requires fits { CanFall (λ x. by * count x (inner_members (branches_in sets.now tree.now))) heights.old }
     ensures { Falls (λ x. by * count x (inner_members (branches_in sets.now tree.now)))

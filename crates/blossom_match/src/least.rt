@@ -14,11 +14,10 @@ ghost use Rattle.blossom_match.specs.declared.table.TheConstants.{FAR};
 
 use crate::branches::Branch;
 use crate::couples::Couple;
-use crate::nest::{Link, Seat, Slot};
+use crate::nest::{Link, Seat, Sets};
 use crate::search::Step;
 use crate::state::Search;
 use crate::table::{DistTable, FAR};
-use slab::Slab;
 
 /// A change of widths, in halves of a step, and what can be done after it.
 #[derive(Clone, Copy, Drop)]
@@ -138,13 +137,7 @@ fn aim_at(heights: &[u32], reach: &[u32], ys: &[u32], kind: Kind, best: Aim) -> 
 }
 
 /// The lesser of an aim and the nearest place of a couple.
-fn aim_at_couples(
-    sets: &Slab<Slot>,
-    heights: &[u32],
-    reach: &[u32],
-    couples: &[Couple],
-    best: Aim,
-) -> Aim
+fn aim_at_couples(sets: &Sets, heights: &[u32], reach: &[u32], couples: &[Couple], best: Aim) -> Aim
     requires cells { length heights.now ≡ length reach.now }
     requires within { (b : ℕ) → 1 ≤ count b (couple_members (couples_in sets.now couples.now))
         → b < length reach.now }
@@ -161,7 +154,7 @@ fn aim_at_couples(
 
 /// The lesser of an aim and the nearest outer place.
 fn aim_at_outers(
-    sets: &Slab<Slot>,
+    sets: &Sets,
     heights: &[u32],
     reach: &[u32],
     root: Seat,
@@ -205,7 +198,7 @@ fn change_to(t: &DistTable, heights: &[u32], reach: &[u32], s: &Search, aim: Aim
 
 /// The place of another outer set that leaves so much.
 fn nearest(
-    sets: &Slab<Slot>,
+    sets: &Sets,
     t: &DistTable,
     heights: &[u32],
     root: Seat,
@@ -235,7 +228,7 @@ fn nearest(
 
 /// A place of the set that leaves so much, if the set doesn't hold the other place too.
 fn leaving(
-    sets: &Slab<Slot>,
+    sets: &Sets,
     t: &DistTable,
     heights: &[u32],
     set: Seat,
@@ -270,7 +263,7 @@ fn first_leaving(t: &DistTable, heights: &[u32], xs: &[u32], to: u32, room: u32)
 }
 
 /// The lesser of a change and the least width of an inner ring.
-fn scan_rings(sets: &Slab<Slot>, tree: &[Branch], best: Change) -> Change
+fn scan_rings(sets: &Sets, tree: &[Branch], best: Change) -> Change
     ensures { Narrows (branches_in sets.now tree.now) best result }
 {
     let mut least = best;
@@ -281,7 +274,7 @@ fn scan_rings(sets: &Slab<Slot>, tree: &[Branch], best: Change) -> Change
 }
 
 /// The lesser of a change and the width of the branch's inner ring.
-fn narrower(sets: &Slab<Slot>, b: Branch, at: usize, best: Change) -> Change
+fn narrower(sets: &Sets, b: Branch, at: usize, best: Change) -> Change
     ensures { NarrowsAt (branch_in sets.now b) at best result }
 {
     let width = b.inner.width;

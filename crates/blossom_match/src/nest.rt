@@ -42,6 +42,9 @@ pub struct Slot {
     pub parts: Vec<Part>,
 }
 
+/// The slots of sets, by key.
+pub type Sets = Slab<Slot>;
+
 impl Link {
     /// The link from its other end.
     pub fn back(self) -> Link
@@ -69,7 +72,7 @@ pub fn times(xs: &[u32], x: u32) -> usize
 
 impl Seat {
     /// The places of the set.
-    pub fn members(self, sets: &Slab<Slot>) -> &[u32]
+    pub fn members(self, sets: &Sets) -> &[u32]
         ensures { result.now ≡ members_at sets.now self.key }
     {
         match sets.get(self.key) {
@@ -79,7 +82,7 @@ impl Seat {
     }
 
     /// What the set leaves for each place outside it over its width.
-    pub fn near(self, sets: &Slab<Slot>) -> &[u32]
+    pub fn near(self, sets: &Sets) -> &[u32]
         ensures { result.now ≡ near_at sets.now self.key }
     {
         match sets.get(self.key) {
@@ -89,7 +92,7 @@ impl Seat {
     }
 
     /// The parts of a ring.
-    pub fn parts(self, sets: &Slab<Slot>) -> &[Part]
+    pub fn parts(self, sets: &Sets) -> &[Part]
         ensures { result.now ≡ parts_at sets.now self.key }
     {
         match sets.get(self.key) {
@@ -99,7 +102,7 @@ impl Seat {
     }
 
     /// Whether the place is a member.
-    pub fn holds(self, sets: &Slab<Slot>, place: u32) -> bool
+    pub fn holds(self, sets: &Sets, place: u32) -> bool
         ensures value { result ≡ nat_lt 0 (count place (members_at sets.now self.key)) }
         ensures yes { IsTrue result → 1 ≤ count place (members_at sets.now self.key) }
         ensures no { result ≡ false → count place (members_at sets.now self.key) ≡ 0 }
@@ -108,7 +111,7 @@ impl Seat {
     }
 
     /// Whether the set has parts.
-    pub fn is_ring(self, sets: &Slab<Slot>) -> bool
+    pub fn is_ring(self, sets: &Sets) -> bool
         ensures { result ≡ nat_lt 0 (length (set_in sets.now self).below) }
     {
         self.parts(sets).len() > 0
@@ -118,7 +121,7 @@ impl Seat {
 /// The set of one place, as wide as it is high.
 pub fn single(
     alloc: Global,
-    sets: &mut Slab<Slot>,
+    sets: &mut Sets,
     t: &DistTable,
     place: u32,
     heights: &[u32],
@@ -143,7 +146,7 @@ pub fn single(
     })
 }
 
-fn members_of(alloc: Global, sets: &Slab<Slot>, parts: &[Part]) -> Result<Vec<u32>, Memory>
+fn members_of(alloc: Global, sets: &Sets, parts: &[Part]) -> Result<Vec<u32>, Memory>
     ensures { IfOk result (λ ms. ms.items ≡ members_in (parts_in sets.now parts.now)) }
 {
     let mut members = Vec::new(alloc);
@@ -154,7 +157,7 @@ fn members_of(alloc: Global, sets: &Slab<Slot>, parts: &[Part]) -> Result<Vec<u3
 }
 
 /// The set of all members of a ring, without a width.
-pub fn ring_of(alloc: Global, sets: &mut Slab<Slot>, parts: Vec<Part>) -> Result<Seat, Memory>
+pub fn ring_of(alloc: Global, sets: &mut Sets, parts: Vec<Part>) -> Result<Seat, Memory>
     requires ring { IsRing (parts_in sets.old parts.items) }
     requires rows { RowsAgree (parts_in sets.old parts.items) }
     requires sets { AreSets sets.old (bands_in (parts_in sets.old parts.items)) }

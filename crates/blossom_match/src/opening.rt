@@ -4,10 +4,9 @@ ghost use Rattle.blossom_match.specs.Opens.{OpensAt};
 ghost use Rattle.blossom_match.specs.Slots.{core_in, couples_in, set_in, IsSet};
 
 use crate::couples::{Couple, pair_off};
-use crate::nest::{Seat, Slot};
+use crate::nest::{Seat, Sets};
 use crate::ring::turned_to;
 use design_model::Memory;
-use slab::Slab;
 use std::alloc::Global;
 
 /// A set without its shell: the part with the member that is paired outside, and the rest in pairs.
@@ -18,7 +17,7 @@ pub struct Opened {
 }
 
 /// Takes a set apart at the member that is paired outside.
-pub fn open_at(alloc: Global, sets: &Slab<Slot>, s: Seat, left: u32) -> Result<Opened, Memory>
+pub fn open_at(alloc: Global, sets: &Sets, s: Seat, left: u32) -> Result<Opened, Memory>
     requires set { IsSet sets.now s.key }
     requires there { count left (set_in sets.now s).members ≡ 1 }
     requires once { (x : ℕ) → count x (set_in sets.now s).members ≤ 1 }

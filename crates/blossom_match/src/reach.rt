@@ -7,14 +7,13 @@ ghost use Rattle.blossom_match.specs.States.{search_value};
 ghost use Rattle.blossom_match.specs.declared.table.TheConstants.{FAR};
 
 use crate::branches::Branch;
-use crate::nest::{Seat, Slot};
+use crate::nest::{Seat, Sets};
 use crate::rows::{lesser_by, merge};
 use crate::state::Search;
 use crate::table::FAR;
-use slab::Slab;
 
 /// Takes an outer set into the least that is left outside it.
-fn take_set(sets: &Slab<Slot>, set: Seat, reach: &mut [u32])
+fn take_set(sets: &Sets, set: Seat, reach: &mut [u32])
     requires { HasRow (length reach.old) (set_in sets.now set) }
     ensures { Merges (set_in sets.now set).near set.width reach.old reach.new }
 {
@@ -30,7 +29,7 @@ fn reset(reach: &mut [u32])
 }
 
 /// The least that the root and the outer sets of the tree leave for each place.
-fn reach_all(sets: &Slab<Slot>, root: Seat, tree: &[Branch], reach: &mut [u32])
+fn reach_all(sets: &Sets, root: Seat, tree: &[Branch], reach: &mut [u32])
     requires root { HasRow (length reach.old) (set_in sets.now root) }
     requires tree { Each (λ b. HasRow (length reach.old) b.outer) (branches_in sets.now tree.now) }
     ensures { ReachesOuters (set_in sets.now root) (branches_in sets.now tree.now) reach.new }
@@ -41,7 +40,7 @@ fn reach_all(sets: &Slab<Slot>, root: Seat, tree: &[Branch], reach: &mut [u32])
 }
 
 /// Takes the outer sets of the branches in.
-fn reach_branches(sets: &Slab<Slot>, tree: &[Branch], reach: &mut [u32])
+fn reach_branches(sets: &Sets, tree: &[Branch], reach: &mut [u32])
     requires { Each (λ b. HasRow (length reach.old) b.outer) (branches_in sets.now tree.now) }
     ensures { ReachesOn (branches_in sets.now tree.now) reach.old reach.new }
 {

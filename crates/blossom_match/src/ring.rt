@@ -6,15 +6,14 @@ ghost use Rattle.blossom_match.specs.RingRows.{least_of, ring_row, row_for as th
 ghost use Rattle.blossom_match.specs.Slots.{parts_in};
 ghost use Rattle.blossom_match.specs.declared.table.TheConstants.{FAR};
 
-use crate::nest::{Part, Slot};
+use crate::nest::{Part, Sets};
 use crate::rows::{clear, far_cells, merge};
 use design_model::Memory;
-use slab::Slab;
 use std::alloc::Global;
 use std::collections::VecDeque;
 
 /// The index of the part that holds the place.
-pub fn part_with(sets: &Slab<Slot>, parts: &[Part], place: u32) -> usize
+pub fn part_with(sets: &Sets, parts: &[Part], place: u32) -> usize
     requires { 1 ≤ count place (members_in (parts_in sets.now parts.now)) }
     ensures within { result < length parts.now }
     ensures there { HoldsAt place (parts_in sets.now parts.now) result }
@@ -28,7 +27,7 @@ pub fn part_with(sets: &Slab<Slot>, parts: &[Part], place: u32) -> usize
 }
 
 /// The ring told from the part that holds the place.
-pub fn turned_to(sets: &Slab<Slot>, parts: Vec<Part>, place: u32) -> Vec<Part>
+pub fn turned_to(sets: &Sets, parts: Vec<Part>, place: u32) -> Vec<Part>
     requires { 1 ≤ count place (members_in (parts_in sets.now parts.items)) }
     ensures turned { IsTurned (parts_in sets.now parts.items) (parts_in sets.now result.items) }
     ensures first { FirstHolds place (parts_in sets.now result.items) }
@@ -54,7 +53,7 @@ pub fn listed(alloc: Global, chain: VecDeque<Part>) -> Result<Vec<Part>, Memory>
 /// What a ring of the parts leaves for each place outside it.
 pub fn row_of(
     alloc: Global,
-    sets: &Slab<Slot>,
+    sets: &Sets,
     parts: &[Part],
     members: &[u32],
 ) -> Result<Vec<u32>, Memory>
@@ -71,7 +70,7 @@ pub fn row_of(
 fn row_for(
     alloc: Global,
     n: usize,
-    sets: &Slab<Slot>,
+    sets: &Sets,
     parts: &[Part],
     members: &[u32],
 ) -> Result<Vec<u32>, Memory>
@@ -85,7 +84,7 @@ fn row_for(
 }
 
 /// Makes the row in cells that are all far.
-fn fill(sets: &Slab<Slot>, parts: &[Part], members: &[u32], cells: &mut [u32])
+fn fill(sets: &Sets, parts: &[Part], members: &[u32], cells: &mut [u32])
     requires rows { HaveRows (length cells.old) (parts_in sets.now parts.now) }
     requires members { members.now ≡ members_in (parts_in sets.now parts.now) }
     requires far { (x : ℕ) → x < length cells.old → slice_index cells.old x ≡ FAR }
@@ -96,7 +95,7 @@ fn fill(sets: &Slab<Slot>, parts: &[Part], members: &[u32], cells: &mut [u32])
 }
 
 /// The least that the parts leave over their widths.
-fn merge_all(sets: &Slab<Slot>, parts: &[Part], cells: &mut [u32])
+fn merge_all(sets: &Sets, parts: &[Part], cells: &mut [u32])
     requires rows { Each (λ p. length p.nest.near ≡ length cells.old) (parts_in sets.now parts.now) }
     requires far { (x : ℕ) → x < length cells.old → slice_index cells.old x ≡ FAR }
     ensures { (x : ℕ) → x < length cells.old

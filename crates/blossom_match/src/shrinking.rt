@@ -6,10 +6,9 @@ ghost use Rattle.blossom_match.specs.Slots.{branches_in, parts_in, set_in, AreSe
 ghost use Rattle.blossom_match.specs.Trees.{all_bands};
 
 use crate::branches::{Branch, give_back};
-use crate::nest::{Link, Part, Seat, Slot, ring_of};
+use crate::nest::{Link, Part, Seat, Sets, ring_of};
 use crate::ring::listed;
 use design_model::Memory;
-use slab::Slab;
 use std::alloc::Global;
 use std::collections::VecDeque;
 
@@ -17,7 +16,7 @@ use std::collections::VecDeque;
 /// root.
 pub fn shrink(
     alloc: Global,
-    sets: &mut Slab<Slot>,
+    sets: &mut Sets,
     root: Seat,
     tree: &mut Vec<Branch>,
     link: Link,
@@ -65,7 +64,7 @@ pub fn shrink(
 /// The set that both arms lead to, and the chain of the others.
 fn close(
     alloc: Global,
-    sets: &mut Slab<Slot>,
+    sets: &mut Sets,
     top: Seat,
     way: Link,
     chain: VecDeque<Part>,

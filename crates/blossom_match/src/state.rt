@@ -6,14 +6,13 @@ ghost use Rattle.blossom_match.specs.Slots.{branches_in, couples_in, set_in, Are
 
 use crate::branches::Branch;
 use crate::couples::Couple;
-use crate::nest::{Seat, Slot};
-use slab::Slab;
+use crate::nest::{Seat, Sets};
 
 /// Sets in pairs, free places, and the height of each place: the widths of the sets that hold it, or
 /// the price of a free place. Each set stands in a slot of its own.
 #[derive(Drop)]
 pub struct Standing {
-    pub sets: Slab<Slot>,
+    pub sets: Sets,
     pub couples: Vec<Couple>,
     pub free: Vec<u32>,
     pub heights: Vec<u32>,
@@ -24,7 +23,7 @@ pub struct Standing {
 /// places, and the height of each place. Each set stands in a slot of its own.
 #[derive(Drop)]
 pub struct Search {
-    pub sets: Slab<Slot>,
+    pub sets: Sets,
     pub root: Seat,
     pub tree: Vec<Branch>,
     pub rest: Vec<Couple>,

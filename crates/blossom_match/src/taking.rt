@@ -7,17 +7,16 @@ ghost use Rattle.blossom_match.specs.Taken.{own_moat, TakesCouples, TakesNest};
 
 use crate::couples::Couple;
 use crate::matching::{Moat, Moats, Pair, Pairs};
-use crate::nest::{Link, Seat, Slot};
+use crate::nest::{Link, Seat, Sets};
 use crate::opening::{Opened, open_at};
 use design_model::{Memory, Numbers};
-use slab::Slab;
 use std::alloc::Global;
 
 /// Adds the pairs inside a set whose member `left` is paired outside, and its moats.
 #[cycle(taking)]
 pub fn take_nest(
     alloc: Global,
-    sets: &Slab<Slot>,
+    sets: &Sets,
     s: Seat,
     left: u32,
     pairs: &mut Pairs,
@@ -47,7 +46,7 @@ pub fn take_nest(
 #[cycle(taking)]
 pub fn take_couples(
     alloc: Global,
-    sets: &Slab<Slot>,
+    sets: &Sets,
     couples: Vec<Couple>,
     pairs: &mut Pairs,
     moats: &mut Moats,

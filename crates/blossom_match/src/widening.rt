@@ -7,9 +7,8 @@ ghost use Rattle.blossom_match.specs.Widths.{resized, CanChange, CanChangeHeight
 use crate::branches::Branch;
 use crate::heights::{lower_inners, raise, raise_outers};
 use crate::least::Change;
-use crate::nest::{Seat, Slot};
+use crate::nest::{Seat, Sets};
 use crate::state::Search;
-use slab::Slab;
 
 /// Widens the outer sets and narrows the inner ones, so that the step of the change can be done.
 pub fn widen(s: Search, change: Change) -> Search
@@ -53,7 +52,7 @@ fn change_widths(s: Search, by: u32) -> Search
 }
 
 /// Raises the places of the outer sets, and lowers those of the inner sets.
-fn change_heights(sets: &Slab<Slot>, root: Seat, tree: &[Branch], by: u32, heights: &mut [u32])
+fn change_heights(sets: &Sets, root: Seat, tree: &[Branch], by: u32, heights: &mut [u32])
     requires { CanChangeHeights by (set_in sets.now root) (branches_in sets.now tree.now) heights.old }
     ensures moves { Moves by (set_in sets.now root) (branches_in sets.now tree.now) heights.old heights.new }
     ensures size { length heights.new ≡ length heights.old }

@@ -1,12 +1,12 @@
 use Rattle.std.proofs.Common.{◌≡◌, ◌++◌, length}
 use Rattle.std.specs.Vec.Iter.{into_iter_items}
 use Rattle.blossom_match.specs.Couples.{couples_along}
-use Rattle.blossom_match.specs.Slots.{couples_in, parts_in, Sets}
+use Rattle.blossom_match.specs.Slots.{couples_in, parts_in, Slots}
 use Rattle.blossom_match.proofs.couples.pair_off.Given as goal
 
 -- the couples so far and those of the parts that are left
 abbrev pub invariant-loop-p : goal.invariant-loop-p
-invariant-loop-p l = (sets : Sets) → couples_in sets l.out.items ++ couples_along (parts_in sets (into_iter_items l.left))
+invariant-loop-p l = (sets : Slots) → couples_in sets l.out.items ++ couples_along (parts_in sets (into_iter_items l.left))
     ≡ couples_along (parts_in sets (into_iter_items l.fn.parts))
 
 abbrev pub decreases-loop-p : goal.decreases-loop-p

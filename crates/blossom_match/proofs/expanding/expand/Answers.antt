@@ -5,126 +5,86 @@ use Rattle.blossom_match.proofs.expanding.expand.Goals as goal
 
 pub remove-slot-requires : goal.remove-slot-requires
 remove-slot-requires c =
-    let sets = c.args.sets.now in
-    let s = split_slots sets c.args.root c.args.tree.now.items c.pop.new.self.items c.in_ok-later.later.items c.in-Some.b
+    let s = split_slots c.args.sets.now c.args.root c.args.tree.now.items c.pop.new.self.items c.in_ok-later.later.items c.in-Some.b
     c.args.rest.now.items c.split_off.new.self.items c.args.at c.requires.can c.in_ok-later.ensures.items c.in_ok-later.ensures.tail
     c.in-Some.ensures.items in
-    inner_slot sets c.args.root c.args.tree.now.items c.pop.new.self.items c.in_ok-later.later.items c.in-Some.b c.args.rest.now.items s
-    c.requires.sets
+    inner_slot _ _ _ _ _ _ _ s c.requires.sets
 
 pub even_way-requires-clause-ring : goal.even_way-requires-clause-ring
 even_way-requires-clause-ring c =
-    let sets = c.args.sets.now in
-    let s = split_slots sets c.args.root c.args.tree.now.items c.pop.new.self.items c.in_ok-later.later.items c.in-Some.b
+    let s = split_slots c.args.sets.now c.args.root c.args.tree.now.items c.pop.new.self.items c.in_ok-later.later.items c.in-Some.b
     c.args.rest.now.items c.split_off.new.self.items c.args.at c.requires.can c.in_ok-later.ensures.items c.in_ok-later.ensures.tail
     c.in-Some.ensures.items in
-    let f = freed sets c.args.root c.args.tree.now.items c.pop.new.self.items c.in_ok-later.later.items c.in-Some.b
-    c.args.rest.now.items c.remove-slot.new.self c.remove-slot.result s c.requires.sets c.remove-slot.ensures.value
+    let f = freed _ _ _ _ _ _ _ c.remove-slot.new.self c.remove-slot.result s c.requires.sets c.remove-slot.ensures.value
     c.remove-slot.ensures.updates in
-    ring_stays sets c.args.root c.args.tree.now.items c.pop.new.self.items c.in_ok-later.later.items c.in-Some.b c.args.rest.now.items
-    c.remove-slot.new.self c.remove-slot.result f
+    ring_stays f
 
 pub even_way-requires-clause-entry_in : goal.even_way-requires-clause-entry_in
 even_way-requires-clause-entry_in c =
-    let sets = c.args.sets.now in
-    let s = split_slots sets c.args.root c.args.tree.now.items c.pop.new.self.items c.in_ok-later.later.items c.in-Some.b
+    let s = split_slots c.args.sets.now c.args.root c.args.tree.now.items c.pop.new.self.items c.in_ok-later.later.items c.in-Some.b
     c.args.rest.now.items c.split_off.new.self.items c.args.at c.requires.can c.in_ok-later.ensures.items c.in_ok-later.ensures.tail
     c.in-Some.ensures.items in
-    let f = freed sets c.args.root c.args.tree.now.items c.pop.new.self.items c.in_ok-later.later.items c.in-Some.b
-    c.args.rest.now.items c.remove-slot.new.self c.remove-slot.result s c.requires.sets c.remove-slot.ensures.value
+    let f = freed _ _ _ _ _ _ _ c.remove-slot.new.self c.remove-slot.result s c.requires.sets c.remove-slot.ensures.value
     c.remove-slot.ensures.updates in
-    omega (
-      arith,
-      s.up_to,
-      places_stay sets c.args.root c.args.tree.now.items c.pop.new.self.items c.in_ok-later.later.items c.in-Some.b c.args.rest.now.items
-          c.remove-slot.new.self c.remove-slot.result f c.in-Some.b.up.to,
-    )
+    omega (arith, s.up_to, places_stay f c.in-Some.b.up.to)
 
 pub even_way-requires-clause-exit_in : goal.even_way-requires-clause-exit_in
 even_way-requires-clause-exit_in c =
-    let sets = c.args.sets.now in
-    let s = split_slots sets c.args.root c.args.tree.now.items c.pop.new.self.items c.in_ok-later.later.items c.in-Some.b
+    let s = split_slots c.args.sets.now c.args.root c.args.tree.now.items c.pop.new.self.items c.in_ok-later.later.items c.in-Some.b
     c.args.rest.now.items c.split_off.new.self.items c.args.at c.requires.can c.in_ok-later.ensures.items c.in_ok-later.ensures.tail
     c.in-Some.ensures.items in
-    let f = freed sets c.args.root c.args.tree.now.items c.pop.new.self.items c.in_ok-later.later.items c.in-Some.b
-    c.args.rest.now.items c.remove-slot.new.self c.remove-slot.result s c.requires.sets c.remove-slot.ensures.value
+    let f = freed _ _ _ _ _ _ _ c.remove-slot.new.self c.remove-slot.result s c.requires.sets c.remove-slot.ensures.value
     c.remove-slot.ensures.updates in
-    omega (
-      arith,
-      s.pair_from,
-      places_stay sets c.args.root c.args.tree.now.items c.pop.new.self.items c.in_ok-later.later.items c.in-Some.b c.args.rest.now.items
-          c.remove-slot.new.self c.remove-slot.result f c.in-Some.b.pair.from,
-    )
+    omega (arith, s.pair_from, places_stay f c.in-Some.b.pair.from)
 
 pub lay-requires : goal.lay-requires
 lay-requires c =
-    let sets = c.args.sets.now in
-    let s = split_slots sets c.args.root c.args.tree.now.items c.pop.new.self.items c.in_ok-later.later.items c.in-Some.b
+    let s = split_slots c.args.sets.now c.args.root c.args.tree.now.items c.pop.new.self.items c.in_ok-later.later.items c.in-Some.b
     c.args.rest.now.items c.split_off.new.self.items c.args.at c.requires.can c.in_ok-later.ensures.items c.in_ok-later.ensures.tail
     c.in-Some.ensures.items in
-    let f = freed sets c.args.root c.args.tree.now.items c.pop.new.self.items c.in_ok-later.later.items c.in-Some.b
-    c.args.rest.now.items c.remove-slot.new.self c.remove-slot.result s c.requires.sets c.remove-slot.ensures.value
+    let f = freed _ _ _ _ _ _ _ c.remove-slot.new.self c.remove-slot.result s c.requires.sets c.remove-slot.ensures.value
     c.remove-slot.ensures.updates in
-    can_lay_freed sets c.args.root c.args.tree.now.items c.pop.new.self.items c.in_ok-later.later.items c.in-Some.b c.args.rest.now.items
-    c.remove-slot.new.self c.remove-slot.result (parts_in c.remove-slot.new.self c.in_ok-ring-in-Some.ring.items) s f
-    c.in_ok-ring-in-Some.ensures
+    can_lay_freed f (parts_in c.remove-slot.new.self c.in_ok-ring-in-Some.ring.items) c.in_ok-ring-in-Some.ensures
 
 pub returns-clause-expands : goal.returns-clause-expands
 returns-clause-expands c =
-    let sets = c.args.sets.now in
-    let s = split_slots sets c.args.root c.args.tree.now.items c.pop.new.self.items c.in_ok-later.later.items c.in-Some.b
+    let s = split_slots c.args.sets.now c.args.root c.args.tree.now.items c.pop.new.self.items c.in_ok-later.later.items c.in-Some.b
     c.args.rest.now.items c.split_off.new.self.items c.args.at c.requires.can c.in_ok-later.ensures.items c.in_ok-later.ensures.tail
     c.in-Some.ensures.items in
-    let f = freed sets c.args.root c.args.tree.now.items c.pop.new.self.items c.in_ok-later.later.items c.in-Some.b
-    c.args.rest.now.items c.remove-slot.new.self c.remove-slot.result s c.requires.sets c.remove-slot.ensures.value
+    let f = freed _ _ _ _ _ _ _ c.remove-slot.new.self c.remove-slot.result s c.requires.sets c.remove-slot.ensures.value
     c.remove-slot.ensures.updates in (
       c.in-Some.b.inner.key,
-      expanded_freed sets c.args.root c.args.tree.now.items c.pop.new.self.items c.in_ok-later.later.items c.in-Some.b c.args.rest.now.items
-          c.remove-slot.new.self c.remove-slot.result (parts_in c.remove-slot.new.self c.in_ok-ring-in-Some.ring.items) _ _ _ _ s f
-          c.in_ok-ring-in-Some.ensures
+      expanded_freed f (parts_in c.remove-slot.new.self c.in_ok-ring-in-Some.ring.items) _ _ _ _ c.in_ok-ring-in-Some.ensures
           c.in_ok-couples-in-Some.ensures c.in_ok-append-in-Some.ensures.items c.in_ok-append-in-Some-2.ensures.items,
     )
 
 pub returns-clause-grows : goal.returns-clause-grows
 returns-clause-grows c =
-    let sets = c.args.sets.now in
-    let s = split_slots sets c.args.root c.args.tree.now.items c.pop.new.self.items c.in_ok-later.later.items c.in-Some.b
+    let s = split_slots c.args.sets.now c.args.root c.args.tree.now.items c.pop.new.self.items c.in_ok-later.later.items c.in-Some.b
     c.args.rest.now.items c.split_off.new.self.items c.args.at c.requires.can c.in_ok-later.ensures.items c.in_ok-later.ensures.tail
     c.in-Some.ensures.items in
-    let f = freed sets c.args.root c.args.tree.now.items c.pop.new.self.items c.in_ok-later.later.items c.in-Some.b
-    c.args.rest.now.items c.remove-slot.new.self c.remove-slot.result s c.requires.sets c.remove-slot.ensures.value
+    let f = freed _ _ _ _ _ _ _ c.remove-slot.new.self c.remove-slot.result s c.requires.sets c.remove-slot.ensures.value
     c.remove-slot.ensures.updates in
-    grows_freed sets c.args.root c.args.tree.now.items c.pop.new.self.items c.in_ok-later.later.items c.in-Some.b c.args.rest.now.items
-    c.remove-slot.new.self c.remove-slot.result (parts_in c.remove-slot.new.self c.in_ok-ring-in-Some.ring.items)
-    c.split_off.new.self.items _ _ _ c.args.at c.requires.can
-    c.in_ok-later.ensures.items c.in_ok-later.ensures.tail c.in-Some.ensures.items f c.in_ok-couples-in-Some.ensures
+    grows_freed f (parts_in c.remove-slot.new.self c.in_ok-ring-in-Some.ring.items) _ _ _
+    c.args.rest.now.items c.split_off.new.self.items c.args.at c.requires.can
+    c.in_ok-later.ensures.items c.in_ok-later.ensures.tail c.in-Some.ensures.items c.in_ok-couples-in-Some.ensures
     c.in_ok-append-in-Some-2.ensures.items
 
 pub returns-clause-root : goal.returns-clause-root
 returns-clause-root c =
-    let sets = c.args.sets.now in
-    let s = split_slots sets c.args.root c.args.tree.now.items c.pop.new.self.items c.in_ok-later.later.items c.in-Some.b
+    let s = split_slots c.args.sets.now c.args.root c.args.tree.now.items c.pop.new.self.items c.in_ok-later.later.items c.in-Some.b
     c.args.rest.now.items c.split_off.new.self.items c.args.at c.requires.can c.in_ok-later.ensures.items c.in_ok-later.ensures.tail
     c.in-Some.ensures.items in
-    let f = freed sets c.args.root c.args.tree.now.items c.pop.new.self.items c.in_ok-later.later.items c.in-Some.b
-    c.args.rest.now.items c.remove-slot.new.self c.remove-slot.result s c.requires.sets c.remove-slot.ensures.value
+    let f = freed _ _ _ _ _ _ _ c.remove-slot.new.self c.remove-slot.result s c.requires.sets c.remove-slot.ensures.value
     c.remove-slot.ensures.updates in
     f.same_root
 
 pub returns-clause-sets : goal.returns-clause-sets
 returns-clause-sets c =
-    let sets = c.args.sets.now in
-    let s = split_slots sets c.args.root c.args.tree.now.items c.pop.new.self.items c.in_ok-later.later.items c.in-Some.b
+    let s = split_slots c.args.sets.now c.args.root c.args.tree.now.items c.pop.new.self.items c.in_ok-later.later.items c.in-Some.b
     c.args.rest.now.items c.split_off.new.self.items c.args.at c.requires.can c.in_ok-later.ensures.items c.in_ok-later.ensures.tail
     c.in-Some.ensures.items in
-    let f = freed sets c.args.root c.args.tree.now.items c.pop.new.self.items c.in_ok-later.later.items c.in-Some.b
-    c.args.rest.now.items c.remove-slot.new.self c.remove-slot.result s c.requires.sets c.remove-slot.ensures.value
+    let f = freed _ _ _ _ _ _ _ c.remove-slot.new.self c.remove-slot.result s c.requires.sets c.remove-slot.ensures.value
     c.remove-slot.ensures.updates in
-    freed_sets sets c.args.root c.args.tree.now.items c.pop.new.self.items c.in_ok-later.later.items c.in-Some.b c.args.rest.now.items
-    c.remove-slot.new.self c.remove-slot.result (parts_in c.remove-slot.new.self c.in_ok-ring-in-Some.ring.items) c.lay.new.tree.items
-    c.append-in-Some.new.self.items
-    c.in_ok-couples-in-Some.couples.items c.append.new.self.items s c.requires.sets f
-    (expanded_freed sets c.args.root c.args.tree.now.items c.pop.new.self.items c.in_ok-later.later.items c.in-Some.b c.args.rest.now.items
-    c.remove-slot.new.self c.remove-slot.result (parts_in c.remove-slot.new.self c.in_ok-ring-in-Some.ring.items) _ _ _ _ s f
-    c.in_ok-ring-in-Some.ensures
-    c.in_ok-couples-in-Some.ensures c.in_ok-append-in-Some.ensures.items c.in_ok-append-in-Some-2.ensures.items)
+    freed_sets f (parts_in c.remove-slot.new.self c.in_ok-ring-in-Some.ring.items) _ _ _ _ c.requires.sets c.in_ok-ring-in-Some.ensures
+    c.in_ok-couples-in-Some.ensures c.in_ok-append-in-Some.ensures.items c.in_ok-append-in-Some-2.ensures.items

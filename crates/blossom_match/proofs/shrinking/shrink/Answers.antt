@@ -1,7 +1,7 @@
 use Rattle.std.proofs.Common.{arith, ap, length, ◌≡◌, [], List, refl, subst, sym}
 use Rattle.std.proofs.lemmas.List.{length-map}
 use Rattle.blossom_match.specs.Shrinks.{Shrinking, Shrinks}
-use Rattle.blossom_match.specs.Slots.{branch_in, branches_in, part_in, parts_in, set_in, AreSets, Inserts, Sets}
+use Rattle.blossom_match.specs.Slots.{branch_in, branches_in, part_in, parts_in, set_in, AreSets, Inserts, Slots}
 use Rattle.blossom_match.specs.Trees.{all_bands}
 use Rattle.blossom_match.specs.declared.branches.Branch.{Branch}
 use Rattle.blossom_match.specs.declared.nest.Part.{Part}
@@ -24,7 +24,7 @@ loop-b-init c =
 pub close-requires-clause-can : goal.close-requires-clause-can
 close-requires-clause-can c =
     let sets = c.loop-b.sets in
-    let can = subst (λ (s : Sets). Shrinking c.args.link (set_in s c.args.root) (branches_in s c.args.tree.now.items))
+    let can = subst (λ (s : Slots). Shrinking c.args.link (set_in s c.args.root) (branches_in s c.args.tree.now.items))
     (sym c.loop-b.invariant.same) c.requires.can in
     closable c.args.link _ _ (branches_in sets c.loop-b.tree.items) (branches_in sets c.pop.new.self.items) (branch_in sets c.in-Some.b) _
     _ _ _
@@ -34,7 +34,7 @@ close-requires-clause-can c =
 pub close-requires-clause-kept : goal.close-requires-clause-kept
 close-requires-clause-kept c =
     let sets = c.loop-b.sets in
-    let can = subst (λ (s : Sets). Shrinking c.args.link (set_in s c.args.root) (branches_in s c.args.tree.now.items))
+    let can = subst (λ (s : Slots). Shrinking c.args.link (set_in s c.args.root) (branches_in s c.args.tree.now.items))
     (sym c.loop-b.invariant.same) c.requires.can in
     (last_kept c.args.link _ _ (branches_in sets c.loop-b.tree.items) (branches_in sets c.pop.new.self.items) (branch_in sets c.in-Some.b)
     _ _ _ _ can c.loop-b.invariant.goes (mapped_last (branch_in sets) _ _ _ c.in-Some.ensures.items)).1
@@ -45,16 +45,16 @@ close-requires-clause-sets c =
     ring_sets sets c.args.link _ _ (branches_in sets c.loop-b.tree.items) (branches_in sets c.pop.new.self.items)
     (branch_in sets c.in-Some.b)
     _ _ _ _ c.loop-b.invariant.goes (mapped_last (branch_in sets) _ _ _ c.in-Some.ensures.items)
-    (subst (λ (s : Sets). AreSets s (all_bands (set_in s c.args.root) (branches_in s c.args.tree.now.items) []))
+    (subst (λ (s : Slots). AreSets s (all_bands (set_in s c.args.root) (branches_in s c.args.tree.now.items) []))
     (sym c.loop-b.invariant.same) c.requires.sets)
 
 pub returns-then-at_right : goal.returns-then-at_right
 returns-then-at_right c =
     let sets = c.loop-b.sets in
     let back = sym c.loop-b.invariant.same in
-    let can = subst (λ (s : Sets). Shrinking c.args.link (set_in s c.args.root) (branches_in s c.args.tree.now.items)) back
+    let can = subst (λ (s : Slots). Shrinking c.args.link (set_in s c.args.root) (branches_in s c.args.tree.now.items)) back
     c.requires.can in
-    let are = subst (λ (s : Sets). AreSets s (all_bands (set_in s c.args.root) (branches_in s c.args.tree.now.items) [])) back
+    let are = subst (λ (s : Slots). AreSets s (all_bands (set_in s c.args.root) (branches_in s c.args.tree.now.items) [])) back
     c.requires.sets in
     let e = mapped_last (branch_in sets) _ _ _ c.in-Some.ensures.items in
     let cl = closable c.args.link _ _ (branches_in sets c.loop-b.tree.items) (branches_in sets c.pop.new.self.items)
@@ -62,8 +62,8 @@ returns-then-at_right c =
     (c.holds-at_right.ensures.yes c.if-at_right.true) in
     let key = c.in_ok-ring.ring.key in (
       key,
-      subst (λ (s : Sets). Inserts s c.close.new.sets key) c.loop-b.invariant.same c.in_ok-ring.ensures.inserts,
-      subst (λ (s : Sets). Shrinks key c.args.link (set_in s c.args.root) (set_in c.close.new.sets c.args.root)
+      subst (λ (s : Slots). Inserts s c.close.new.sets key) c.loop-b.invariant.same c.in_ok-ring.ensures.inserts,
+      subst (λ (s : Slots). Shrinks key c.args.link (set_in s c.args.root) (set_in c.close.new.sets c.args.root)
           (branches_in s c.args.tree.now.items) (branches_in c.close.new.sets c.give_back.new.tree.items)) c.loop-b.invariant.same
           (shrunk_inside sets c.close.new.sets c.args.link c.args.root c.args.tree.now.items c.loop-b.tree.items c.pop.new.self.items
           c.loop-b.aside.items c.loop-b.chain.items c.loop-b.way c.loop-b.to c.in_ok-ring.ring c.in-Some.b _ _ can c.loop-b.invariant.goes
@@ -74,7 +74,7 @@ returns-then-at_right c =
 pub loop-b-preserved-then-at_left : goal.loop-b-preserved-then-at_left
 loop-b-preserved-then-at_left c =
     let sets = c.loop-b.sets in
-    let can = subst (λ (s : Sets). Shrinking c.args.link (set_in s c.args.root) (branches_in s c.args.tree.now.items))
+    let can = subst (λ (s : Slots). Shrinking c.args.link (set_in s c.args.root) (branches_in s c.args.tree.now.items))
     (sym c.loop-b.invariant.same) c.requires.can in
     let e = mapped_last (branch_in sets) _ _ _ c.in-Some.ensures.items in
     let b = branch_in sets c.in-Some.b in
@@ -90,7 +90,7 @@ loop-b-preserved-then-at_left c =
 pub loop-b-preserved-then-at_right-2 : goal.loop-b-preserved-then-at_right-2
 loop-b-preserved-then-at_right-2 c =
     let sets = c.loop-b.sets in
-    let can = subst (λ (s : Sets). Shrinking c.args.link (set_in s c.args.root) (branches_in s c.args.tree.now.items))
+    let can = subst (λ (s : Slots). Shrinking c.args.link (set_in s c.args.root) (branches_in s c.args.tree.now.items))
     (sym c.loop-b.invariant.same) c.requires.can in
     let e = mapped_last (branch_in sets) _ _ _ c.in-Some.ensures.items in
     let b = branch_in sets c.in-Some.b in
@@ -118,7 +118,7 @@ loop-b-preserved c =
 pub close-requires-2-clause-can : goal.close-requires-2-clause-can
 close-requires-2-clause-can c =
     let sets = c.loop-b.sets in
-    let can = subst (λ (s : Sets). Shrinking c.args.link (set_in s c.args.root) (branches_in s c.args.tree.now.items))
+    let can = subst (λ (s : Slots). Shrinking c.args.link (set_in s c.args.root) (branches_in s c.args.tree.now.items))
     (sym c.loop-b.invariant.same) c.requires.can in
     let none : length (branches_in sets c.loop-b.tree.items) ≡ 0 =
     omega (arith, c.in_default.ensures.cases, length-map c.loop-b.tree.items (branch_in sets)) in
@@ -126,30 +126,30 @@ close-requires-2-clause-can c =
 
 pub close-requires-2-clause-kept : goal.close-requires-2-clause-kept
 close-requires-2-clause-kept c =
-    (subst (λ (s : Sets). Shrinking c.args.link (set_in s c.args.root) (branches_in s c.args.tree.now.items))
+    (subst (λ (s : Slots). Shrinking c.args.link (set_in s c.args.root) (branches_in s c.args.tree.now.items))
     (sym c.loop-b.invariant.same) c.requires.can).sound.kept
 
 pub close-requires-2-clause-sets : goal.close-requires-2-clause-sets
 close-requires-2-clause-sets c =
     let sets = c.loop-b.sets in
     root_sets sets c.args.link _ _ (branches_in sets c.loop-b.tree.items) _ _ _ _ c.loop-b.invariant.goes
-    (subst (λ (s : Sets). AreSets s (all_bands (set_in s c.args.root) (branches_in s c.args.tree.now.items) []))
+    (subst (λ (s : Slots). AreSets s (all_bands (set_in s c.args.root) (branches_in s c.args.tree.now.items) []))
     (sym c.loop-b.invariant.same) c.requires.sets)
 
 pub returns : goal.returns
 returns c =
     let sets = c.loop-b.sets in
     let back = sym c.loop-b.invariant.same in
-    let can = subst (λ (s : Sets). Shrinking c.args.link (set_in s c.args.root) (branches_in s c.args.tree.now.items)) back
+    let can = subst (λ (s : Slots). Shrinking c.args.link (set_in s c.args.root) (branches_in s c.args.tree.now.items)) back
     c.requires.can in
-    let are = subst (λ (s : Sets). AreSets s (all_bands (set_in s c.args.root) (branches_in s c.args.tree.now.items) [])) back
+    let are = subst (λ (s : Slots). AreSets s (all_bands (set_in s c.args.root) (branches_in s c.args.tree.now.items) [])) back
     c.requires.sets in
     let none : length (branches_in sets c.loop-b.tree.items) ≡ 0 =
     omega (arith, c.in_default.ensures.cases, length-map c.loop-b.tree.items (branch_in sets)) in
     let key = c.in_ok-ring-2.ring.key in (
       key,
-      subst (λ (s : Sets). Inserts s c.close-2.new.sets key) c.loop-b.invariant.same c.in_ok-ring-2.ensures.inserts,
-      subst (λ (s : Sets). Shrinks key c.args.link (set_in s c.args.root) (set_in c.close-2.new.sets c.in_ok-ring-2.ring)
+      subst (λ (s : Slots). Inserts s c.close-2.new.sets key) c.loop-b.invariant.same c.in_ok-ring-2.ensures.inserts,
+      subst (λ (s : Slots). Shrinks key c.args.link (set_in s c.args.root) (set_in c.close-2.new.sets c.in_ok-ring-2.ring)
           (branches_in s c.args.tree.now.items) (branches_in c.close-2.new.sets c.give_back-2.new.tree.items)) c.loop-b.invariant.same
           (shrunk_root sets c.close-2.new.sets c.args.link c.args.root c.args.tree.now.items c.loop-b.tree.items c.pop.new.self.items
           c.loop-b.aside.items c.loop-b.chain.items c.loop-b.way c.loop-b.to c.in_ok-ring-2.ring c.pop.new.self.items _ _ can
