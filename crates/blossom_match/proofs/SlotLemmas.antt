@@ -10,7 +10,7 @@ use Rattle.blossom_match.specs.RingRows.{ring_of, ring_row}
 use Rattle.blossom_match.specs.Shrinks.{branch_of, part_of}
 use Rattle.blossom_match.specs.Trees.{branch_bands}
 use Rattle.blossom_match.specs.Values.{BranchValue, CoupleValue, PartValue}
-use Rattle.blossom_match.specs.Slots.{branch_in, branches_in, couple_in, couples_in, members_at, members_of, near_at, near_of, part_in, part_to, parts_at, parts_in, parts_of, set_in, with_inside, AreSets, Inserts, IsSet, IsSetTo, KeepOthers, Slots}
+use Rattle.blossom_match.specs.Slots.{branch_in, branches_in, couple_in, couples_in, members_at, members_of, near_at, near_of, part_in, part_to, parts_at, parts_in, parts_of, set_in, with_inside, AreSets, Inserts, IsRowOf, IsSet, IsSetTo, KeepOthers, Slots}
 use Rattle.blossom_match.specs.declared.nest.Link.{Link}
 use Rattle.blossom_match.specs.declared.nest.Seat.{Seat}
 use Rattle.blossom_match.specs.declared.nest.Part.{Part}
@@ -92,6 +92,7 @@ to_all (suc a) sets k is (suc n) low = (
   each_both (λ (p : Part). IsSetTo a sets p.seat.key) (λ (p : Part). length (members_at sets p.seat.key) < suc n)
       (λ (p : Part). IsSetTo n sets p.seat.key) (λ p set less. to_all a sets p.seat.key set n (omega (arith, less))) (parts_at sets k) is.2
       (sizes sets (members_at sets k) (parts_at sets k) (suc n) is.1 low),
+  is.3,
 )
 
 set_to : (a : ℕ) (sets : Slots) (k : ℕ) → IsSetTo a sets k → IsSet sets k
@@ -176,8 +177,12 @@ keeps_to (suc a) old new s is same =
     (λ j u. same j (omega (arith, u, ap (λ (v : NestValue). uses j (bands v)) made))) in
     let now : IsSetTo (suc a) new k =
     subst (λ (slot : Option Slot). IsSome slot × IsMade (members_of slot) (parts_in new (parts_of slot))
-    × Each (λ (p : Part). IsSetTo a new p.seat.key) (parts_of slot)) (sym e)
-    (is.0, subst (λ (qs : List PartValue). IsMade (members_at old k) qs) (sym parts.1) is.1, parts.0) in (
+    × Each (λ (p : Part). IsSetTo a new p.seat.key) (parts_of slot) × IsRowOf (near_of slot) (parts_in new (parts_of slot))) (sym e) (
+      is.0,
+      subst (λ (qs : List PartValue). IsMade (members_at old k) qs) (sym parts.1) is.1,
+      parts.0,
+      subst (λ (qs : List PartValue). IsRowOf (near_at old k) qs) (sym parts.1) is.3,
+    ) in (
       now,
       made_to (suc a) new s now
           ∙ ap (λ (slot : Option Slot). nest_of k (members_of slot) s.width (near_of slot) (parts_in new (parts_of slot))) e
@@ -337,6 +342,10 @@ ring_made : (ms : List ℕ) (ps : List PartValue) → ms ≡ members_in ps → I
 ring_made ms [] same ring = absurd (omega (arith, ring.three))
 ring_made ms (p ∷ ps) same ring = (same, ring)
 
+row_made : (near : List ℕ) (ps : List PartValue) → near ≡ ring_row ps → IsRowOf near ps
+row_made near [] same = tt
+row_made near (p ∷ ps) same = same
+
 -- a ring's slot beside those of its parts
 pub record RingMore (old new : Slots) (key : ℕ) (parts : List Part) : Type 0 where
   pub inserts : Inserts old new key
@@ -356,8 +365,10 @@ ring_more old new key slot fresh up sets ring ms near =
     let each = each_both (λ (p : Part). IsSet new p.seat.key) (λ (p : Part). length (members_at new p.seat.key) < m)
     (λ (p : Part). IsSetTo m new p.seat.key) (λ p set less. set.to m (omega (arith, less))) ps
     (each_set old new ps k.kept.sets) (sizes new slot.members.items ps m made (omega arith)) in
+    let row = subst (λ (qs : List PartValue). IsRowOf slot.near.items qs) (sym k.same) (row_made slot.near.items (parts_in old ps) near) in
     let set = set_to (suc m) new key (subst (λ (o : Option Slot). IsSome o × IsMade (members_of o) (parts_in new (parts_of o))
-    × Each (λ (p : Part). IsSetTo m new p.seat.key) (parts_of o)) (sym up.changed) (refl, made, each)) in
+    × Each (λ (p : Part). IsSetTo m new p.seat.key) (parts_of o) × IsRowOf (near_of o) (parts_in new (parts_of o))) (sym up.changed)
+    (refl, made, each, row)) in
     record {
       inserts = record { fresh = fresh; others = up.others; set = set };
       same = set_made new seat set

@@ -4,7 +4,7 @@ use Rattle.std.proofs.Props.{props}
 use Rattle.blossom_match.specs.Lists.{Each}
 use Rattle.blossom_match.specs.Bands.{Band, Kept, NoneHold}
 use Rattle.blossom_match.specs.Rings.{IsLinkedRing, IsMade, IsRing, Linked}
-use Rattle.blossom_match.specs.Slots.{parts_at, IsSet, IsSetTo, Slots}
+use Rattle.blossom_match.specs.Slots.{parts_at, IsRowOf, IsSet, IsSetTo, Slots}
 use Rattle.blossom_match.specs.Values.{PartValue}
 use Rattle.blossom_match.specs.declared.nest.Part.{Part}
 
@@ -36,12 +36,17 @@ made-prop : (ms : List ℕ) (ps : List PartValue) → IsProp (IsMade ms ps)
 made-prop ms [] = hlevel props
 made-prop ms (p ∷ ps) = hlevel (props, ring-prop (p ∷ ps))
 
+row-prop : (near : List ℕ) (ps : List PartValue) → IsProp (IsRowOf near ps)
+row-prop near [] = hlevel props
+row-prop near (p ∷ ps) = hlevel props
+
 set_to-prop : (n : ℕ) (sets : Slots) (key : ℕ) → IsProp (IsSetTo n sets key)
 set_to-prop zero sets key = hlevel props
 set_to-prop (suc n) sets key =
     hlevel (
       props,
       made-prop,
+      row-prop,
       each-prop (λ (p : Part). IsSetTo n sets p.seat.key) (λ p. set_to-prop n sets p.seat.key)
           (parts_at sets key),
     )

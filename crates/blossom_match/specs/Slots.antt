@@ -1,10 +1,11 @@
 -- Odd sets in the slots of a slab. A slot keeps what doesn't change while its set stands, and names
 -- the parts of a ring by key; a width stands with the name of its set.
-use Rattle.std.specs.Prelude.{◌≡◌, ◌≢◌, ℕ, zero, suc, ◌≤◌, List, [], map, length, Option, Some, None}
+use Rattle.std.specs.Prelude.{◌≡◌, ◌≢◌, ℕ, zero, suc, ◌≤◌, List, [], ◌∷◌, map, length, Option, Some, None}
 use Rattle.slab.specs.Slab.{Slab, get, ContainsKey}
 use Rattle.blossom_match.specs.Lists.{Each}
 use Rattle.blossom_match.specs.Bands.{Band, NestValue, uses}
 use Rattle.blossom_match.specs.Rings.{nest_of, IsMade}
+use Rattle.blossom_match.specs.RingRows.{ring_row}
 use Rattle.blossom_match.specs.Values.{PartValue, CoupleValue, BranchValue}
 use Rattle.blossom_match.specs.declared.nest.Seat.{Seat}
 use Rattle.blossom_match.specs.declared.nest.Part.{Part}
@@ -92,13 +93,19 @@ couples_in sets cs = map (couple_in sets) cs
 abbrev pub branches_in : Slots → List Branch → List BranchValue
 branches_in sets bs = map (branch_in sets) bs
 
--- the slot under the key has one place or a ring, and so have those of its parts, so many levels
--- down
+-- the row of a ring has the least that its parts leave over their widths
+abbrev pub IsRowOf : List ℕ → List PartValue → Type 0
+IsRowOf near [] = Unit {0}
+IsRowOf near (p ∷ ps) = near ≡ ring_row (p ∷ ps)
+
+-- the slot under the key has one place or a ring with its row, and so have those of its parts, so
+-- many levels down
 abbrev pub IsSetTo : ℕ → Slots → ℕ → Type 0
 IsSetTo zero sets key = ⊥
 IsSetTo (suc n) sets key = ContainsKey sets key
     × IsMade (members_at sets key) (parts_in sets (parts_at sets key))
     × Each (λ (p : Part). IsSetTo n sets p.seat.key) (parts_at sets key)
+    × IsRowOf (near_at sets key) (parts_in sets (parts_at sets key))
 
 -- so on all levels: there are no more than members
 pub record IsSet (sets : Slots) (key : ℕ) : Type 0 where
