@@ -1,4 +1,4 @@
--- Slots taken apart one after another.
+-- Sets taken apart one after another.
 use Rattle.std.proofs.Common.{◌≡◌, ℕ, ◌+◌, ◌*◌, ◌≤◌, ◌<◌, List, [], ◌∷◌, ◌++◌, length, arith, refl, sym, ap, subst, ◌∙◌, append_assoc, Some, None, Option}
 use Rattle.std.proofs.lemmas.List.{append-nil}
 use Rattle.blossom_match.specs.Lists.{Each}

@@ -1,4 +1,4 @@
--- Slots and links that use up their distances, where h is the height of each place over all sets.
+-- Sets and links that use up their distances, where h is the height of each place over all sets.
 use Rattle.std.specs.Prelude.{◌≡◌, ℕ, ◌+◌, ◌*◌, ◌%◌, ◌≤◌}
 use Rattle.blossom_match.specs.TableValue.{TableValue}
 use Rattle.blossom_match.specs.Tables.{entry}

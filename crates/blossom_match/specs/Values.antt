@@ -1,4 +1,4 @@
--- Slots of a search as contracts see them: each with all that is inside it.
+-- Sets of a search as contracts see them: each with all that is inside it.
 use Rattle.std.specs.Prelude.{ℕ, List}
 use Rattle.blossom_match.specs.Bands.{NestValue}
 use Rattle.blossom_match.specs.declared.nest.Link.{Link}
