@@ -17,4 +17,5 @@ mod RouteFacts
 mod TextFacts
 mod ReasonFacts
 mod SampleFacts
+mod WantFacts
 mod FormatLemmas
