@@ -57,8 +57,8 @@ struct EventAt {
     event: Event,
 }
 
-/// The same for an event that trims or stops, with a copy of it: lent itself, it would live in memory all along the
-/// loop, and the place of the answer would be set up there.
+/// Adds the commands of an event that trims or stops, from a copy of it, and gives the place after it: lent itself, the
+/// event would live in memory all along the loop, and the place of the answer would be set up there.
 #[inline(always)]
 fn keep_cut_copied(
     design: &mut Design,

@@ -16,6 +16,7 @@ pub fn split_first(bytes: &[u8], mark: u8) -> Option<(&[u8], &[u8])>
 }
 
 /// The same for the byte that ends a line.
+#[inline]
 pub fn split_line(bytes: &[u8]) -> Option<(&[u8], &[u8])>
     ensures some { IfSome result (λ r. parted 10 bytes.now ≡ r.0.now ∷ parted 10 r.1.now) }
     ensures rest { IfSome result (λ r. r.1.now ≡ drop (length r.0.now + 1) bytes.now) }
