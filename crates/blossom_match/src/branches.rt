@@ -1,5 +1,5 @@
-ghost use Rattle.std.specs.Prelude.{◌≡◌, ◌≤◌, ◌++◌, ◌∷◌, [], reverse, OnOk};
-ghost use Rattle.blossom_match.specs.Slots.{branch_in, branches_in, couple_in, couples_in, set_in};
+ghost use Rattle.std.specs.Prelude.{◌≡◌, ◌++◌, ◌∷◌, [], reverse, OnOk};
+ghost use Rattle.blossom_match.specs.Slots.{branches_in, couple_in, couples_in, set_in};
 ghost use Rattle.blossom_match.specs.Trees.{Augmenting, Augments, hung_by};
 
 use crate::couples::Couple;
@@ -21,29 +21,32 @@ pub fn grow(sets: &Sets, tree: &mut Vec<Branch>, up: Link, couple: Couple) -> Re
     ensures { OnOk result (branches_in sets.now tree.new.items
         ≡ branches_in sets.now tree.old.items ++ hung_by up (couple_in sets.now couple) ∷ []) }
 {
-    let branch = hung(sets, up, couple);
-    tree.push(branch)?;
+    if couple.first.holds(sets, up.to) {
+        hang(tree, up, couple.first, couple.link, couple.second)?;
+        return Ok(());
+    }
+    hang(tree, up, couple.second, couple.link.back(), couple.first)?;
     Ok(())
 }
 
-fn hung(sets: &Sets, up: Link, couple: Couple) -> Branch
-    ensures { branch_in sets.now result ≡ hung_by up (couple_in sets.now couple) }
+/// Hangs an inner set into the tree by the link `up`, and the outer set that it is paired with.
+pub fn hang(
+    tree: &mut Vec<Branch>,
+    up: Link,
+    inner: Seat,
+    pair: Link,
+    outer: Seat,
+) -> Result<(), Memory>
+    ensures { OnOk result (tree.new.items
+        ≡ tree.old.items ++ record { up = up; inner = inner; pair = pair; outer = outer } ∷ []) }
 {
-    if couple.first.holds(sets, up.to) {
-        Branch {
-            up,
-            inner: couple.first,
-            pair: couple.link,
-            outer: couple.second,
-        }
-    } else {
-        Branch {
-            up,
-            inner: couple.second,
-            pair: couple.link.back(),
-            outer: couple.first,
-        }
-    }
+    tree.push(Branch {
+        up,
+        inner,
+        pair,
+        outer,
+    })?;
+    Ok(())
 }
 
 /// Pairs along the way from the link to the root, so that each branch becomes a couple.

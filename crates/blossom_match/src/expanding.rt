@@ -5,7 +5,7 @@ ghost use Rattle.blossom_match.specs.Lays.{mirror_of, CanLay, Expanding, Expands
 ghost use Rattle.blossom_match.specs.Slots.{branches_in, couples_in, parts_in, set_in, AreSets, Slots};
 ghost use Rattle.blossom_match.specs.Trees.{all_bands};
 
-use crate::branches::Branch;
+use crate::branches::{Branch, hang};
 use crate::couples::{Couple, pair_off};
 use crate::nest::{Part, Seat, Sets};
 use crate::ring::{listed, part_with, turned_to};
@@ -118,27 +118,13 @@ fn lay(
     let mut way = b.up;
     while let Some(p) = left.next() {
         if p.seat.holds(sets, b.pair.from) {
-            tree.push(Branch {
-                up: way,
-                inner: p.seat,
-                pair: b.pair,
-                outer: b.outer,
-            })?;
+            hang(tree, way, p.seat, b.pair, b.outer)?;
             let couples = pair_off(alloc, left)?;
             return Ok(couples);
         }
-        match left.next() {
-            None => unreachable!(),
-            Some(q) => {
-                tree.push(Branch {
-                    up: way,
-                    inner: p.seat,
-                    pair: p.next,
-                    outer: q.seat,
-                })?;
-                way = q.next;
-            }
-        }
+        let Some(q) = left.next() else { unreachable!() };
+        hang(tree, way, p.seat, p.next, q.seat)?;
+        way = q.next;
     }
     unreachable!()
 }
