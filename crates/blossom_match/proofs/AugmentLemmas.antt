@@ -3,7 +3,7 @@ use Rattle.std.proofs.Common.{◌≡◌, ◌≤◌, List, [], ◌∷◌, ◌++�
 use Rattle.blossom_match.specs.Bands.{NestValue, count}
 use Rattle.blossom_match.specs.Couples.{IsJoined}
 use Rattle.blossom_match.specs.Sound.{IsFirm, IsFirmCouple}
-use Rattle.blossom_match.specs.Trees.{Augmenting, Augments}
+use Rattle.blossom_match.specs.Trees.{Augmenting, Augments, PairsAt}
 use Rattle.blossom_match.specs.declared.nest.Link.{Link}
 use Rattle.blossom_match.specs.Values.{BranchValue, CoupleValue}
 use Rattle.blossom_match.proofs.ListLemmas.{each-left, each-last, each-push}
@@ -19,87 +19,79 @@ pub record Pairing (root met : NestValue) (link : Link) (tree : List BranchValue
 abbrev couple_of : NestValue → NestValue → Link → CoupleValue
 couple_of s t l = record { first = s; second = t; link = l }
 
-matched : (root hand : NestValue) (way : Link) (bs : List BranchValue) (b : BranchValue) (now new : List CoupleValue) →
-    Augmenting hand way root (bs ++ b ∷ []) → 1 ≤ count way.from b.outer.members →
-    Augments root b.inner b.up bs (now ++ couple_of b.outer hand way ∷ []) new → Augments root hand way (bs ++ b ∷ []) now new
-matched root hand way bs b now new can here a =
-    let l = last_of root.members bs b can.grown in
-    let one : count way.from b.outer.members ≡ 1 = omega (arith, can.once way.from, outer_members_push way.from root.members bs b) in
+pub takes_hand : (hand : NestValue) (way : Link) (b : BranchValue) → 1 ≤ count way.from b.outer.members
+    → PairsAt hand way b (couple_of b.outer hand way) b.inner b.up
+takes_hand hand way b here =
     let c = couple_of b.outer hand way in
     record {
-      joined = λ j. a.joined (each-push IsJoined now c j (record { from = one; to = can.to }));
-      firm = λ d h w r m t j. let f = each-last (IsFirm d h) bs b t in
-          a.firm d h f.up r f.inner (each-left (IsFirm d h) bs (b ∷ []) t)
-          (each-push (IsFirmCouple d h) now c j (record { link = w; first = f.outer; second = m }));
-      places = λ x. omega (
-        arith,
-        a.places x,
-        couple_members_push x now c,
-        outer_members_push x root.members bs b,
-        inner_members_push x bs
-            b,
-      );
-      sums = λ F add. omega (arith, a.sums F add, couple_bands_push F add now c, branch_bands_push F add bs b);
+      can = λ root bs can. let l = last_of root.members bs b can.grown in
+          record {
+            grown = l.grown;
+            from = l.above;
+            to = l.up_to;
+            once = λ x. omega (arith, can.once x, outer_members_push x root.members bs b, inner_members_push x bs b);
+          };
+      does = λ root bs old new can a.
+          let one : count way.from b.outer.members ≡ 1 = omega (
+            arith,
+            here,
+            can.once way.from,
+            outer_members_push way.from root.members bs b,
+          ) in
+          record {
+            joined = λ j. a.joined (each-push IsJoined old c j (record { from = one; to = can.to }));
+            firm = λ d h w r m t j. let f = each-last (IsFirm d h) bs b t in
+                a.firm d h f.up r f.inner (each-left (IsFirm d h) bs (b ∷ []) t)
+                (each-push (IsFirmCouple d h) old c j (record { link = w; first = f.outer; second = m }));
+            places = λ x. omega (
+              arith,
+              a.places x,
+              couple_members_push x old c,
+              outer_members_push x root.members bs b,
+              inner_members_push x bs b,
+            );
+            sums = λ F add. omega (arith, a.sums F add, couple_bands_push F add old c, branch_bands_push F add bs b);
+          };
     }
 
-kept : (root hand : NestValue) (way : Link) (bs : List BranchValue) (b : BranchValue) (now new : List CoupleValue) →
-    Augmenting hand way root (bs ++ b ∷ []) →
-    Augments root hand way bs (now ++ couple_of b.inner b.outer b.pair ∷ []) new → Augments root hand way (bs ++ b ∷ []) now new
-kept root hand way bs b now new can a =
-    let l = last_of root.members bs b can.grown in
+pub keeps_hand : (hand : NestValue) (way : Link) (b : BranchValue) → count way.from b.outer.members ≡ 0
+    → PairsAt hand way b (couple_of b.inner b.outer b.pair) hand way
+keeps_hand hand way b none =
     let c = couple_of b.inner b.outer b.pair in
     record {
-      joined = λ j. a.joined (each-push IsJoined now c j (record { from = l.pair_from; to = l.pair_to }));
-      firm = λ d h w r m t j. let f = each-last (IsFirm d h) bs b t in
-          a.firm d h w r m (each-left (IsFirm d h) bs (b ∷ []) t)
-          (each-push (IsFirmCouple d h) now c j (record { link = f.pair; first = f.inner; second = f.outer }));
-      places = λ x. omega (
-        arith,
-        a.places x,
-        couple_members_push x now c,
-        outer_members_push x root.members bs b,
-        inner_members_push x bs
-            b,
-      );
-      sums = λ F add. omega (arith, a.sums F add, couple_bands_push F add now c, branch_bands_push F add bs b);
-    }
-
-pub pairing_matched : (root met : NestValue) (link : Link) (tree : List BranchValue) (old now next : List CoupleValue) (hand : NestValue)
-    (way : Link)
-    (left bs : List BranchValue) (b : BranchValue) →
-    Pairing root met link tree old now hand way left → left ≡ bs ++ b ∷ [] → 1 ≤ count way.from b.outer.members →
-    next ≡ now ++ couple_of b.outer hand way ∷ [] → Pairing root met link tree old next b.inner b.up bs
-pairing_matched root met link tree old now next hand way left bs b p e here f =
-    let can = subst (λ (ks : List BranchValue). Augmenting hand way root ks) e p.can in
-    let l = last_of root.members bs b can.grown in
-    record {
-      can = record {
-        grown = l.grown;
-        from = l.above;
-        to = l.up_to;
-        once = λ x. omega (arith, can.once x, outer_members_push x root.members bs b, inner_members_push x bs b);
-      };
-      does = λ new a. p.does new (subst (λ (ks : List BranchValue). Augments root hand way ks now new) (sym e)
-          (matched root hand way bs b now new can here (subst (λ (ks : List CoupleValue). Augments root b.inner b.up bs ks new) f a)));
-    }
-
-pub pairing_kept : (root met : NestValue) (link : Link) (tree : List BranchValue) (old now next : List CoupleValue) (hand : NestValue)
-    (way : Link)
-    (left bs : List BranchValue) (b : BranchValue) →
-    Pairing root met link tree old now hand way left → left ≡ bs ++ b ∷ [] → count way.from b.outer.members ≡ 0 →
-    next ≡ now ++ couple_of b.inner b.outer b.pair ∷ [] → Pairing root met link tree old next hand way bs
-pairing_kept root met link tree old now next hand way left bs b p e here f =
-    let can = subst (λ (ks : List BranchValue). Augmenting hand way root ks) e p.can in
-    let l = last_of root.members bs b can.grown in
-    record {
-      can = record {
-        grown = l.grown;
-        from = omega (arith, can.from, outer_members_push way.from root.members bs b);
+      can = λ root bs can. record {
+        grown = (last_of root.members bs b can.grown).grown;
+        from = omega (arith, none, can.from, outer_members_push way.from root.members bs b);
         to = can.to;
         once = λ x. omega (arith, can.once x, outer_members_push x root.members bs b, inner_members_push x bs b);
       };
+      does = λ root bs old new can a. let l = last_of root.members bs b can.grown in
+          record {
+            joined = λ j. a.joined (each-push IsJoined old c j (record { from = l.pair_from; to = l.pair_to }));
+            firm = λ d h w r m t j. let f = each-last (IsFirm d h) bs b t in
+                a.firm d h w r m (each-left (IsFirm d h) bs (b ∷ []) t)
+                (each-push (IsFirmCouple d h) old c j (record { link = f.pair; first = f.inner; second = f.outer }));
+            places = λ x. omega (
+              arith,
+              a.places x,
+              couple_members_push x old c,
+              outer_members_push x root.members bs b,
+              inner_members_push x bs b,
+            );
+            sums = λ F add. omega (arith, a.sums F add, couple_bands_push F add old c, branch_bands_push F add bs b);
+          };
+    }
+
+pub pairing_more : (root met : NestValue) (link : Link) (tree : List BranchValue) (old now next : List CoupleValue) (hand : NestValue)
+    (way : Link) (left bs : List BranchValue) (b : BranchValue) (c : CoupleValue) (more : NestValue) (on : Link) →
+    Pairing root met link tree old now hand way left → left ≡ bs ++ b ∷ [] → PairsAt hand way b c more on →
+    next ≡ now ++ c ∷ [] → Pairing root met link tree old next more on bs
+pairing_more root met link tree old now next hand way left bs b c more on p e s f =
+    let can = subst (λ (ks : List BranchValue). Augmenting hand way root ks) e p.can in
+    record {
+      can = s.can root bs can;
       does = λ new a. p.does new (subst (λ (ks : List BranchValue). Augments root hand way ks now new) (sym e)
-          (kept root hand way bs b now new can (subst (λ (ks : List CoupleValue). Augments root hand way bs ks new) f a)));
+          (s.does root bs now new can (subst (λ (ks : List CoupleValue). Augments root more on bs ks new) f a)));
     }
 
 at_root : (root hand : NestValue) (way : Link) (now : List CoupleValue) → Augmenting hand way root []

@@ -73,6 +73,15 @@ pub record Augments (root met : NestValue) (link : Link) (tree : List BranchValu
       F (couple_bands new) ≡ F (couple_bands old) + F (bands met) + F (bands root)
       + F (branch_bands tree)
 
+-- a couple is made at the last branch and the hand goes on: what is left to do does the rest
+pub record PairsAt (hand : NestValue) (way : Link) (b : BranchValue) (c : CoupleValue)
+    (next : NestValue) (on : Link) : Type 0 where
+  pub can : (root : NestValue) (bs : List BranchValue) → Augmenting hand way root (bs ++ b ∷ [])
+      → Augmenting next on root bs
+  pub does : (root : NestValue) (bs : List BranchValue) (old new : List CoupleValue)
+      → Augmenting hand way root (bs ++ b ∷ []) → Augments root next on bs (old ++ c ∷ []) new
+      → Augments root hand way (bs ++ b ∷ []) old new
+
 -- the couple hung below an outer set by the link
 abbrev pub hung_by : Link → CoupleValue → BranchValue
 hung_by up c =

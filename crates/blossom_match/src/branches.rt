@@ -1,6 +1,6 @@
 ghost use Rattle.std.specs.Prelude.{◌≡◌, ◌++◌, ◌∷◌, [], reverse, OnOk};
-ghost use Rattle.blossom_match.specs.Slots.{branches_in, couple_in, couples_in, set_in};
-ghost use Rattle.blossom_match.specs.Trees.{Augmenting, Augments, hung_by};
+ghost use Rattle.blossom_match.specs.Slots.{branch_in, branches_in, couple_in, couples_in, set_in};
+ghost use Rattle.blossom_match.specs.Trees.{hung_by, Augmenting, Augments, PairsAt};
 
 use crate::couples::Couple;
 use crate::nest::{Link, Seat, Sets};
@@ -65,31 +65,51 @@ pub fn augment(
         (couples_in sets.now rest.new.items)) }
 {
     let mut left = tree;
-    let mut hand = met;
-    let mut way = link;
+    let mut hand = Hand {
+        set: met,
+        way: link,
+    };
     while let Some(b) = left.pop() {
-        if b.outer.holds(sets, way.from) {
-            rest.push(Couple {
-                first: b.outer,
-                second: hand,
-                link: way,
-            })?;
-            hand = b.inner;
-            way = b.up;
-        } else {
-            rest.push(Couple {
-                first: b.inner,
-                second: b.outer,
-                link: b.pair,
-            })?;
-        }
+        rest.push(hand.pair_at(sets, b))?;
     }
     rest.push(Couple {
         first: root,
-        second: hand,
-        link: way,
+        second: hand.set,
+        link: hand.way,
     })?;
     Ok(())
+}
+
+/// A set that has no partner yet, and the link to it from an outer set.
+#[derive(Clone, Copy, Drop)]
+struct Hand {
+    set: Seat,
+    way: Link,
+}
+
+impl Hand {
+    /// The couple at the branch. Where the way comes from its outer set, that is paired with the hand,
+    /// which moves on to the inner set.
+    fn pair_at(&mut self, sets: &Sets, b: Branch) -> Couple
+        ensures { PairsAt (set_in sets.now self.old.set) self.old.way (branch_in sets.now b)
+            (couple_in sets.now result) (set_in sets.now self.new.set) self.new.way }
+    {
+        if b.outer.holds(sets, self.way.from) {
+            let couple = Couple {
+                first: b.outer,
+                second: self.set,
+                link: self.way,
+            };
+            self.set = b.inner;
+            self.way = b.up;
+            return couple;
+        }
+        Couple {
+            first: b.inner,
+            second: b.outer,
+            link: b.pair,
+        }
+    }
 }
 
 /// Puts the branches that were set aside, newest first, back into the tree.

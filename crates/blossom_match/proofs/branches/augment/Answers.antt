@@ -1,23 +1,16 @@
-use Rattle.std.proofs.Common.{arith, length, ◌≡◌, refl}
+use Rattle.std.proofs.Common.{arith, length, ◌≡◌}
 use Rattle.std.proofs.lemmas.List.{length-map}
 use Rattle.blossom_match.specs.Slots.{branch_in, branches_in, couple_in}
-use Rattle.blossom_match.proofs.AugmentLemmas.{pairing_matched, pairing_kept, pairing_done}
+use Rattle.blossom_match.proofs.AugmentLemmas.{pairing_more, pairing_done}
 use Rattle.blossom_match.proofs.ListLemmas.{mapped_last}
 use Rattle.blossom_match.proofs.branches.augment.Goals as goal
-
-pub loop-b-preserved-then-holds : goal.loop-b-preserved-then-holds
-loop-b-preserved-then-holds c =
-    let sets = c.args.sets.now in
-    pairing_matched _ _ _ _ _ _ _ _ _ (branches_in sets c.loop-b.left.items) (branches_in sets c.pop.new.self.items)
-    (branch_in sets c.in-Some.b) c.loop-b.invariant (mapped_last (branch_in sets) _ _ _ c.in-Some.ensures.items)
-    (c.if-holds.ensures.yes refl) (mapped_last (couple_in sets) _ _ _ c.in_ok-push.ensures.items)
 
 pub loop-b-preserved : goal.loop-b-preserved
 loop-b-preserved c =
     let sets = c.args.sets.now in
-    pairing_kept _ _ _ _ _ _ _ _ _ (branches_in sets c.loop-b.left.items) (branches_in sets c.pop.new.self.items)
-    (branch_in sets c.in-Some.b) c.loop-b.invariant (mapped_last (branch_in sets) _ _ _ c.in-Some.ensures.items)
-    (c.if-holds.ensures.no refl) (mapped_last (couple_in sets) _ _ _ c.in_ok-push-2.ensures.items)
+    pairing_more _ _ _ _ _ _ _ _ _ (branches_in sets c.loop-b.left.items) (branches_in sets c.pop.new.self.items)
+    (branch_in sets c.in-Some.b) _ _ _ c.loop-b.invariant (mapped_last (branch_in sets) _ _ _ c.in-Some.ensures.items)
+    c.pair_at.ensures (mapped_last (couple_in sets) _ _ _ c.in_ok-push.ensures.items)
 
 pub returns : goal.returns
 returns c =
@@ -25,4 +18,4 @@ returns c =
     let none : length (branches_in sets c.loop-b.left.items) ≡ 0 =
     omega (arith, c.in_default.ensures.cases, length-map c.loop-b.left.items (branch_in sets)) in
     pairing_done _ _ _ _ _ _ _ _ _ (branches_in sets c.loop-b.left.items) c.loop-b.invariant none
-    (mapped_last (couple_in sets) _ _ _ c.in_ok-push-3.ensures.items)
+    (mapped_last (couple_in sets) _ _ _ c.in_ok-push-2.ensures.items)
