@@ -54,6 +54,10 @@ around_push a b (k ∷ bs) c = omega (arith, around_push a b bs c)
 pub tight_back : (d : TableValue) (h : ℕ → ℕ) (l : Link) → IsSymmetric d → IsTight d h l → IsTight d h (back_of l)
 tight_back d h l sy t = omega (arith, sy l.from l.to, t)
 
+-- a set that holds one of two places, and not both
+pub no_other : (a b : ℕ) (s : NestValue) → both a b s ≡ 0 → 1 ≤ count a s.members → count b s.members ≡ 0
+no_other a b s none here = omega (arith, none, here)
+
 pub chaining_left : (link : Link) (root : NestValue) (tree left bs : List BranchValue) (b : BranchValue) (chain next : List PartValue)
     (aside : List BranchValue) (way : Link) (to : ℕ) →
     Chaining link root tree left chain aside way to → left ≡ bs ++ b ∷ [] → 1 ≤ count way.from b.outer.members → count to b.outer.members
@@ -242,6 +246,14 @@ chaining_aside link root tree left bs b chain aside next way to c e away off f =
         r.3,
       );
     }
+
+-- the same chain, its ends by other names
+pub chaining_ends : (link : Link) (root : NestValue) (tree left : List BranchValue) (chain : List PartValue) (aside : List BranchValue)
+    (way on : Link) (to end : ℕ) → Chaining link root tree left chain aside way to → on ≡ way → end ≡ to
+    → Chaining link root tree left chain aside on end
+chaining_ends link root tree left chain aside way on to end c e f =
+    subst (λ (l : Link). Chaining link root tree left chain aside l end) (sym e)
+    (subst (λ (x : ℕ). Chaining link root tree left chain aside way x) (sym f) c)
 
 pub chaining_start : (link : Link) (root : NestValue) (tree : List BranchValue) (chain : List PartValue) (aside : List BranchValue)
     → Shrinking link root tree → chain ≡ [] → aside ≡ [] →

@@ -23,6 +23,7 @@ pub mod Widths
 pub mod Reaches
 pub mod Aims
 pub mod Slots
+pub mod Climbs
 pub mod SlotProps
 pub mod States
 pub mod Phases

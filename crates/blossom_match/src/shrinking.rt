@@ -1,9 +1,10 @@
-ghost use Rattle.std.specs.Prelude.{◌≡◌, ◌∷◌, ◌++◌, [], ℕ, IfOk, OnOk};
-ghost use Rattle.blossom_match.specs.Bands.{Kept};
-ghost use Rattle.blossom_match.specs.Rings.{back_of, bands_in};
+ghost use Rattle.std.specs.Prelude.{◌≡◌, ◌≤◌, ◌∷◌, ◌++◌, [], ℕ, IsTrue, false, IfOk, OnOk};
+ghost use Rattle.blossom_match.specs.Bands.{count, Kept};
+ghost use Rattle.blossom_match.specs.Climbs.{Climbs};
+ghost use Rattle.blossom_match.specs.Rings.{bands_in};
 ghost use Rattle.blossom_match.specs.Shrinks.{part_of, ring_value, Closable, Shrinking, Shrinks};
-ghost use Rattle.blossom_match.specs.Slots.{branches_in, parts_in, set_in, AreSets, Inserts};
-ghost use Rattle.blossom_match.specs.Trees.{all_bands};
+ghost use Rattle.blossom_match.specs.Slots.{branches_in, members_at, parts_in, set_in, AreSets, Inserts};
+ghost use Rattle.blossom_match.specs.Trees.{all_bands, both};
 
 use crate::branches::{Branch, give_back};
 use crate::nest::{Link, Part, Seat, Sets, ring_of};
@@ -28,94 +29,107 @@ pub fn shrink(
         × Shrinks key link (set_in sets.old root) (set_in sets.new top)
         (branches_in sets.old tree.old.items) (branches_in sets.new tree.new.items)) }
 {
-    let mut chain = VecDeque::new(alloc);
+    let mut chain = Chain {
+        way: link,
+        parts: VecDeque::new(alloc),
+        to: link.to,
+    };
     let mut aside = Vec::new(alloc);
-    let mut way = link;
-    let mut to = link.to;
     while let Some(b) = tree.pop() {
-        let at_left = b.outer.holds(sets, way.from);
-        let at_right = b.outer.holds(sets, to);
-        if at_left {
-            if at_right {
-                let ring = close(alloc, sets, b.outer, way, chain, to)?;
-                tree.push(Branch {
-                    up: b.up,
-                    inner: b.inner,
-                    pair: b.pair,
-                    outer: ring,
-                })?;
-                give_back(tree, aside)?;
-                return Ok(root);
-            }
-            push_left(&mut chain, b, way)?;
-            way = b.up;
-        } else if at_right {
-            push_right(&mut chain, b)?;
-            to = b.up.from;
-        } else {
-            aside.push(b)?;
+        if chain.ends_in(sets, b.outer) {
+            let outer = chain.close(alloc, sets, b.outer)?;
+            tree.push(Branch { outer, ..b })?;
+            give_back(tree, aside)?;
+            return Ok(root);
         }
+        chain.climb(sets, b, &mut aside)?;
     }
-    let ring = close(alloc, sets, root, way, chain, to)?;
+    let ring = chain.close(alloc, sets, root)?;
     give_back(tree, aside)?;
     Ok(ring)
 }
 
-/// The set that both arms lead to, and the chain of the others.
-fn close(
-    alloc: Global,
-    sets: &mut Sets,
-    top: Seat,
+/// A chain of parts. The `way` leads into the first part, and the link of the last one to the place
+/// `to`; without parts the way does.
+#[derive(Drop)]
+struct Chain {
     way: Link,
-    chain: VecDeque<Part>,
+    parts: VecDeque<Part>,
     to: u32,
-) -> Result<Seat, Memory>
-    requires can { Closable (set_in sets.old top) way (parts_in sets.old chain.items) to }
-    requires kept { Kept (set_in sets.old top) }
-    requires sets { AreSets sets.old (bands_in (part_of (set_in sets.old top) way
-        ∷ parts_in sets.old chain.items)) }
-    ensures is { IfOk result (λ s. set_in sets.new s ≡ ring_value s.key (set_in sets.old top) way
-        (parts_in sets.old chain.items)) }
-    ensures inserts { IfOk result (λ s. Inserts sets.old sets.new s.key) }
-{
-    let mut ring = chain;
-    ring.push_front(Part {
-        seat: top,
-        next: way,
-    })?;
-    let parts = listed(alloc, ring)?;
-    ring_of(alloc, sets, parts)
 }
 
-/// Puts the inner and the outer set of the branch before the chain.
-fn push_left(chain: &mut VecDeque<Part>, b: Branch, way: Link) -> Result<(), Memory>
-    ensures { OnOk result (chain.new.items ≡ record { seat = b.inner; next = b.pair }
-        ∷ record { seat = b.outer; next = way } ∷ chain.old.items) }
-{
-    chain.push_front(Part {
-        seat: b.outer,
-        next: way,
-    })?;
-    chain.push_front(Part {
-        seat: b.inner,
-        next: b.pair,
-    })?;
-    Ok(())
-}
+impl Chain {
+    /// Whether the set holds both ends.
+    fn ends_in(&self, sets: &Sets, s: Seat) -> bool
+        ensures yes { IsTrue result → (1 ≤ count self.now.way.from (members_at sets.now s.key))
+            × (1 ≤ count self.now.to (members_at sets.now s.key)) }
+        ensures no { result ≡ false → both self.now.way.from self.now.to (set_in sets.now s) ≡ 0 }
+    {
+        s.holds(sets, self.way.from) && s.holds(sets, self.to)
+    }
 
-/// Puts the outer and the inner set of the branch behind the chain, their links from the other ends.
-fn push_right(chain: &mut VecDeque<Part>, b: Branch) -> Result<(), Memory>
-    ensures { OnOk result (chain.new.items
-        ≡ (chain.old.items ++ record { seat = b.outer; next = back_of b.pair } ∷ [])
-        ++ record { seat = b.inner; next = back_of b.up } ∷ []) }
-{
-    chain.push_back(Part {
-        seat: b.outer,
-        next: b.pair.back(),
-    })?;
-    chain.push_back(Part {
-        seat: b.inner,
-        next: b.up.back(),
-    })?;
-    Ok(())
+    /// Goes on by the branch at the end that is in its outer set, or sets it aside.
+    fn climb(&mut self, sets: &Sets, b: Branch, aside: &mut Vec<Branch>) -> Result<(), Memory>
+        requires { both self.old.way.from self.old.to (set_in sets.now b.outer) ≡ 0 }
+        ensures { OnOk result (Climbs sets.now b self.old aside.old.items self.new aside.new.items) }
+    {
+        if b.outer.holds(sets, self.way.from) {
+            self.put_first(b.outer, b.pair)?;
+            self.put_first(b.inner, b.up)?;
+            return Ok(());
+        }
+        if b.outer.holds(sets, self.to) {
+            self.put_last(b.outer, b.pair.back())?;
+            self.put_last(b.inner, b.up.back())?;
+            return Ok(());
+        }
+        aside.push(b)?;
+        Ok(())
+    }
+
+    /// Puts a set before the parts, and the link into it.
+    fn put_first(&mut self, seat: Seat, way: Link) -> Result<(), Memory>
+        ensures parts { OnOk result (self.new.parts.items
+            ≡ record { seat = seat; next = self.old.way } ∷ self.old.parts.items) }
+        ensures way { OnOk result (self.new.way ≡ way) }
+        ensures to { OnOk result (self.new.to ≡ self.old.to) }
+    {
+        self.parts.push_front(Part {
+            seat,
+            next: self.way,
+        })?;
+        self.way = way;
+        Ok(())
+    }
+
+    /// Puts a set behind the parts, and the link from it.
+    fn put_last(&mut self, seat: Seat, next: Link) -> Result<(), Memory>
+        ensures parts { OnOk result (self.new.parts.items
+            ≡ self.old.parts.items ++ record { seat = seat; next = next } ∷ []) }
+        ensures way { OnOk result (self.new.way ≡ self.old.way) }
+        ensures to { OnOk result (self.new.to ≡ next.to) }
+    {
+        self.parts.push_back(Part { seat, next })?;
+        self.to = next.to;
+        Ok(())
+    }
+
+    /// The ring of the parts and the set that both ends are in.
+    fn close(self, alloc: Global, sets: &mut Sets, top: Seat) -> Result<Seat, Memory>
+        requires can { Closable (set_in sets.old top) self.way (parts_in sets.old self.parts.items) self.to }
+        requires kept { Kept (set_in sets.old top) }
+        requires sets { AreSets sets.old (bands_in (part_of (set_in sets.old top) self.way
+            ∷ parts_in sets.old self.parts.items)) }
+        ensures is { IfOk result (λ s. set_in sets.new s ≡ ring_value s.key (set_in sets.old top) self.way
+            (parts_in sets.old self.parts.items)) }
+        ensures inserts { IfOk result (λ s. Inserts sets.old sets.new s.key) }
+    {
+        let mut ring = self.parts;
+        ring.push_front(Part {
+            seat: top,
+            next: self.way,
+        })?;
+        let parts = listed(alloc, ring)?;
+        ring_of(alloc, sets, parts)
+    }
 }
