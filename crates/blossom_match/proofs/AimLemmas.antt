@@ -3,7 +3,7 @@ use Rattle.std.proofs.Common.{◌≡◌, ℕ, ◌+◌, ◌≤◌, ◌<◌, ◌�
 use Rattle.std.proofs.lemmas.List.{drop_all, take-append-drop}
 use Rattle.blossom_match.specs.Bands.{NestValue, count}
 use Rattle.blossom_match.specs.Couples.{couple_members}
-use Rattle.blossom_match.specs.Trees.{around, both, outer_members}
+use Rattle.blossom_match.specs.Trees.{around, both, outer_members, outer_sets}
 use Rattle.blossom_match.specs.Bounds.{holding}
 use Rattle.blossom_match.specs.Reaches.{left_by, IsLeft, IsReached}
 use Rattle.blossom_match.specs.Aims.{change_at, Aims, AimsAt, CanLead, Leaves}
@@ -13,12 +13,12 @@ use Rattle.blossom_match.specs.Values.{BranchValue, CoupleValue}
 use Rattle.blossom_match.specs.declared.least.Aim.{Aim}
 use Rattle.blossom_match.specs.declared.least.Kind.{Kind}
 use Rattle.blossom_match.proofs.ListLemmas.{drop_here, number_here, take_here}
-use Rattle.blossom_match.proofs.SumLemmas.{count-append}
+use Rattle.blossom_match.proofs.SumLemmas.{count-append, members-append, members_push}
 use Rattle.blossom_match.proofs.CoupleLemmas.{couple_here}
 use Rattle.blossom_match.proofs.RaisedLemmas.{outer_places}
 use Rattle.blossom_match.proofs.ScanLemmas.{split_here}
 use Rattle.blossom_match.proofs.ChainLemmas.{around_append}
-use Rattle.blossom_match.proofs.TreeLemmas.{base_in, couple_members-append, couple_members_push, outer-append, outer_members_push}
+use Rattle.blossom_match.proofs.TreeLemmas.{base_in}
 use Rattle.blossom_match.proofs.ReachLemmas.{around_first}
 
 aims_in : (hs reach : List ℕ) (k : Kind) (xs zs : List ℕ) (aim : Aim) → ((x : ℕ) → count x xs ≤ count x zs) → AimsAt hs reach k xs aim
@@ -61,12 +61,7 @@ aims_couple hs reach k cs i c o m n p low is one two three =
     let both_ = c.first.members ++ c.second.members in
     let at = λ (x : ℕ). count-append x c.first.members c.second.members in
     aims_join hs reach k (couple_members (take i cs)) both_ (couple_members (take (i + 1) cs)) o m p
-    (λ x. omega (
-      arith,
-      at x,
-      couple_members_push x (take i cs) c,
-      ap (λ (ks : List CoupleValue). count x (couple_members ks)) (take_here cs i c low is),
-    ))
+    (λ x. omega (arith, at x, members_push, ap (λ (ks : List CoupleValue). count x (couple_members ks)) (take_here cs i c low is)))
     one (aims_join hs reach k c.first.members c.second.members both_ m n p at two three)
 
 -- a couple's places are coupled
@@ -75,11 +70,10 @@ pub couple_within : (x : ℕ) (cs : List CoupleValue) (i : ℕ) (c : CoupleValue
 couple_within x cs i c low is =
     omega (
       arith,
-      couple_members-append x (take i cs) (drop i cs),
+      members-append,
       ap (λ (ks : List CoupleValue). count x (couple_members ks)) (take-append-drop i cs),
       ap (λ (ks : List CoupleValue). count x (couple_members ks)) (couple_here cs i c low is),
-      count-append x c.first.members (c.second.members ++ couple_members (drop (i + 1) cs)),
-      count-append x c.second.members (couple_members (drop (i + 1) cs)),
+      count-append,
     )
 
 -- one outer set more
@@ -88,9 +82,7 @@ pub aims_outer : (hs reach : List ℕ) (k : Kind) (base : List ℕ) (tree : List
     → Aims hs reach k b.outer.members m n → Aims hs reach k (outer_members base (take (i + 1) tree)) o n
 aims_outer hs reach k base tree i b o m n low is one two =
     aims_join hs reach k (outer_members base (take i tree)) b.outer.members (outer_members base (take (i + 1) tree)) o m n
-    (λ x. ap (λ (ks : List BranchValue). count x (outer_members base ks)) (take_here tree i b low is) ∙ outer_members_push x base
-    (take i tree)
-    b)
+    (λ x. omega (arith, members_push, ap (λ (ks : List BranchValue). count x (outer_members base ks)) (take_here tree i b low is)))
     one two
 
 reached_case : (t : TableValue) (hs : List ℕ) (root : NestValue) (tree : List BranchValue) (x room : ℕ) → room < FAR
@@ -118,7 +110,7 @@ below_case (suc n) t hs root tree x room r e none =
     absurd (none (omega (arith, r.apart, e)) (record { a = r.a; here = omega (arith, e); exact = r.exact }))
 below_case zero t hs root tree x room r e none = record {
   a = r.a;
-  here = omega (arith, r.here, e, outer-append r.a root.members [] tree);
+  here = omega (arith, r.here, e, members-append outer_sets r.a root.members [] tree);
   apart = omega (arith, r.apart);
   exact = r.exact;
 }
@@ -158,7 +150,7 @@ nothing_left a tree i done = ap (λ (ks : List BranchValue). count a (outer_memb
 pub root_apart : (a x : ℕ) (root : NestValue) (tree : List BranchValue) → ((y : ℕ) → count y (outer_members root.members tree) ≤ 1)
     → 1 ≤ count a root.members → count x root.members ≡ 0 → holding a x root tree ≡ 0
 root_apart a x root tree once here none =
-    let out : count a (outer_members [] tree) ≡ 0 = omega (arith, once a, here, outer-append a root.members [] tree) in
+    let out : count a (outer_members [] tree) ≡ 0 = omega (arith, once a, here, members-append outer_sets a root.members [] tree) in
     omega (arith, around_first a x [] tree out, none)
 
 -- nor one of the branch's outer set and one outside it
@@ -169,14 +161,15 @@ outer_apart a x root tree i b once low is here none =
     let s = split_here tree i b low is in
     let before = take i tree in
     let after = drop (i + 1) tree in
-    let at = ap (λ (ks : List BranchValue). count a (outer_members root.members ks)) s ∙ outer-append a root.members before (b ∷ after) in
+    let at = ap (λ (ks : List BranchValue). count a (outer_members root.members ks)) s
+    ∙ members-append outer_sets a root.members before (b ∷ after) in
     let on = count-append a b.outer.members (outer_members [] after) in
     let first : count a (outer_members root.members before) ≡ 0 = omega (arith, once a, at, on, here) in
     let last : count a (outer_members [] after) ≡ 0 = omega (arith, once a, at, on, here) in
     omega (
       arith,
       ap (λ (ks : List BranchValue). around a x ks) s,
-      around_append a x before (b ∷ after),
+      around_append,
       around_first a x root.members before first,
       around_first a x [] after last,
       base_in a root.members before,

@@ -7,7 +7,8 @@ use Rattle.blossom_match.specs.Trees.{Augmenting, Augments, PairsAt}
 use Rattle.blossom_match.specs.declared.nest.Link.{Link}
 use Rattle.blossom_match.specs.Values.{BranchValue, CoupleValue}
 use Rattle.blossom_match.proofs.ListLemmas.{each-left, each-last, each-push}
-use Rattle.blossom_match.proofs.TreeLemmas.{last_of, outer_members_push, inner_members_push, branch_bands_push, couple_members_push, couple_bands_push}
+use Rattle.blossom_match.proofs.TreeLemmas.{last_of}
+use Rattle.blossom_match.proofs.SumLemmas.{bands_push, members_push}
 
 -- what is left to do does the rest
 pub record Pairing (root met : NestValue) (link : Link) (tree : List BranchValue) (old now : List CoupleValue) (hand : NestValue)
@@ -29,28 +30,17 @@ takes_hand hand way b here =
             grown = l.grown;
             from = l.above;
             to = l.up_to;
-            once = λ x. omega (arith, can.once x, outer_members_push x root.members bs b, inner_members_push x bs b);
+            once = λ x. omega (arith, can.once x, members_push);
           };
       does = λ root bs old new can a.
-          let one : count way.from b.outer.members ≡ 1 = omega (
-            arith,
-            here,
-            can.once way.from,
-            outer_members_push way.from root.members bs b,
-          ) in
+          let one : count way.from b.outer.members ≡ 1 = omega (arith, here, can.once way.from, members_push) in
           record {
             joined = λ j. a.joined (each-push IsJoined old c j (record { from = one; to = can.to }));
             firm = λ d h w r m t j. let f = each-last (IsFirm d h) bs b t in
                 a.firm d h f.up r f.inner (each-left (IsFirm d h) bs (b ∷ []) t)
                 (each-push (IsFirmCouple d h) old c j (record { link = w; first = f.outer; second = m }));
-            places = λ x. omega (
-              arith,
-              a.places x,
-              couple_members_push x old c,
-              outer_members_push x root.members bs b,
-              inner_members_push x bs b,
-            );
-            sums = λ F add. omega (arith, a.sums F add, couple_bands_push F add old c, branch_bands_push F add bs b);
+            places = λ x. omega (arith, a.places x, members_push);
+            sums = λ F add. omega (arith, a.sums F add, bands_push F add);
           };
     }
 
@@ -61,9 +51,9 @@ keeps_hand hand way b none =
     record {
       can = λ root bs can. record {
         grown = (last_of root.members bs b can.grown).grown;
-        from = omega (arith, none, can.from, outer_members_push way.from root.members bs b);
+        from = omega (arith, none, can.from, members_push);
         to = can.to;
-        once = λ x. omega (arith, can.once x, outer_members_push x root.members bs b, inner_members_push x bs b);
+        once = λ x. omega (arith, can.once x, members_push);
       };
       does = λ root bs old new can a. let l = last_of root.members bs b can.grown in
           record {
@@ -71,14 +61,8 @@ keeps_hand hand way b none =
             firm = λ d h w r m t j. let f = each-last (IsFirm d h) bs b t in
                 a.firm d h w r m (each-left (IsFirm d h) bs (b ∷ []) t)
                 (each-push (IsFirmCouple d h) old c j (record { link = f.pair; first = f.inner; second = f.outer }));
-            places = λ x. omega (
-              arith,
-              a.places x,
-              couple_members_push x old c,
-              outer_members_push x root.members bs b,
-              inner_members_push x bs b,
-            );
-            sums = λ F add. omega (arith, a.sums F add, couple_bands_push F add old c, branch_bands_push F add bs b);
+            places = λ x. omega (arith, a.places x, members_push);
+            sums = λ F add. omega (arith, a.sums F add, bands_push F add);
           };
     }
 
@@ -102,8 +86,8 @@ at_root root hand way now can =
     record {
       joined = λ j. each-push IsJoined now c j (record { from = one; to = can.to });
       firm = λ d h w r m t j. each-push (IsFirmCouple d h) now c j (record { link = w; first = r; second = m });
-      places = λ x. omega (arith, couple_members_push x now c);
-      sums = λ F add. omega (arith, couple_bands_push F add now c, add [] []);
+      places = λ x. omega (arith, members_push);
+      sums = λ F add. omega (arith, bands_push F add, add [] []);
     }
 
 pub pairing_done : (root met : NestValue) (link : Link) (tree : List BranchValue) (old now new : List CoupleValue) (hand : NestValue)

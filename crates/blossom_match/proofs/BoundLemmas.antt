@@ -99,7 +99,7 @@ not_both s a b none = omega (arith, around_none a b s.root.members s.tree none, 
 
 around_same : (a : ℕ) (base : List ℕ) (tree : List BranchValue) → count a base + around a a tree ≡ count a (outer_members base tree)
 around_same a base [] = omega arith
-around_same a base (c ∷ cs) = omega (arith, around_same a base cs, count-append a c.outer.members (outer_members base cs))
+around_same a base (c ∷ cs) = omega (arith, around_same a base cs, count-append)
 
 differ_in : (a b : ℕ) (xs ys : List ℕ) → ((x : ℕ) → count x xs + count x ys ≤ 1) → 1 ≤ count a xs → 1 ≤ count b ys → a ≢ b
 differ_in a b xs ys once ha hb e = omega (arith, once b, hb, ha, ap (λ (x : ℕ). count x xs) e)

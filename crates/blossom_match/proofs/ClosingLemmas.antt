@@ -2,7 +2,7 @@
 use Rattle.std.proofs.Common.{◌≡◌, ℕ, ◌+◌, ◌%◌, ◌≤◌, zero, suc, List, [], ◌∷◌, ◌++◌, arith, refl, sym, subst}
 use Rattle.blossom_match.specs.TableValue.{TableValue}
 use Rattle.blossom_match.specs.Lists.{Each}
-use Rattle.blossom_match.specs.Bands.{bands, count, height, rows_of, IsPaid}
+use Rattle.blossom_match.specs.Bands.{bands, count, height, rows_of, IsPaid, TollIsPaid}
 use Rattle.blossom_match.specs.Rows.{IsNear}
 use Rattle.blossom_match.specs.Rings.{members_in, bands_in, tolls_in, Linked, ring_tolls, tolls_along, IsLinkedRing, IsRing, AllKept, rows_in}
 use Rattle.blossom_match.specs.RingRows.{ring_of, ring_row}
@@ -12,7 +12,7 @@ use Rattle.blossom_match.specs.Trees.{outer_members, inner_members, IsGrown}
 use Rattle.blossom_match.specs.declared.nest.Link.{Link}
 use Rattle.blossom_match.specs.Values.{BranchValue, PartValue}
 use Rattle.blossom_match.proofs.ListLemmas.{each-append, each-map}
-use Rattle.blossom_match.proofs.SumLemmas.{count-append, height-append, low, none_tall, IsPaid-append}
+use Rattle.blossom_match.proofs.SumLemmas.{count-append, height-append, low, none_tall}
 use Rattle.blossom_match.proofs.RingLemmas.{made_kept, none_in}
 use Rattle.blossom_match.proofs.RowLemmas.{ring_near}
 use Rattle.blossom_match.proofs.TreeLemmas.{outer_members_base}
@@ -74,7 +74,7 @@ ring_is_paid d h p ps l a t = tight_is_paid d h p (ps ++ p ∷ []) l a.0 (AllLoc
 
 paid_inside : (d : TableValue) (h : ℕ → ℕ) (ps : List PartValue) → Each (IsFirmPart d h) ps → IsPaid d (tolls_in ps)
 paid_inside d h [] f = tt
-paid_inside d h (p ∷ ps) f = IsPaid-append d p.nest.tolls (tolls_in ps) f.0.nest.paid (paid_inside d h ps f.1)
+paid_inside d h (p ∷ ps) f = each-append (TollIsPaid d) p.nest.tolls (tolls_in ps) f.0.nest.paid (paid_inside d h ps f.1)
 
 near_inside : (d : TableValue) (h : ℕ → ℕ) (ps : List PartValue) → Each (IsFirmPart d h) ps → Each (IsNear d) (rows_in ps)
 near_inside d h [] f = tt
@@ -88,7 +88,7 @@ local_case : (n : ℕ) (d : TableValue) (h : ℕ → ℕ) (x : ℕ) (p : PartVal
 local_case zero d h x p ps e kept s once rest =
     omega (arith, height-append x (bands p.nest) (bands_in ps), low x p.nest kept.0 e, rest e)
 local_case (suc n) d h x p ps e kept s once rest =
-    let none = none_tall x (bands_in ps) (none_in x ps kept.1 (omega (arith, count-append x p.nest.members (members_in ps), e))) in
+    let none = none_tall x (bands_in ps) (none_in x ps kept.1 (omega (arith, count-append, e))) in
     omega (arith, height-append x (bands p.nest) (bands_in ps), s.local x (omega (arith, e)), none)
 
 -- a member of one of the parts has the height there that it has over all sets
@@ -108,7 +108,7 @@ pub ring_sound : (d : TableValue) (h : ℕ → ℕ) (key : ℕ) (p : PartValue) 
     → IsSound d h (ring_of key (p ∷ ps))
 ring_sound d h key p ps ring once firm even = record {
   kept = made_kept key (members_in (p ∷ ps)) 0 (ring_row (p ∷ ps)) (p ∷ ps) (refl, ring);
-  paid = IsPaid-append d (ring_tolls (p ∷ ps)) (tolls_in (p ∷ ps))
+  paid = each-append (TollIsPaid d) (ring_tolls (p ∷ ps)) (tolls_in (p ∷ ps))
       (ring_is_paid d h p ps ring.linked (each-map (IsFirmPart d h) (IsLocal h) (λ q f. f.nest.local) (p ∷ ps) firm)
       (each-map (IsFirmPart d h) (λ (k : PartValue). IsTight d h k.next) (λ q f. f.next) (p ∷ ps) firm))
       (paid_inside d h (p ∷ ps) firm);
@@ -144,12 +144,5 @@ tree_even d h r base (b ∷ bs) g f even x some =
     even_case (count x b.inner.members) (h r + h x) (count x (inner_members bs)) (count x (outer_members (b.outer.members ++ base) bs))
     (inside x)
     (tree_even d h r (b.outer.members ++ base) bs g.4 f.1 (λ y here. with_more (count y b.outer.members) (h r + h y) (count y base)
-    (outside y) (even y) (omega (arith, here, count-append y b.outer.members base))) x)
-    (omega (
-      arith,
-      some,
-      count-append x b.inner.members (inner_members bs),
-      count-append x b.outer.members
-          (outer_members base bs),
-      outer_members_base x b.outer.members base bs,
-    ))
+    (outside y) (even y) (omega (arith, here, count-append))) x)
+    (omega (arith, some, count-append, outer_members_base x b.outer.members base bs))

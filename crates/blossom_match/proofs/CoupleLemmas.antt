@@ -16,12 +16,7 @@ pub couple_later : (x : ℕ) (cs : List CoupleValue) (i : ℕ) (c : CoupleValue)
     → count x c.second.members ≡ 0 →
     1 ≤ count x (couple_members (drop i cs)) → 1 ≤ count x (couple_members (drop (i + 1) cs))
 couple_later x cs i c lt is off none some =
-    omega (
-      arith,
-      ap (λ (ks : List CoupleValue). count x (couple_members ks)) (couple_here cs i c lt is),
-      count-append x c.first.members (c.second.members ++ couple_members (drop (i + 1) cs)),
-      count-append x c.second.members (couple_members (drop (i + 1) cs)),
-    )
+    omega (arith, ap (λ (ks : List CoupleValue). count x (couple_members ks)) (couple_here cs i c lt is), count-append)
 
 pub taken_out : (x : ℕ) (old new : List CoupleValue) (i : ℕ) (c : CoupleValue) → i < length old → c ≡ get_or old i c → new
     ≡ take i old ++ drop (suc i) old → CoupleHolds x old i →

@@ -49,7 +49,7 @@ places_more x n xs new e f =
 pub place_there : (t : TableValue) (place : ℕ) (couples : List CoupleValue) (free heights : List ℕ)
     → Stands t couples (free ++ place ∷ []) heights → place < length heights
 place_there t place couples free heights st =
-    omega (arith, st.size, place_in t place (omega (arith, st.standing.places place, count-append place free (place ∷ []), hit_same place)))
+    omega (arith, st.size, place_in t place (omega (arith, st.standing.places place, count-append, hit_same place)))
 
 pub begins : (t : TableValue) (place : ℕ) (couples : List CoupleValue) (free heights : List ℕ) (s : SearchValue)
     → Stands t couples (free ++ place ∷ []) heights → 1 ≤ length free → Begins t place couples free heights s → CanSearch t s

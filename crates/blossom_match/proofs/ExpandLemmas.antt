@@ -3,7 +3,7 @@ use Rattle.std.proofs.Common.{◌≡◌, ℕ, ◌+◌, ◌%◌, ◌≤◌, ◌<�
 use Rattle.std.proofs.lemmas.List.{length-take, take-append-drop}
 use Rattle.blossom_match.specs.TableValue.{TableValue}
 use Rattle.blossom_match.specs.Lists.{Each}
-use Rattle.blossom_match.specs.Bands.{Adds, Band, NestValue, bands, count, height, rows_of, IsPaid}
+use Rattle.blossom_match.specs.Bands.{Adds, Band, NestValue, bands, count, height, rows_of, IsPaid, TollIsPaid}
 use Rattle.blossom_match.specs.Rows.{IsNear}
 use Rattle.blossom_match.specs.Rings.{members_in, bands_in, tolls_in, nest_of, ring_tolls, rows_in, AllKept, FirstHolds, IsRing}
 use Rattle.blossom_match.specs.Couples.{IsJoined}
@@ -13,11 +13,11 @@ use Rattle.blossom_match.specs.Lays.{CanLay, Expanding, Expands, FirstComesApart
 use Rattle.blossom_match.specs.declared.nest.Link.{Link}
 use Rattle.blossom_match.specs.Values.{BranchValue, CoupleValue, PartValue}
 use Rattle.blossom_match.proofs.ListLemmas.{each-append, each-left, each-right, each-last}
-use Rattle.blossom_match.proofs.SumLemmas.{count-append, height-append, low, none_tall, size-append, IsPaid-left, IsPaid-right}
+use Rattle.blossom_match.proofs.SumLemmas.{bands-append, bands_push, count-append, height-append, low, members-append, members_push, none_tall, size-append}
 use Rattle.blossom_match.proofs.RingLemmas.{none_in}
 use Rattle.blossom_match.proofs.ClosingLemmas.{AllLocal, ChainTight, IsLocal, paid_is_tight}
 use Rattle.blossom_match.proofs.MirrorLemmas.{linked_left}
-use Rattle.blossom_match.proofs.TreeLemmas.{last_of, outer_members_push, inner_members_push, outer_members_base, branch_bands_push, branch_bands-append, inner_bands_push, inner_bands-append, couple_bands-append, couple_members-append, grown_more, grown-append, outer-append, inner-append}
+use Rattle.blossom_match.proofs.TreeLemmas.{last_of, outer_members_base, grown_more, grown-append}
 
 -- in a ring without a width each part alone makes the heights of its members
 parts_local : (h : ℕ → ℕ) (ps : List PartValue) → AllKept ps → ((x : ℕ) → count x (members_in ps) ≤ 1)
@@ -57,13 +57,13 @@ firm_each d h (p ∷ ps) kept at t paid near even =
         next = t.0;
         nest = record {
           kept = kept.0;
-          paid = IsPaid-left d p.nest.tolls (tolls_in ps) paid;
+          paid = each-left (TollIsPaid d) p.nest.tolls (tolls_in ps) paid;
           near = each-left (IsNear d) (rows_of p.nest) (rows_in ps) near;
           local = at.0;
           even = λ x y hx hy. even x y (omega (arith, c x, hx)) (omega (arith, c y, hy));
         };
       },
-      firm_each d h ps kept.1 at.1 t.1 (IsPaid-right d p.nest.tolls (tolls_in ps) paid)
+      firm_each d h ps kept.1 at.1 t.1 (each-right (TollIsPaid d) p.nest.tolls (tolls_in ps) paid)
           (each-right (IsNear d) (rows_of p.nest) (rows_in ps) near)
           (λ x y hx hy. even x y (omega (arith, c x, hx)) (omega (arith, c y, hy))),
     )
@@ -76,9 +76,9 @@ parts_firm d h key near [] ring once s = tt
 parts_firm d h key near (p ∷ ps) ring once s =
     let at = parts_local h (p ∷ ps) ring.kept once (λ x here. omega (arith, s.local x here)) in
     let tight = paid_is_tight d h p (ps ++ p ∷ []) ring.linked at.0 (AllLocal_on h ps p at.1 at.0)
-    (IsPaid-left d (ring_tolls (p ∷ ps)) (tolls_in (p ∷ ps)) s.paid) in
+    (each-left (TollIsPaid d) (ring_tolls (p ∷ ps)) (tolls_in (p ∷ ps)) s.paid) in
     firm_each d h (p ∷ ps) ring.kept at (links_tight d h p p ps tight)
-    (IsPaid-right d (ring_tolls (p ∷ ps)) (tolls_in (p ∷ ps)) s.paid) s.near.1 s.even
+    (each-right (TollIsPaid d) (ring_tolls (p ∷ ps)) (tolls_in (p ∷ ps)) s.paid) s.near.1 s.even
 
 pub drop_past : (xs ys : List BranchValue) → drop (length xs) (xs ++ ys) ≡ ys
 drop_past [] ys = refl
@@ -98,7 +98,7 @@ pub grown-right : (base : List ℕ) (xs ys : List BranchValue) → IsGrown base 
 grown-right base [] ys g = g
 grown-right base (b ∷ xs) ys g =
     grown_more (outer_members (b.outer.members ++ base) xs) (b.outer.members ++ outer_members base xs) ys
-    (λ x. omega (arith, outer_members_base x b.outer.members base xs, count-append x b.outer.members (outer_members base xs)))
+    (λ x. omega (arith, outer_members_base x b.outer.members base xs, count-append))
     (grown-right (b.outer.members ++ base) xs ys g.4)
 
 -- the tree as the branches before, the one that comes apart and those after it
@@ -151,21 +151,14 @@ split_at root old kept bs b later at ex e f g =
       pair_from = l.pair_from;
       pair_to = l.pair_to;
       after = grown-right root.members (bs ++ b ∷ []) later grown;
-      once = λ x. omega (
-        arith,
-        ex.once x,
-        ap (λ (ks : List BranchValue). count x (inner_members ks)) is,
-        inner-append x
-            (bs ++ b ∷ []) later,
-        inner_members_push x bs b,
-      );
+      once = λ x. omega (arith, ex.once x, ap (λ (ks : List BranchValue). count x (inner_members ks)) is, members-append, members_push);
     }
 
 into_ring : (way : Link) (ring : List PartValue) → IsRing ring → FirstHolds way.to ring → ((x : ℕ) → count x (members_in ring) ≤ 1)
     → WayInto way ring
 into_ring way [] r first once = absurd first
 into_ring way (p ∷ ps) r first once = (
-  omega (arith, first, once way.to, count-append way.to p.nest.members (members_in ps)),
+  omega (arith, first, once way.to, count-append),
   linked_left p
       ps (p ∷ []) r.linked,
 )
@@ -206,28 +199,14 @@ expanded key root old bs b later mid new parts ring was cs now s is made g l e f
     (subst (λ (ks : List BranchValue). Expands key root ks (mid ++ later) was (was ++ cs)) (sym s.is) (record {
       grown = grown-append root.members mid later l.grown (grown_more (outer_members root.members tree)
           (outer_members root.members mid) later
-          (λ x. omega (arith, l.more x, outer_members_push x root.members bs b)) s.after);
+          (λ x. omega (arith, l.more x, members_push)) s.after);
       joined = λ j. each-append IsJoined was cs j l.joined;
-      places = λ x. omega (
-        arith,
-        outer-append x root.members mid later,
-        inner-append x mid later,
-        couple_members-append x was cs,
-        outer-append x root.members tree later,
-        inner-append x tree later,
-        outer_members_push x root.members bs b,
-        inner_members_push x bs b,
-        l.places x,
-        g.places x,
-        inside x,
-      );
+      places = λ x. omega (arith, members-append, members_push, l.places x, g.places x, inside x);
       ring = members_in parts;
       sums = λ F add. omega (
         arith,
-        branch_bands-append F add mid later,
-        couple_bands-append F add was cs,
-        branch_bands-append F add tree later,
-        branch_bands_push F add bs b,
+        bands-append F add,
+        bands_push F add,
         l.sums F add,
         g.sums F add,
         at F add,
@@ -235,10 +214,8 @@ expanded key root old bs b later mid new parts ring was cs now s is made g l e f
       );
       fewer = omega (
         arith,
-        inner_bands-append sizes size-append mid later,
-        couple_bands-append sizes size-append was cs,
-        inner_bands-append sizes size-append tree later,
-        inner_bands_push sizes size-append bs b,
+        bands-append sizes size-append,
+        bands_push sizes size-append,
         l.fewer,
         g.sums sizes size-append,
         at sizes size-append,

@@ -4,10 +4,10 @@ use Rattle.std.proofs.lemmas.Bool.{eqb-true}
 use Rattle.blossom_match.proofs.RowLemmas.{single_near}
 use Rattle.blossom_match.specs.Rows.{single_row}
 use Rattle.blossom_match.specs.Lists.{Each}
-use Rattle.blossom_match.specs.Bands.{Band, NestValue, NoneHold, apart, bands, count, height, hit, load}
+use Rattle.blossom_match.specs.Bands.{Band, NestValue, apart, bands, count, height, hit, load}
 use Rattle.blossom_match.specs.Rings.{single_of}
-use Rattle.blossom_match.specs.Couples.{couple_members, couple_bands}
-use Rattle.blossom_match.specs.Sound.{IsFirm, IsFirmCouple, IsSound}
+use Rattle.blossom_match.specs.Couples.{couple_bands}
+use Rattle.blossom_match.specs.Sound.{IsFirm, IsSound}
 use Rattle.blossom_match.specs.Trees.{branch_bands, inner_members, outer_members, Augments, IsGrown}
 use Rattle.blossom_match.specs.Searches.{height_at, height_of, outers, Ends, IsSearch, IsStanding, CanStepAt}
 use Rattle.blossom_match.specs.TableValue.{TableValue}
@@ -15,9 +15,9 @@ use Rattle.blossom_match.specs.Tables.{entry, IsTable}
 use Rattle.blossom_match.specs.declared.nest.Link.{Link}
 use Rattle.blossom_match.specs.Values.{BranchValue, CoupleValue, SearchValue, StandingValue}
 use Rattle.blossom_match.specs.declared.search.Step.TheVariants.{Meet}
-use Rattle.blossom_match.proofs.SumLemmas.{count-append, height-append, hit_is, hit_same, load-append, load-comm, load_alone, low, none_hold, NoneHold-append}
+use Rattle.blossom_match.proofs.SumLemmas.{count-append, height-append, hit_is, hit_same, load-append, load-comm, load_alone, low, none_hold}
 use Rattle.blossom_match.proofs.RingLemmas.{made_kept}
-use Rattle.blossom_match.proofs.SearchLemmas.{is_one, low_branches, low_couples, place_in}
+use Rattle.blossom_match.proofs.SearchLemmas.{is_one, low_branches, low_couples, none_branches, none_couples, place_in}
 use Rattle.blossom_match.proofs.TableLemmas.{entry-comm}
 use Rattle.blossom_match.proofs.TreeLemmas.{base_in}
 
@@ -33,26 +33,6 @@ load_of-comm s a b = omega (
   load-comm a b
       (couple_bands s.rest),
 )
-
-none_branches : (d : TableValue) (h : ℕ → ℕ) (x : ℕ) (base : List ℕ) (tree : List BranchValue) → Each (IsFirm d h) tree
-    → count x (outer_members base tree) ≡ 0 → count x (inner_members tree) ≡ 0 → NoneHold x (branch_bands tree)
-none_branches d h x base [] f none empty = tt
-none_branches d h x base (b ∷ bs) f none empty =
-    let o = count-append x b.outer.members (outer_members base bs) in
-    let i = count-append x b.inner.members (inner_members bs) in
-    NoneHold-append x (bands b.inner) (bands b.outer ++ branch_bands bs) (none_hold x b.inner f.0.inner.kept (omega (arith, i, empty)))
-    (NoneHold-append x (bands b.outer) (branch_bands bs) (none_hold x b.outer f.0.outer.kept (omega (arith, o, none)))
-    (none_branches d h x base bs f.1 (omega (arith, o, none)) (omega (arith, i, empty))))
-
-none_couples : (d : TableValue) (h : ℕ → ℕ) (x : ℕ) (cs : List CoupleValue) → Each (IsFirmCouple d h) cs → count x (couple_members cs) ≡ 0
-    → NoneHold x (couple_bands cs)
-none_couples d h x [] f none = tt
-none_couples d h x (c ∷ cs) f none =
-    let o = count-append x c.first.members (c.second.members ++ couple_members cs) in
-    let i = count-append x c.second.members (couple_members cs) in
-    NoneHold-append x (bands c.first) (bands c.second ++ couple_bands cs) (none_hold x c.first f.0.first.kept (omega (arith, o, none)))
-    (NoneHold-append x (bands c.second) (couple_bands cs) (none_hold x c.second f.0.second.kept (omega (arith, o, i, none)))
-    (none_couples d h x cs f.1 (omega (arith, o, i, none))))
 
 -- to a free place the load is the height
 load_free : (t : TableValue) (h : ℕ → ℕ) (s : SearchValue) (x f : ℕ) → IsSearch t h s → 1 ≤ count f s.free → load_of s x f ≡ height_of s x

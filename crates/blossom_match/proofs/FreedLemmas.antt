@@ -15,12 +15,11 @@ use Rattle.blossom_match.specs.declared.nest.Slot.{Slot}
 use Rattle.blossom_match.specs.declared.couples.Couple.{Couple}
 use Rattle.blossom_match.specs.declared.branches.Branch.{Branch}
 use Rattle.blossom_match.proofs.ListLemmas.{mapped_drop, mapped_last, mapped_take}
-use Rattle.blossom_match.proofs.SumLemmas.{hit_same, uses-append}
+use Rattle.blossom_match.proofs.SumLemmas.{bands-append, bands_push, hit_same, uses-append}
 use Rattle.blossom_match.proofs.SlotLemmas.{can_left, can_right, has_slot, is_made, keep_branches, keep_couples, keep_parts, keep_seat, kept_append, parts_show, removed_keeps, set_made, set_of, sets_fewer, AreKept}
 use Rattle.blossom_match.proofs.OpenLemmas.{made_ring}
 use Rattle.blossom_match.proofs.ShrunkLemmas.{all_uses}
 use Rattle.blossom_match.proofs.ExpandLemmas.{can_lay, expanded, grows_at, split_at, SplitAt}
-use Rattle.blossom_match.proofs.TreeLemmas.{branch_bands_push, branch_bands-append}
 
 -- the sets of a search without the one that comes apart: the root, the branches before, its parts,
 -- its partner, the branches after it, and the couples
@@ -53,8 +52,8 @@ split_uses k key root tree bs b later rest ps near is made =
       all_uses k root tree rest,
       others_uses k root bs ps b.outer later rest,
       ap (λ (ks : List BranchValue). uses k (branch_bands ks)) is,
-      branch_bands-append (uses k) (uses-append k) (bs ++ b ∷ []) later,
-      branch_bands_push (uses k) (uses-append k) bs b,
+      bands-append (uses k) (uses-append k),
+      bands_push (uses k) (uses-append k),
       ap (λ (v : NestValue). uses k (bands v)) made,
     )
 
@@ -66,8 +65,8 @@ inner_used k root tree bs b later rest is =
       arith,
       all_uses k root tree rest,
       ap (λ (ks : List BranchValue). uses k (branch_bands ks)) is,
-      branch_bands-append (uses k) (uses-append k) (bs ++ b ∷ []) later,
-      branch_bands_push (uses k) (uses-append k) bs b,
+      bands-append (uses k) (uses-append k),
+      bands_push (uses k) (uses-append k),
     )
 
 -- a ring has parts

@@ -3,16 +3,16 @@ use Rattle.std.proofs.Common.{◌≡◌, ℕ, ◌%◌, ◌≤◌, inl, inr, List
 use Rattle.blossom_match.specs.TableValue.{TableValue}
 use Rattle.blossom_match.specs.Lists.{Each}
 use Rattle.blossom_match.specs.Bands.{Band, NestValue, bands, count}
-use Rattle.blossom_match.specs.Rings.{members_in, bands_in, Linked}
+use Rattle.blossom_match.specs.Rings.{bands_in, Linked}
 use Rattle.blossom_match.specs.Couples.{couples_along, IsJoined}
 use Rattle.blossom_match.specs.Sound.{IsFirm, IsFirmCouple, IsFirmPart}
 use Rattle.blossom_match.specs.Lays.{EvenlyHolds, WayInto, CanLay, Lays}
 use Rattle.blossom_match.specs.declared.nest.Link.{Link}
 use Rattle.blossom_match.specs.Values.{BranchValue, CoupleValue, PartValue}
 use Rattle.blossom_match.proofs.ListLemmas.{each-push}
-use Rattle.blossom_match.proofs.SumLemmas.{count-append, size-append}
+use Rattle.blossom_match.proofs.SumLemmas.{bands_push, count-append, members_push, size-append}
 use Rattle.blossom_match.proofs.OpenLemmas.{members_coupled, bands_coupled}
-use Rattle.blossom_match.proofs.TreeLemmas.{grown_push, outer_members_push, inner_members_push, branch_bands_push, inner_bands_push}
+use Rattle.blossom_match.proofs.TreeLemmas.{grown_push}
 
 pub record Laying (root : NestValue) (old : List BranchValue) (ring : List PartValue) (up pair : Link) (outer : NestValue)
     (now : List BranchValue)
@@ -57,18 +57,12 @@ can_more root now p q ps way pair outer c none =
     let e = not_here pair.from p q ps c.exit none in
     record {
       grown = grown_push root.members now b c.grown c.from c.into.0 c.into.1.0.0 c.into.1.0.1;
-      from = omega (arith, source_of q ps pair.from e c.into.1.1, outer_members_push q.next.from root.members now b);
+      from = omega (arith, source_of q ps pair.from e c.into.1.1, members_push);
       into = into_next q ps pair.from e c.into.1.1;
       exit = e;
       odd = omega (arith, c.odd);
       to = c.to;
-      once = λ x. omega (
-        arith,
-        c.once x,
-        count-append x p.nest.members (q.nest.members ++ members_in ps),
-        count-append x q.nest.members
-            (members_in ps),
-      );
+      once = λ x. omega (arith, c.once x, count-append);
     }
 
 does_more : (root : NestValue) (now : List BranchValue) (p q : PartValue) (ps : List PartValue) (way pair : Link) (outer : NestValue)
@@ -81,31 +75,17 @@ does_more root now p q ps way pair outer new cs l =
     record {
       grown = l.grown;
       joined = l.joined;
-      places = λ x. omega (
-        arith,
-        l.places x,
-        outer_members_push x root.members now b,
-        inner_members_push x now b,
-        count-append x p.nest.members (q.nest.members ++ members_in ps),
-        count-append x q.nest.members (members_in ps),
-      );
-      more = λ x. omega (arith, l.more x, outer_members_push x root.members now b);
+      places = λ x. omega (arith, l.places x, members_push, count-append);
+      more = λ x. omega (arith, l.more x, members_push);
       added = b ∷ l.added;
       last = l.last;
       is = l.is ∙ append_assoc now (b ∷ []) (l.added ++ l.last ∷ []);
       same = l.same;
-      sums = λ F add. omega (
-        arith,
-        l.sums F add,
-        branch_bands_push F add now b,
-        add (bands p.nest) ((bands q.nest) ++ bands_in ps),
-        add
-            (bands q.nest) (bands_in ps),
-      );
+      sums = λ F add. omega (arith, l.sums F add, bands_push F add, add);
       fewer = omega (
         arith,
         l.fewer,
-        inner_bands_push (λ (ks : List Band). length ks) size-append now b,
+        bands_push (λ (ks : List Band). length ks) size-append,
         size-append (bands p.nest)
             (bands q.nest ++ bands_in ps),
         size-append (bands q.nest) (bands_in ps),
@@ -147,26 +127,20 @@ lays_last : (root : NestValue) (now : List BranchValue) (p : PartValue) (ps : Li
 lays_last root now p ps way pair outer c here =
     let b = branch_of way p.nest pair outer in
     let even : length ps % 2 ≡ 0 = omega (arith, c.odd) in
-    let one : count pair.from p.nest.members ≡ 1 = omega (arith, c.once pair.from, count-append pair.from p.nest.members (members_in ps)) in
+    let one : count pair.from p.nest.members ≡ 1 = omega (arith, c.once pair.from, count-append) in
     record {
       grown = grown_push root.members now b c.grown c.from c.into.0 one c.to;
       joined = coupled_joined p ps even c.into.1;
-      places = λ x. omega (
-        arith,
-        outer_members_push x root.members now b,
-        inner_members_push x now b,
-        members_coupled x ps even,
-        count-append x p.nest.members (members_in ps),
-      );
-      more = λ x. omega (arith, outer_members_push x root.members now b);
+      places = λ x. omega (arith, members_push, members_coupled x ps even, count-append);
+      more = λ x. omega (arith, members_push);
       added = [];
       last = b;
       is = refl;
       same = refl;
-      sums = λ F add. omega (arith, branch_bands_push F add now b, bands_coupled F add ps even, add (bands p.nest) (bands_in ps));
+      sums = λ F add. omega (arith, bands_push F add, bands_coupled F add ps even, add);
       fewer = omega (
         arith,
-        inner_bands_push (λ (ks : List Band). length ks) size-append now b,
+        bands_push (λ (ks : List Band). length ks) size-append,
         bands_coupled
             (λ (ks : List Band). length ks) size-append ps even,
         size-append (bands p.nest) (bands_in ps),

@@ -8,6 +8,7 @@ pub mod MoatLemmas
 pub mod LeastLemmas
 mod LimitFacts
 mod RowFacts
+mod SetFacts
 pub mod TakenLemmas
 pub mod TreeLemmas
 pub mod AugmentLemmas

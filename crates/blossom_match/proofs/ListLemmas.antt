@@ -1,6 +1,7 @@
 -- Facts of each item of joined lists.
 use Rattle.std.proofs.Common.{◌≡◌, ℕ, suc, zero, List, [], ◌∷◌, ◌++◌, take, drop, map, reverse, length, ◌+◌, ◌<◌, get_or, drop-cons, add-one, arith, refl, sym, ap, subst, ◌∙◌}
 use Rattle.std.proofs.lemmas.List.{length-map, map-append}
+use Rattle.std.specs.List.{flat_map}
 use Rattle.std.proofs.lemmas.Grind.{reverse_onto}
 use Rattle.std.proofs.Math.ListN.{get_or-map}
 use Rattle.std.proofs.Math.Seq.{take-append_seam}
@@ -33,6 +34,21 @@ pub each-take : {X : Type 0} (P : X → Type 0) (i : ℕ) (xs : List X) → Each
 each-take P zero xs p = tt
 each-take P (suc i) [] p = p
 each-take P (suc i) (x ∷ xs) p = (p.0, each-take P i xs p.1)
+
+-- the list told from another item
+pub each-turned : {X : Type 0} (P : X → Type 0) (i : ℕ) (xs : List X) → Each P xs → Each P (drop i xs ++ take i xs)
+each-turned P i xs p = each-append P (drop i xs) (take i xs) (each-drop P i xs p) (each-take P i xs p)
+
+-- the lists that items give, one after another
+pub each-flat_map : {X Y : Type 0} (P : Y → Type 0) (f : X → List Y) (xs : List X) → Each (λ (x : X). Each P (f x)) xs
+    → Each P (flat_map f xs)
+each-flat_map P f [] p = tt
+each-flat_map P f (x ∷ xs) p = each-append P (f x) (flat_map f xs) p.0 (each-flat_map P f xs p.1)
+
+pub each-apart : {X Y : Type 0} (P : Y → Type 0) (f : X → List Y) (xs : List X) → Each P (flat_map f xs)
+    → Each (λ (x : X). Each P (f x)) xs
+each-apart P f [] p = tt
+each-apart P f (x ∷ xs) p = (each-left P (f x) (flat_map f xs) p, each-apart P f xs (each-right P (f x) (flat_map f xs) p))
 
 pub each-map : {X : Type 0} (P Q : X → Type 0) (f : (x : X) → P x → Q x) (xs : List X) → Each P xs → Each Q xs
 each-map P Q f [] p = tt

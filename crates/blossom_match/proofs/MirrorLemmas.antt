@@ -1,17 +1,18 @@
 -- Rings told the other way round, and the parity of their parts.
 use Rattle.std.proofs.Common.{◌≡◌, ℕ, ◌+◌, ◌%◌, ◌≤◌, ◌<◌, inl, inr, List, [], ◌∷◌, ◌++◌, length, take, drop, arith, refl, sym, ap, subst, ◌∙◌, append_assoc, length-append}
 use Rattle.std.proofs.lemmas.List.{length-take, take-append-drop}
+use Rattle.std.specs.List.{flat_map}
 use Rattle.blossom_match.specs.TableValue.{TableValue}
-use Rattle.blossom_match.specs.Lists.{Each}
+use Rattle.blossom_match.specs.Lists.{Each, sum_over}
 use Rattle.blossom_match.specs.Bands.{Adds, Band, NestValue, bands, count}
-use Rattle.blossom_match.specs.Rings.{back_of, members_in, bands_in, AllKept, FirstHolds, HoldsAt, IsLinkedRing, IsRing, IsTurned, Linked}
+use Rattle.blossom_match.specs.Rings.{back_of, members_in, bands_in, part_sets, AllKept, FirstHolds, HoldsAt, IsLinkedRing, IsRing, IsTurned, Linked}
 use Rattle.blossom_match.specs.Sound.{IsFirmPart, IsSymmetric, IsTight}
 use Rattle.blossom_match.specs.Lays.{EvenlyHolds, GoesEvenly, last_link, mirror_of, told_back}
 use Rattle.blossom_match.specs.declared.nest.Link.{Link}
 use Rattle.blossom_match.specs.Shrinks.{part_of as with_link}
 use Rattle.blossom_match.specs.Values.{PartValue}
-use Rattle.blossom_match.proofs.ListLemmas.{each-append, each-drop, each-take}
-use Rattle.blossom_match.proofs.SumLemmas.{adds_none, count-append}
+use Rattle.blossom_match.proofs.ListLemmas.{each-turned}
+use Rattle.blossom_match.proofs.SumLemmas.{bands_each, members_each}
 use Rattle.blossom_match.proofs.RingLemmas.{members_turned}
 use Rattle.blossom_match.proofs.OpenLemmas.{bands_turned, turned_is_ring}
 use Rattle.blossom_match.proofs.ChainLemmas.{tight_back}
@@ -28,29 +29,13 @@ told_size : (l : Link) (ps told : List PartValue) → length (told_back l ps tol
 told_size l [] told = omega arith
 told_size l (p ∷ ps) told = omega (arith, told_size p.next ps (part_of p (back_of l) ∷ told))
 
-told_sum : (F : List Band → ℕ) → Adds F → (l : Link) (ps told : List PartValue) → F (bands_in (told_back l ps told))
-    ≡ F (bands_in ps) + F (bands_in told)
-told_sum F add l [] told = omega (arith, adds_none F add)
-told_sum F add l (p ∷ ps) told =
-    omega (
-      arith,
-      told_sum F add p.next ps (part_of p (back_of l) ∷ told),
-      add (bands p.nest) (bands_in ps),
-      add (bands p.nest)
-          (bands_in told),
-    )
+-- a sum over the sets of the parts
+abbrev sum_in : (NestValue → ℕ) → List PartValue → ℕ
+sum_in f ps = sum_over f (flat_map part_sets ps)
 
-told_places : (x : ℕ) (l : Link) (ps told : List PartValue) → count x (members_in (told_back l ps told))
-    ≡ count x (members_in ps) + count x (members_in told)
-told_places x l [] told = omega arith
-told_places x l (p ∷ ps) told =
-    omega (
-      arith,
-      told_places x p.next ps (part_of p (back_of l) ∷ told),
-      count-append x p.nest.members
-          (members_in ps),
-      count-append x p.nest.members (members_in told),
-    )
+told_sum : (f : NestValue → ℕ) (l : Link) (ps told : List PartValue) → sum_in f (told_back l ps told) ≡ sum_in f ps + sum_in f told
+told_sum f l [] told = omega arith
+told_sum f l (p ∷ ps) told = omega (arith, told_sum f p.next ps (part_of p (back_of l) ∷ told))
 
 told_kept : (l : Link) (ps told : List PartValue) → AllKept ps → AllKept told → AllKept (told_back l ps told)
 told_kept l [] told a b = b
@@ -118,26 +103,15 @@ mirror_is_ring (p ∷ q ∷ qs) r = record {
   kept = (r.kept.0, told_kept p.next (q ∷ qs) [] r.kept.1 tt);
 }
 
-mirror_places : (x : ℕ) (ps : List PartValue) → count x (members_in (mirror_of ps)) ≡ count x (members_in ps)
-mirror_places x [] = refl
-mirror_places x (p ∷ ps) = omega (
-  arith,
-  told_places x p.next ps [],
-  count-append x p.nest.members
-      (members_in ps),
-  count-append x p.nest.members (members_in (told_back p.next ps [])),
-)
+mirror_sum : (f : NestValue → ℕ) (ps : List PartValue) → sum_in f (mirror_of ps) ≡ sum_in f ps
+mirror_sum f [] = refl
+mirror_sum f (p ∷ ps) = omega (arith, told_sum f p.next ps [])
 
-mirror_sum : (F : List Band → ℕ) → Adds F → (ps : List PartValue) → F (bands_in (mirror_of ps)) ≡ F (bands_in ps)
-mirror_sum F add [] = refl
-mirror_sum F add (p ∷ ps) = omega (
-  arith,
-  told_sum F add p.next ps [],
-  add (bands p.nest) (bands_in ps),
-  add (bands p.nest)
-      (bands_in (told_back p.next ps [])),
-  adds_none F add,
-)
+mirror_places : (x : ℕ) (ps : List PartValue) → count x (members_in (mirror_of ps)) ≡ count x (members_in ps)
+mirror_places x ps = omega (arith, members_each, mirror_sum (λ (s : NestValue). count x s.members) ps)
+
+mirror_bands : (F : List Band → ℕ) → Adds F → (ps : List PartValue) → F (bands_in (mirror_of ps)) ≡ F (bands_in ps)
+mirror_bands F add ps = omega (arith, bands_each F add, mirror_sum (λ (s : NestValue). F (bands s)) ps)
 
 mirror_firm : (d : TableValue) (h : ℕ → ℕ) → IsSymmetric d → (ps : List PartValue) → Each (IsFirmPart d h) ps
     → Each (IsFirmPart d h) (mirror_of ps)
@@ -217,9 +191,6 @@ mirror_evenly x ps i odd way h = subst (λ (qs : List PartValue). EvenlyHolds x 
     (mirror_held x h.before h.part h.after (omega (arith, h.size))
     (omega (arith, odd, ap (λ (qs : List PartValue). length qs) h.is, length-append h.before (h.part ∷ h.after))) h.here)
 
-turned_kept : (P : PartValue → Type 0) (i : ℕ) (ps : List PartValue) → Each P ps → Each P (drop i ps ++ take i ps)
-turned_kept P i ps a = each-append P (drop i ps) (take i ps) (each-drop P i ps a) (each-take P i ps a)
-
 -- a ring told from the part that is entered, an even way from that which is left
 pub goes_on : (entry exit : ℕ) (old ring : List PartValue) (i : ℕ) → IsRing old → IsTurned old ring → FirstHolds entry ring → i < length
     ring
@@ -235,7 +206,7 @@ goes_on entry exit old ring i is turned first low holds even =
       places = λ x. ap (λ (qs : List PartValue). count x (members_in qs)) turned.is ∙ members_turned x turned.at old;
       sums = λ F add. ap (λ (qs : List PartValue). F (bands_in qs)) turned.is ∙ bands_turned F add turned.at old;
       firm = λ d h sy f. subst (λ (qs : List PartValue). Each (IsFirmPart d h) qs) (sym turned.is)
-          (turned_kept (IsFirmPart d h) turned.at old f);
+          (each-turned (IsFirmPart d h) turned.at old f);
     }
 
 first_mirrored : (x : ℕ) (ps : List PartValue) → FirstHolds x ps → FirstHolds x (mirror_of ps)
@@ -253,9 +224,9 @@ goes_back entry exit old ring back i is turned first low holds odd e =
       first = first_mirrored entry ring first;
       last = mirror_evenly exit ring i r.odd odd (held_at exit ring i low holds);
       places = λ x. mirror_places x ring ∙ ap (λ (qs : List PartValue). count x (members_in qs)) turned.is ∙ members_turned x turned.at old;
-      sums = λ F add. mirror_sum F add ring ∙ ap (λ (qs : List PartValue). F (bands_in qs)) turned.is ∙ bands_turned F add turned.at old;
+      sums = λ F add. mirror_bands F add ring ∙ ap (λ (qs : List PartValue). F (bands_in qs)) turned.is ∙ bands_turned F add turned.at old;
       firm = λ d h sy f. mirror_firm d h sy ring (subst (λ (qs : List PartValue). Each (IsFirmPart d h) qs) (sym turned.is)
-          (turned_kept (IsFirmPart d h) turned.at old f));
+          (each-turned (IsFirmPart d h) turned.at old f));
     })
 
 pub turned_places : (x : ℕ) (old ring : List PartValue) → IsTurned old ring → count x (members_in ring) ≡ count x (members_in old)

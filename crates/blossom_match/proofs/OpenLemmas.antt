@@ -1,81 +1,42 @@
 -- A set taken apart: sums over its parts.
-use Rattle.std.proofs.Common.{◌≡◌, ℕ, ◌+◌, ◌%◌, ◌≤◌, ◌<◌, zero, suc, List, [], ◌∷◌, ◌++◌, length, take, drop, arith, refl, sym, ap, subst, ◌∙◌, Some, None, length-append, eqb, cond, Bool, true, false}
+use Rattle.std.proofs.Common.{◌≡◌, ℕ, ◌+◌, ◌%◌, ◌≤◌, ◌<◌, List, [], ◌∷◌, ◌++◌, length, take, drop, arith, refl, sym, ap, subst, ◌∙◌, Some, None, length-append, eqb, cond, Bool, true, false}
 use Rattle.std.proofs.lemmas.Bool.{eqb-true}
 use Rattle.std.proofs.lemmas.List.{take-append-drop}
+use Rattle.std.specs.List.{flat_map}
 use Rattle.blossom_match.specs.TableValue.{TableValue}
 use Rattle.blossom_match.specs.Lists.{Each}
-use Rattle.blossom_match.specs.Bands.{Adds, Band, NestValue, bands, count, height, hit, IsPaid, Kept}
-use Rattle.blossom_match.specs.Rings.{members_in, bands_in, tolls_in, tolls_along, Linked, ring_tolls, IsLinkedRing, AllKept, IsRing, IsTurned, FirstHolds, IsMade, nest_of}
-use Rattle.blossom_match.specs.Couples.{couples_along, couple_members, couple_bands, IsJoined, IsSettled}
+use Rattle.blossom_match.specs.Bands.{Adds, Band, NestValue, bands, bands_of, count, height, hit, members_onto, IsPaid, Kept, TollIsPaid}
+use Rattle.blossom_match.specs.Rings.{members_in, bands_in, part_sets, tolls_in, tolls_along, Linked, ring_tolls, IsLinkedRing, AllKept, IsRing, IsTurned, FirstHolds, IsMade, nest_of}
+use Rattle.blossom_match.specs.Couples.{couples_along, couple_members, couple_bands, couple_sets, IsJoined, IsSettled}
 use Rattle.blossom_match.specs.Opens.{OpensAt}
 use Rattle.blossom_match.specs.Values.{CoupleValue, PartValue}
-use Rattle.blossom_match.proofs.ListLemmas.{each-append, each-drop, each-take}
-use Rattle.blossom_match.proofs.SumLemmas.{adds_none, count-append, height-append, some_member, none_tall, IsPaid-append, IsPaid-left, IsPaid-right}
-use Rattle.blossom_match.proofs.RingLemmas.{members_turned, none_in, ring_turned, paid_turned, made_kept}
-
-pub bands_in-append : (F : List Band → ℕ) → Adds F → (ps qs : List PartValue) → F (bands_in (ps ++ qs)) ≡ F (bands_in ps) + F (bands_in qs)
-bands_in-append F add [] qs = omega (arith, add [] [], add [] (bands_in qs))
-bands_in-append F add (p ∷ ps) qs =
-    omega (arith, bands_in-append F add ps qs, add (bands p.nest) (bands_in (ps ++ qs)), add (bands p.nest) (bands_in ps))
+use Rattle.blossom_match.proofs.ListLemmas.{each-apart, each-flat_map, each-left, each-right, each-turned}
+use Rattle.blossom_match.proofs.SumLemmas.{adds_none, bands-append, count-append, height-append, some_member, none_tall}
+use Rattle.blossom_match.proofs.RingLemmas.{members_turned, none_in, ring_turned, sum_turned, paid_turned, made_kept}
 
 pub bands_turned : (F : List Band → ℕ) → Adds F → (i : ℕ) (ps : List PartValue) → F (bands_in (drop i ps ++ take i ps)) ≡ F (bands_in ps)
-bands_turned F add i ps =
-    omega (
-      arith,
-      bands_in-append F add (drop i ps) (take i ps),
-      bands_in-append F add (take i ps) (drop i ps),
-      ap
-          (λ (qs : List PartValue). F (bands_in qs)) (take-append-drop i ps),
-    )
+bands_turned F add i ps = sum_turned (λ (qs : List PartValue). F (bands_in qs)) (bands-append F add PartValue part_sets) i ps
+
+-- an even number of parts and their couples have the same sets
+sets_coupled : (ps : List PartValue) → length ps % 2 ≡ 0 → flat_map part_sets ps ≡ flat_map couple_sets (couples_along ps)
+sets_coupled [] even = refl
+sets_coupled (p ∷ []) even = absurd (omega arith)
+sets_coupled (p ∷ q ∷ ps) even = ap (λ (ss : List NestValue). p.nest ∷ q.nest ∷ ss) (sets_coupled ps (omega arith))
 
 pub bands_coupled : (F : List Band → ℕ) → Adds F → (ps : List PartValue) → length ps % 2 ≡ 0 → F (bands_in ps)
     ≡ F (couple_bands (couples_along ps))
-bands_coupled F add [] even = refl
-bands_coupled F add (p ∷ []) even = absurd (omega arith)
-bands_coupled F add (p ∷ q ∷ ps) even =
-    let less : length ps % 2 ≡ 0 = omega arith in
-    omega (
-      arith,
-      bands_coupled F add ps less,
-      add (bands p.nest) ((bands q.nest) ++ bands_in ps),
-      add (bands q.nest) (bands_in ps),
-      add (bands p.nest) ((bands q.nest) ++ couple_bands (couples_along ps)),
-      add (bands q.nest) (couple_bands (couples_along ps)),
-    )
+bands_coupled F add ps even = ap (λ (ss : List NestValue). F (bands_of ss)) (sets_coupled ps even)
 
 pub members_coupled : (x : ℕ) (ps : List PartValue) → length ps % 2 ≡ 0 → count x (members_in ps) ≡ count x
     (couple_members (couples_along ps))
-members_coupled x [] even = refl
-members_coupled x (p ∷ []) even = absurd (omega arith)
-members_coupled x (p ∷ q ∷ ps) even =
-    let less : length ps % 2 ≡ 0 = omega arith in
-    omega (
-      arith,
-      members_coupled x ps less,
-      count-append x p.nest.members (q.nest.members ++ members_in ps),
-      count-append x q.nest.members (members_in ps),
-      count-append x p.nest.members (q.nest.members ++ couple_members (couples_along ps)),
-      count-append x q.nest.members (couple_members (couples_along ps)),
-    )
+members_coupled x ps even = ap (λ (ss : List NestValue). count x (members_onto [] ss)) (sets_coupled ps even)
 
-tolls_paid-drop : (d : TableValue) (i : ℕ) (ps : List PartValue) → IsPaid d (tolls_in ps) → IsPaid d (tolls_in (drop i ps))
-tolls_paid-drop d zero ps a = a
-tolls_paid-drop d (suc i) [] a = a
-tolls_paid-drop d (suc i) (p ∷ ps) a = tolls_paid-drop d i ps (IsPaid-right d p.nest.tolls (tolls_in ps) a)
-
-tolls_paid-take : (d : TableValue) (i : ℕ) (ps : List PartValue) → IsPaid d (tolls_in ps) → IsPaid d (tolls_in (take i ps))
-tolls_paid-take d zero ps a = tt
-tolls_paid-take d (suc i) [] a = a
-tolls_paid-take d (suc i) (p ∷ ps) a =
-    IsPaid-append d p.nest.tolls (tolls_in (take i ps)) (IsPaid-left d p.nest.tolls (tolls_in ps) a)
-    (tolls_paid-take d i ps (IsPaid-right d p.nest.tolls (tolls_in ps) a))
-
-tolls_paid-append : (d : TableValue) (ps qs : List PartValue) → IsPaid d (tolls_in ps) → IsPaid d (tolls_in qs) → IsPaid d
-    (tolls_in (ps ++ qs))
-tolls_paid-append d [] qs a b = b
-tolls_paid-append d (p ∷ ps) qs a b =
-    IsPaid-append d p.nest.tolls (tolls_in (ps ++ qs)) (IsPaid-left d p.nest.tolls (tolls_in ps) a)
-    (tolls_paid-append d ps qs (IsPaid-right d p.nest.tolls (tolls_in ps) a) b)
+-- the links inside the parts are paid from whichever part the ring is told
+tolls_turned : (d : TableValue) (i : ℕ) (ps : List PartValue) → IsPaid d (tolls_in ps) → IsPaid d (tolls_in (drop i ps ++ take i ps))
+tolls_turned d i ps paid =
+    let tolls = λ (p : PartValue). p.nest.tolls in
+    each-flat_map (TollIsPaid d) tolls (drop i ps ++ take i ps)
+    (each-turned (λ (p : PartValue). IsPaid d p.nest.tolls) i ps (each-apart (TollIsPaid d) tolls ps paid))
 
 pub joined_along : (p e : PartValue) (ps : List PartValue) → length ps % 2 ≡ 0 → Linked p (ps ++ e ∷ []) → Each IsJoined (couples_along ps)
 joined_along p e [] even l = tt
@@ -91,14 +52,14 @@ paid_along d p e [] even l all = tt
 paid_along d p e (q ∷ []) even l all = absurd (omega arith)
 paid_along d p e (q ∷ r ∷ ps) even l all =
     let less : length ps % 2 ≡ 0 = omega arith in
-    let rest = IsPaid-right d q.nest.tolls (r.nest.tolls ++ tolls_in ps) all in (
+    let rest = each-right (TollIsPaid d) q.nest.tolls (r.nest.tolls ++ tolls_in ps) all in (
       record {
         link = l.1.0;
-        first = IsPaid-left d q.nest.tolls (r.nest.tolls ++ tolls_in ps) all;
+        first = each-left (TollIsPaid d) q.nest.tolls (r.nest.tolls ++ tolls_in ps) all;
         second =
-            IsPaid-left d r.nest.tolls (tolls_in ps) rest;
+            each-left (TollIsPaid d) r.nest.tolls (tolls_in ps) rest;
       },
-      paid_along d r e ps less l.1.1 (IsPaid-right d r.nest.tolls (tolls_in ps) rest),
+      paid_along d r e ps less l.1.1 (each-right (TollIsPaid d) r.nest.tolls (tolls_in ps) rest),
     )
 
 hit_one : (b : Bool) (left m : ℕ) → eqb left m ≡ b → cond b 1 0 + 0 ≡ 1 → left ≡ m
@@ -124,40 +85,19 @@ opens_single left key w ms near one there = record {
 }
 
 pub length_turned : (i : ℕ) (old : List PartValue) → length (drop i old ++ take i old) ≡ length old
-length_turned i old =
-    omega (
-      arith,
-      length-append (drop i old) (take i old),
-      length-append (take i old) (drop i old),
-      ap (λ (qs : List PartValue). length qs)
-          (take-append-drop i old),
-    )
+length_turned i old = sum_turned (λ (qs : List PartValue). length qs) length-append i old
 
 -- what adds up over the sets of a ring adds up over its first part and the couples behind it
-sum_turned : (F : List Band → ℕ) → Adds F → (old : List PartValue) (p : PartValue) (ps : List PartValue) (i : ℕ) → p ∷ ps ≡ drop i old ++
+sums_turned : (F : List Band → ℕ) → Adds F → (old : List PartValue) (p : PartValue) (ps : List PartValue) (i : ℕ) → p ∷ ps ≡ drop i old ++
     take i old →
     length ps % 2 ≡ 0 → F (bands_in old) ≡ F (bands p.nest) + F (couple_bands (couples_along ps))
-sum_turned F add old p ps i e even =
-    omega (
-      arith,
-      bands_turned F add i old,
-      ap (λ (qs : List PartValue). F (bands_in qs)) e,
-      add (bands p.nest)
-          (bands_in ps),
-      bands_coupled F add ps even,
-    )
+sums_turned F add old p ps i e even =
+    omega (arith, bands_turned F add i old, ap (λ (qs : List PartValue). F (bands_in qs)) e, add, bands_coupled F add ps even)
 
 places_turned : (x : ℕ) (old : List PartValue) (p : PartValue) (ps : List PartValue) (i : ℕ) → p ∷ ps ≡ drop i old ++ take i old →
     length ps % 2 ≡ 0 → count x (members_in old) ≡ count x p.nest.members + count x (couple_members (couples_along ps))
 places_turned x old p ps i e even =
-    omega (
-      arith,
-      members_turned x i old,
-      ap (λ (qs : List PartValue). count x (members_in qs)) e,
-      count-append x p.nest.members
-          (members_in ps),
-      members_coupled x ps even,
-    )
+    omega (arith, members_turned x i old, ap (λ (qs : List PartValue). count x (members_in qs)) e, count-append, members_coupled x ps even)
 
 paid_turned_all : (d : TableValue) (old : List PartValue) (p : PartValue) (ps : List PartValue) (i : ℕ) → p ∷ ps ≡ drop i old ++ take i
     old →
@@ -165,14 +105,16 @@ paid_turned_all : (d : TableValue) (old : List PartValue) (p : PartValue) (ps : 
 paid_turned_all d old p ps i e even all =
     let around : IsPaid d (ring_tolls (take i old ++ drop i old)) =
     subst (λ (qs : List PartValue). IsPaid d (ring_tolls qs)) (sym (take-append-drop i old))
-    (IsPaid-left d (ring_tolls old) (tolls_in old) all)
+    (each-left (TollIsPaid d) (ring_tolls old) (tolls_in old) all)
     in
     let ring : IsPaid d (ring_tolls (p ∷ ps)) = subst (λ (qs : List PartValue). IsPaid d (ring_tolls qs)) (sym e)
     (paid_turned d (take i old) (drop i old) around) in
-    let inside : IsPaid d (tolls_in old) = IsPaid-right d (ring_tolls old) (tolls_in old) all in
+    let inside : IsPaid d (tolls_in old) = each-right (TollIsPaid d) (ring_tolls old) (tolls_in old) all in
     let parts : IsPaid d (tolls_in (p ∷ ps)) = subst (λ (qs : List PartValue). IsPaid d (tolls_in qs)) (sym e)
-    (tolls_paid-append d (drop i old) (take i old) (tolls_paid-drop d i old inside) (tolls_paid-take d i old inside)) in
-    (IsPaid-left d p.nest.tolls (tolls_in ps) parts, paid_along d p p ps even ring (IsPaid-right d p.nest.tolls (tolls_in ps) parts))
+    (tolls_turned d i old inside) in (
+      each-left (TollIsPaid d) p.nest.tolls (tolls_in ps) parts,
+      paid_along d p p ps even ring (each-right (TollIsPaid d) p.nest.tolls (tolls_in ps) parts),
+    )
 
 -- the ring told from another part is a ring
 pub turned_is_ring : (old : List PartValue) (i : ℕ) → IsRing old → IsRing (drop i old ++ take i old)
@@ -180,8 +122,7 @@ turned_is_ring old i r = record {
   odd = omega (arith, length_turned i old, r.odd);
   three = omega (arith, length_turned i old, r.three);
   linked = ring_turned (take i old) (drop i old) (subst IsLinkedRing (sym (take-append-drop i old)) r.linked);
-  kept = each-append (λ (p : PartValue). Kept p.nest) (drop i old) (take i old) (each-drop (λ (p : PartValue). Kept p.nest) i old r.kept)
-      (each-take (λ (p : PartValue). Kept p.nest) i old r.kept);
+  kept = each-turned (λ (p : PartValue). Kept p.nest) i old r.kept;
 }
 
 -- the couples behind the first part hold some place
@@ -190,7 +131,7 @@ coupled_some [] two kept = absurd (omega arith)
 coupled_some (p ∷ []) two kept = absurd (omega arith)
 coupled_some (p ∷ q ∷ ps) two kept =
     let some = some_member p.nest.members (omega (arith, kept.0.odd)) in
-    (some.0, omega (arith, some.1, count-append some.0 p.nest.members (q.nest.members ++ couple_members (couples_along ps))))
+    (some.0, omega (arith, some.1, count-append))
 
 opens_turned : (left key w : ℕ) (ms near : List ℕ) (old : List PartValue) (p : PartValue) (ps : List PartValue) (i : ℕ) → p ∷ ps ≡ drop i
     old ++ take i old →
@@ -205,7 +146,7 @@ opens_turned left key w ms near old p ps i e same ring kept there first =
     let none : height left (bands_in ps) ≡ 0 = none_tall left (bands_in ps) (none_in left ps turned.kept.1 here) in
     record {
       odd = kept.odd;
-      sums = λ F add. sum_turned F add old p ps i e even;
+      sums = λ F add. sums_turned F add old p ps i e even;
       tall = omega (
         arith,
         bands_turned (height left) (height-append left) i old,

@@ -147,7 +147,7 @@ can_meet : (t : TableValue) (place other : ℕ) (couples : List CoupleValue) (fr
     Stands t couples free heights → FindsTight t heights free place other → Begins t place couples left heights s → CanMeet t place other s
 can_meet t place other couples free left heights s counts st f b =
     let here : 1 ≤ count other left = omega (arith, counts other, f.here, no_hit other place (λ g. f.pair.differ (sym g))) in
-    let at = reordered t couples free (left ++ place ∷ []) heights (λ x. omega (arith, counts x, count-append x left (place ∷ []))) st in
+    let at = reordered t couples free (left ++ place ∷ []) heights (λ x. omega (arith, counts x, count-append)) st in
     let can = begins t place couples left heights s at (some_left other left here) b in
     record {
       search = can.search;

@@ -66,22 +66,12 @@ lowers i m w ms now old all lt is fits e =
 pub outer_places : (x : ℕ) (tree : List BranchValue) (i : ℕ) (b : BranchValue) → i < length tree → b ≡ get_or tree i b →
     count x (outer_members [] (drop i tree)) ≡ count x b.outer.members + count x (outer_members [] (drop (i + 1) tree))
 outer_places x tree i b low is =
-    omega (
-      arith,
-      ap (λ (ks : List BranchValue). count x (outer_members [] ks)) (drop_here tree i b low is),
-      count-append x b.outer.members
-          (outer_members [] (drop (i + 1) tree)),
-    )
+    omega (arith, ap (λ (ks : List BranchValue). count x (outer_members [] ks)) (drop_here tree i b low is), count-append)
 
 pub inner_places : (x : ℕ) (tree : List BranchValue) (i : ℕ) (b : BranchValue) → i < length tree → b ≡ get_or tree i b →
     count x (inner_members (drop i tree)) ≡ count x b.inner.members + count x (inner_members (drop (i + 1) tree))
 inner_places x tree i b low is =
-    omega (
-      arith,
-      ap (λ (ks : List BranchValue). count x (inner_members ks)) (drop_here tree i b low is),
-      count-append x b.inner.members
-          (inner_members (drop (i + 1) tree)),
-    )
+    omega (arith, ap (λ (ks : List BranchValue). count x (inner_members ks)) (drop_here tree i b low is), count-append)
 
 pub more_by : (by all here rest : ℕ) → all ≡ here + rest → by * all ≡ by * here + by * rest
 more_by by all here rest e = let f = ap (λ (k : ℕ). by * k) e in omega (arith, f)

@@ -14,12 +14,12 @@ use Rattle.blossom_match.specs.TableValue.{TableValue}
 use Rattle.blossom_match.specs.declared.table.TheConstants.{FAR}
 use Rattle.blossom_match.specs.Values.{BranchValue, SearchValue}
 use Rattle.blossom_match.proofs.ListLemmas.{each-map, each_here, take_here, each-left, each-right}
-use Rattle.blossom_match.proofs.SumLemmas.{count-append}
+use Rattle.blossom_match.proofs.SumLemmas.{count-append, members-append, members_push}
 use Rattle.blossom_match.proofs.RaisedLemmas.{at_drop, outer_places}
 use Rattle.blossom_match.proofs.RowLemmas.{not_hit, takes_near}
 use Rattle.blossom_match.proofs.ScanLemmas.{split_here}
 use Rattle.blossom_match.proofs.ChainLemmas.{around_append}
-use Rattle.blossom_match.proofs.TreeLemmas.{base_in, outer-append, outer_members_push}
+use Rattle.blossom_match.proofs.TreeLemmas.{base_in}
 
 -- the place that leaves so much is one of those after
 pub left_more : (t : TableValue) (hs xs : List ℕ) (i x room : ℕ) → i < length xs → left_by t hs (get_or xs i 0) x ≢ room
@@ -79,8 +79,8 @@ old_reached : (t : TableValue) (hs : List ℕ) (root : NestValue) (bs : List Bra
 old_reached t hs root bs b x old now once e (inl far) = inl (e ∙ far)
 old_reached t hs root bs b x old now once e (inr r) = inr (record {
   a = r.a;
-  here = omega (arith, r.here, outer_members_push r.a root.members bs b);
-  apart = omega (arith, r.apart, around_append r.a x bs (b ∷ []), once r.a, r.here);
+  here = omega (arith, r.here, members_push);
+  apart = omega (arith, r.apart, around_append, once r.a, r.here);
   exact = e ∙ r.exact;
 })
 
@@ -93,15 +93,8 @@ new_reached t hs root bs b x old now once none was (inr l) =
     let out : count l.a (outer_members root.members bs) ≡ 0 = omega (arith, once l.a, l.here) in
     inr (record {
       a = l.a;
-      here = omega (arith, l.here, outer_members_push l.a root.members bs b);
-      apart = omega (
-        arith,
-        around_append l.a x bs (b ∷ []),
-        around_first l.a x root.members bs out,
-        base_in l.a root.members bs,
-        out,
-        none,
-      );
+      here = omega (arith, l.here, members_push);
+      apart = omega (arith, around_append, around_first l.a x root.members bs out, base_in l.a root.members bs, out, none);
       exact = l.exact;
     })
 
@@ -122,7 +115,7 @@ set_reached t hs root bs b reach new once r k = record {
   size = k.size ∙ r.size;
   short = λ x lx. omega (arith, k.less x lx, r.short x lx);
   least = λ a x ha lx apart. set_least (count x b.outer.members) (count a b.outer.members) t hs root bs b reach new a x refl refl
-      (omega (arith, ha, outer_members_push a root.members bs b)) lx (omega (arith, apart, around_append a x bs (b ∷ []))) r k;
+      (omega (arith, ha, members_push)) lx (omega (arith, apart, around_append)) r k;
   is = λ x lx. set_case (count x b.outer.members) t hs root bs b reach new x refl once lx r k;
 }
 
@@ -132,13 +125,7 @@ once_here : (root : NestValue) (tree : List BranchValue) (i : ℕ) (b : BranchVa
     → (y : ℕ) → count y (outer_members root.members (take i tree)) + count y b.outer.members ≤ 1
 once_here root tree i b once low is y =
     let s = split_here tree i b low is in
-    omega (
-      arith,
-      once y,
-      ap (λ (ks : List BranchValue). count y (outer_members root.members ks)) s,
-      outer-append y root.members (take i tree) (b ∷ drop (i + 1) tree),
-      count-append y b.outer.members (outer_members [] (drop (i + 1) tree)),
-    )
+    omega (arith, once y, ap (λ (ks : List BranchValue). count y (outer_members root.members ks)) s, members-append, count-append)
 
 -- the row of the next branch has a cell for each place
 pub fits_row : (tree : List BranchValue) (i : ℕ) (b : BranchValue) (first cells : List ℕ)
@@ -158,11 +145,9 @@ reaches_next t hs root before tree i b reach new once firm low is r size merged 
     let few : (y : ℕ) → count y (outer_members base (before ++ take i tree)) + count y b.outer.members ≤ 1 = λ y. omega (
       arith,
       once y,
-      outer-append y base before tree,
-      outer-append y base before (take i tree),
+      members-append,
       ap (λ (ks : List BranchValue). count y (outer_members [] ks)) (split_here tree i b low is),
-      outer-append y [] (take i tree) (b ∷ drop (i + 1) tree),
-      count-append y b.outer.members (outer_members [] (drop (i + 1) tree)),
+      count-append,
     ) in
     let is_next : (before ++ take i tree) ++ b ∷ [] ≡ before ++ take (i + 1) tree =
     append_assoc before (take i tree) (b ∷ []) ∙ ap (λ (ks : List BranchValue). before ++ ks) (sym (take_here tree i b low is)) in
@@ -246,24 +231,17 @@ reaches_apart t hs root at more old new reach next g size can r on =
     let outs : (y : ℕ) → count y (outer_members base new) ≡ count y (outer_members base (old ++ g.added)) = λ y. omega (
       arith,
       ap (λ (ks : List BranchValue). count y (outer_members base ks)) g.now,
-      outer-append y base g.before (g.added ++ g.last ∷ g.later),
-      outer-append y [] g.added (g.last ∷ g.later),
-      count-append y g.last.outer.members (outer_members [] g.later),
+      members-append,
+      count-append,
       ap (λ (v : NestValue). count y v.members) g.same,
-      outer-append y base old g.added,
       ap (λ (ks : List BranchValue). count y (outer_members base ks)) g.was,
-      outer-append y base g.before (g.branch ∷ g.later),
-      count-append y g.branch.outer.members (outer_members [] g.later),
     ) in
     let holds : (a x : ℕ) → around a x new ≡ around a x (old ++ g.added) = λ a x. omega (
       arith,
       ap (λ (ks : List BranchValue). around a x ks) g.now,
-      around_append a x g.before (g.added ++ g.last ∷ g.later),
-      around_append a x g.added (g.last ∷ g.later),
+      around_append,
       ap (λ (v : NestValue). both a x v) g.same,
-      around_append a x old g.added,
       ap (λ (ks : List BranchValue). around a x ks) g.was,
-      around_append a x g.before (g.branch ∷ g.later),
     ) in
     let firm = subst (λ (ks : List BranchValue). Each (IsFirm t (λ (a : ℕ). get_or hs a 0)) ks) g.now can.firm in
     reaches_same t hs root (old ++ g.added) new next outs holds
@@ -296,7 +274,7 @@ pub outer_within : (x : ℕ) (base : List ℕ) (tree : List BranchValue) (i : �
 outer_within x base tree i b low is =
     omega (
       arith,
-      outer-append x base (take i tree) (drop i tree),
+      members-append,
       ap (λ (ks : List BranchValue). count x (outer_members base ks))
           (take-append-drop i tree),
       outer_places x tree i b low is,

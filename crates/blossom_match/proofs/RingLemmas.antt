@@ -2,11 +2,11 @@
 use Rattle.std.proofs.Common.{◌≡◌, ℕ, ◌+◌, ◌≤◌, ◌<◌, ◌%◌, suc, List, [], ◌∷◌, ◌++◌, length, map, take, drop, get_or, drop-cons, add-one, arith, refl, sym, ap, subst, ◌∙◌, append_assoc, length-append}
 use Rattle.std.proofs.lemmas.List.{append-nil, map-append, take-append-drop}
 use Rattle.blossom_match.specs.TableValue.{TableValue}
-use Rattle.blossom_match.specs.Bands.{NoneHold, Kept, bands, count, IsPaid, TollIsPaid}
-use Rattle.blossom_match.specs.Rings.{FirstHolds, HoldsAt, IsTurned, members_in, bands_in, toll_of, tolls_along, Joins, Linked, ring_tolls, IsLinkedRing, AllKept, IsMade, nest_of}
+use Rattle.blossom_match.specs.Bands.{Misses, NoneHold, Kept, bands, count, IsPaid, TollIsPaid}
+use Rattle.blossom_match.specs.Rings.{FirstHolds, HoldsAt, IsTurned, members_in, bands_in, part_sets, toll_of, tolls_along, Joins, Linked, ring_tolls, IsLinkedRing, AllKept, IsMade, nest_of}
 use Rattle.blossom_match.specs.Values.{PartValue}
-use Rattle.blossom_match.proofs.ListLemmas.{drop_here, mapped_drop, mapped_low, mapped_take}
-use Rattle.blossom_match.proofs.SumLemmas.{count-append, NoneHold-append, none_hold}
+use Rattle.blossom_match.proofs.ListLemmas.{drop_here, each-append, mapped_drop, mapped_low, mapped_take}
+use Rattle.blossom_match.proofs.SumLemmas.{count-append, members-append, none_hold}
 
 -- a chain that goes on by one part
 Linked_on : (p a b : PartValue) (qs : List PartValue) → Linked p (qs ++ a ∷ []) → Joins a b → Linked p ((qs ++ a ∷ []) ++ b ∷ [])
@@ -53,27 +53,14 @@ held_later x ps i p lt is none some =
     let g : count x (get_or ps i p).nest.members ≡ 0 = subst (λ (q : PartValue). count x q.nest.members ≡ 0) is none in
     omega arith
 
-pub members_in-append : (x : ℕ) (ps qs : List PartValue) → count x (members_in (ps ++ qs)) ≡ count x (members_in ps) + count x
-    (members_in qs)
-members_in-append x [] qs = omega arith
-members_in-append x (p ∷ ps) qs =
-    omega (
-      arith,
-      members_in-append x ps qs,
-      count-append x p.nest.members (members_in (ps ++ qs)),
-      count-append x p.nest.members
-          (members_in ps),
-    )
+-- what adds up over the parts is the same from whichever part they are told
+pub sum_turned : (G : List PartValue → ℕ) → ((ps qs : List PartValue) → G (ps ++ qs) ≡ G ps + G qs) → (i : ℕ) (ps : List PartValue)
+    → G (drop i ps ++ take i ps) ≡ G ps
+sum_turned G add i ps =
+    omega (arith, add, ap G (take-append-drop i ps))
 
 pub members_turned : (x : ℕ) (i : ℕ) (ps : List PartValue) → count x (members_in (drop i ps ++ take i ps)) ≡ count x (members_in ps)
-members_turned x i ps =
-    omega (
-      arith,
-      members_in-append x (drop i ps) (take i ps),
-      members_in-append x (take i ps) (drop i ps),
-      ap
-          (λ (qs : List PartValue). count x (members_in qs)) (take-append-drop i ps),
-    )
+members_turned x i ps = sum_turned (λ (qs : List PartValue). count x (members_in qs)) (members-append part_sets x []) i ps
 
 pub members_size : (ps : List PartValue) → AllKept ps → (length (members_in ps) + length ps) % 2 ≡ 0
 members_size [] all = refl
@@ -83,7 +70,8 @@ pub none_in : (x : ℕ) (ps : List PartValue) → AllKept ps → count x (member
 none_in x [] all none = tt
 none_in x (p ∷ ps) all none =
     let c = count-append x p.nest.members (members_in ps) in
-    NoneHold-append x (bands p.nest) (bands_in ps) (none_hold x p.nest all.0 (omega (arith, c))) (none_in x ps all.1 (omega (arith, c)))
+    each-append (Misses x) (bands p.nest) (bands_in ps) (none_hold x p.nest all.0 (omega (arith, c)))
+    (none_in x ps all.1 (omega (arith, c)))
 
 pub made_kept : (key : ℕ) (ms : List ℕ) (w : ℕ) (near : List ℕ) (ps : List PartValue) → IsMade ms ps → Kept (nest_of key ms w near ps)
 made_kept key ms w near [] one = record { odd = omega (arith, one); covered = λ x none. tt; single = λ e. one }

@@ -31,11 +31,7 @@ not_hit x y ne = not_case (eqb x y) x y refl ne
 pub counts_next : (members : List ℕ) (i x : ℕ) → i < length members
     → count x (take (i + 1) members) ≡ count x (take i members) + hit x (get_or members i 0)
 counts_next members i x low =
-    omega (
-      arith,
-      ap (λ (ys : List ℕ). count x ys) (number_here members i low),
-      count-append x (take i members) (get_or members i 0 ∷ []),
-    )
+    omega (arith, ap (λ (ys : List ℕ). count x ys) (number_here members i low), count-append)
 
 put_case : (p : Bool) (x m v : ℕ) (cells : List ℕ) → eqb x m ≡ p → m < length cells → (x ≢ m → get_or cells x 0 ≡ v)
     → get_or (set cells m v) x 0 ≡ v
@@ -171,10 +167,10 @@ least_low t h (p ∷ ps) a x f once here none lx =
 min_case : (t : TableValue) (h : ℕ → ℕ) (xs ys : List ℕ) (x one rest : ℕ) → IsRoom t h xs x one
     → (rest ≡ FAR) ⊎ IsRoom t h ys x rest → one < FAR → (one < rest) ⊎ (rest ≤ one) → IsRoom t h (xs ++ ys) x (min one rest)
 min_case t h xs ys x one rest k later near (inl less) =
-    record { a = k.a; here = omega (arith, k.here, count-append k.a xs ys); exact = omega (arith, k.exact, less) }
+    record { a = k.a; here = omega (arith, k.here, count-append); exact = omega (arith, k.exact, less) }
 min_case t h xs ys x one rest k (inl far) near (inr more) = absurd (omega (arith, far, more, near))
 min_case t h xs ys x one rest k (inr l) near (inr more) =
-    record { a = l.a; here = omega (arith, l.here, count-append l.a xs ys); exact = omega (arith, l.exact, more) }
+    record { a = l.a; here = omega (arith, l.here, count-append); exact = omega (arith, l.exact, more) }
 
 least_with : (t : TableValue) (h : ℕ → ℕ) (p : PartValue) (ps : List PartValue) (x : ℕ) → IsSound t h p.nest
     → ((y : ℕ) → count y (members_in (p ∷ ps)) ≤ 1) → count x (members_in (p ∷ ps)) ≡ 0 → x < t.places
@@ -241,7 +237,7 @@ ring_near t h p ps f once local =
         arith,
         other x none lx,
         least_short p ps x
-            (f.0.nest.near.0.short x (omega (arith, none, count-append x p.nest.members (members_in ps))) lx),
+            (f.0.nest.near.0.short x (omega (arith, none, count-append)) lx),
       );
       least = λ a x ha none lx. omega (arith, other x none lx, local a ha, least_low t h (p ∷ ps) a x f (once a) ha none lx);
       is = λ x none lx.

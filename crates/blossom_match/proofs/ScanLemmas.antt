@@ -9,35 +9,30 @@ use Rattle.blossom_match.specs.Bounds.{holding, FirstIsDue, IsWidthOf, Narrows, 
 use Rattle.blossom_match.specs.Values.{BranchValue}
 use Rattle.blossom_match.specs.declared.least.Change.{Change}
 use Rattle.blossom_match.proofs.ListLemmas.{drop_here, each-map, each-push, take_here}
-use Rattle.blossom_match.proofs.SumLemmas.{count-append}
+use Rattle.blossom_match.proofs.SumLemmas.{count-append, members-append}
 use Rattle.blossom_match.proofs.ChainLemmas.{around_append}
-use Rattle.blossom_match.proofs.TreeLemmas.{base_in, outer-append}
+use Rattle.blossom_match.proofs.TreeLemmas.{base_in}
 
 -- outer sets that do not hold one of the places do not hold both
 pub around_none : (a b : ℕ) (base : List ℕ) (bs : List BranchValue) → count b (outer_members base bs) ≡ 0 → around a b bs ≡ 0
 around_none a b base [] none = refl
 around_none a b base (c ∷ cs) none =
-    let n = count-append b c.outer.members (outer_members base cs) in
-    omega (arith, around_none a b base cs (omega (arith, n, none)), n, none)
+    omega (arith, around_none a b base cs (omega (arith, count-append, none)), count-append, none)
 
 -- no outer set holds a place of those before and a place of this one
 pub apart_from : (a b : ℕ) (root : NestValue) (bs : List BranchValue) (c : BranchValue) (after : List BranchValue)
     → ((x : ℕ) → count x (outer_members root.members (bs ++ c ∷ after)) ≤ 1) →
     1 ≤ count a (outer_members root.members bs) → 1 ≤ count b c.outer.members → holding a b root (bs ++ c ∷ after) ≡ 0
 apart_from a b root bs c after once ha hb =
-    let at = λ (x : ℕ). outer-append x root.members bs (c ∷ after) in
-    let on = λ (x : ℕ). count-append x c.outer.members (outer_members [] after) in
     omega (
       arith,
-      around_append a b bs (c ∷ after),
-      around_none a b root.members bs (omega (arith, at b, on b, once b, hb)),
-      around_none a b [] after (omega (arith, at b, on b, once b, hb)),
-      at a,
-      on a,
+      around_append,
+      around_none a b root.members bs (omega (arith, members-append, count-append, once b, hb)),
+      around_none a b [] after (omega (arith, members-append, count-append, once b, hb)),
+      members-append,
+      count-append,
       once a,
       ha,
-      at b,
-      on b,
       once b,
       hb,
       base_in b root.members bs,

@@ -3,11 +3,11 @@ use Rattle.std.proofs.Common.{◌≡◌, ℕ, ◌+◌, ◌≤◌, ◌<◌, suc, 
 use Rattle.std.proofs.lemmas.Bool.{lt-ltb, ltb-true, ltb-false}
 use Rattle.std.proofs.lemmas.List.{take-append-drop}
 use Rattle.blossom_match.specs.Lists.{Each}
-use Rattle.blossom_match.specs.Bands.{Adds, Band, NestValue, bands, count, height, hit, load}
+use Rattle.blossom_match.specs.Bands.{Adds, Band, NestValue, bands, count, height, hit, load, Misses, NoneHold}
 use Rattle.blossom_match.specs.Rings.{back_of}
 use Rattle.blossom_match.specs.Couples.{couple_members, couple_bands, IsJoined}
 use Rattle.blossom_match.specs.Sound.{IsFirm, IsFirmCouple, IsSound, IsSymmetric, IsTight}
-use Rattle.blossom_match.specs.Trees.{branch_bands, hung_by, inner_bands, inner_members, outer_members, IsGrown, TakesOut}
+use Rattle.blossom_match.specs.Trees.{branch_bands, branch_sets, hung_by, inner_bands, inner_members, inner_sets, outer_members, outer_sets, IsGrown, TakesOut}
 use Rattle.blossom_match.specs.Shrinks.{Shrinking, Shrinks}
 use Rattle.blossom_match.specs.Lays.{Expands}
 use Rattle.blossom_match.specs.Searches.{height_at, is_place, outers, Advances, CanStep, FreeHaveRoom}
@@ -16,10 +16,10 @@ use Rattle.blossom_match.specs.declared.nest.Link.{Link}
 use Rattle.blossom_match.specs.Values.{BranchValue, CoupleValue, SearchValue}
 use Rattle.blossom_match.specs.declared.search.Step.TheVariants.{Grow, Shrink, Expand}
 use Rattle.blossom_match.proofs.ListLemmas.{each-append, each-left, each-right, each-push}
-use Rattle.blossom_match.proofs.SumLemmas.{count-append, height-append, load-append, low, size-append}
+use Rattle.blossom_match.proofs.SumLemmas.{bands-append, bands_push, count-append, height-append, load-append, members-append, members_push, none_hold, none_tall, size-append}
 use Rattle.blossom_match.proofs.ChainLemmas.{tight_back}
 use Rattle.blossom_match.proofs.TableLemmas.{entry-comm}
-use Rattle.blossom_match.proofs.TreeLemmas.{branch_bands_push, couple_bands-append, couple_members-append, grown_push, inner_bands_push, inner_members_push, outer_members_push}
+use Rattle.blossom_match.proofs.TreeLemmas.{grown_push}
 
 free_none : (x : ℕ) {xs ys : List ℕ} → xs ≡ ys → count x xs ≡ 0 → count x ys ≡ 0
 free_none x e none = omega (arith, none, ap (λ (zs : List ℕ). count x zs) e)
@@ -149,26 +149,12 @@ members_split : (x : ℕ) (before after : List CoupleValue) (c : CoupleValue) �
     count x (couple_members (before ++ c ∷ after)) ≡ count x (couple_members (before ++ after)) + count x c.first.members
     + count x c.second.members
 members_split x before after c =
-    omega (
-      arith,
-      couple_members-append x before (c ∷ after),
-      couple_members-append x before after,
-      count-append x c.first.members
-          (c.second.members ++ couple_members after),
-      count-append x c.second.members (couple_members after),
-    )
+    omega (arith, members-append, count-append)
 
 bands_split : (F : List Band → ℕ) → Adds F → (before after : List CoupleValue) (c : CoupleValue) →
     F (couple_bands (before ++ c ∷ after)) ≡ F (couple_bands (before ++ after)) + F (bands c.first) + F (bands c.second)
 bands_split F add before after c =
-    omega (
-      arith,
-      couple_bands-append F add before (c ∷ after),
-      couple_bands-append F add before after,
-      add (bands c.first)
-          (bands c.second ++ couple_bands after),
-      add (bands c.second) (couple_bands after),
-    )
+    omega (arith, bands-append F add, add)
 
 without : (P : CoupleValue → Type 0) (before after : List CoupleValue) (c : CoupleValue) → Each P (before ++ c ∷ after) → P c × Each P
     (before ++ after)
@@ -216,10 +202,10 @@ hung link s r c out g e f same =
     let held = λ (x : ℕ). ap (λ (cs : List CoupleValue). count x (couple_members cs)) out.was ∙ members_split x out.before out.after c in
     let kept = λ (x : ℕ). ap (λ (cs : List CoupleValue). count x (couple_members cs)) out.now in
     let grew = λ (F : List Band → ℕ) (add : Adds F). ap (λ (ks : List BranchValue). F (branch_bands ks)) g
-    ∙ branch_bands_push F add s.tree b in
+    ∙ bands_push F add BranchValue branch_sets s.tree b in
     let outside = λ (x : ℕ). ap (λ (v : NestValue). count x (outer_members v.members r.tree)) e
-    ∙ ap (λ (ks : List BranchValue). count x (outer_members s.root.members ks)) g ∙ outer_members_push x s.root.members s.tree b in
-    let inside = λ (x : ℕ). ap (λ (ks : List BranchValue). count x (inner_members ks)) g ∙ inner_members_push x s.tree b in
+    ∙ ap (λ (ks : List BranchValue). count x (outer_members s.root.members ks)) g ∙ members_push outer_sets x s.root.members s.tree b in
+    let inside = λ (x : ℕ). ap (λ (ks : List BranchValue). count x (inner_members ks)) g ∙ members_push inner_sets x [] s.tree b in
     record {
       search = λ t h i ready.
           let joined = without IsJoined out.before out.after c (subst (λ (cs : List CoupleValue). Each IsJoined cs) out.was i.joined) in
@@ -262,7 +248,7 @@ hung link s r c out g e f same =
       fewer = omega (
         arith,
         hung_fewer (ltb 0 (count link.to c.first.members)) link c,
-        ap (λ (ks : List BranchValue). length (inner_bands ks)) g ∙ inner_bands_push sizes size-append s.tree b,
+        ap (λ (ks : List BranchValue). length (inner_bands ks)) g ∙ bands_push sizes size-append BranchValue inner_sets s.tree b,
         was sizes size-append,
         now sizes,
       );
@@ -270,38 +256,35 @@ hung link s r c out g e f same =
       heights = same;
     }
 
--- a place in no set has height 0
+-- a place in no member list is in no set
+pub none_branches : (d : TableValue) (h : ℕ → ℕ) (x : ℕ) (base : List ℕ) (tree : List BranchValue) → Each (IsFirm d h) tree
+    → count x (outer_members base tree) ≡ 0 → count x (inner_members tree) ≡ 0 → NoneHold x (branch_bands tree)
+none_branches d h x base [] f none empty = tt
+none_branches d h x base (b ∷ bs) f none empty =
+    each-append (Misses x) (bands b.inner) (bands b.outer ++ branch_bands bs)
+    (none_hold x b.inner f.0.inner.kept (omega (arith, count-append, empty)))
+    (each-append (Misses x) (bands b.outer) (branch_bands bs) (none_hold x b.outer f.0.outer.kept (omega (arith, count-append, none)))
+    (none_branches d h x base bs f.1 (omega (arith, count-append, none)) (omega (arith, count-append, empty))))
+
+pub none_couples : (d : TableValue) (h : ℕ → ℕ) (x : ℕ) (cs : List CoupleValue) → Each (IsFirmCouple d h) cs
+    → count x (couple_members cs) ≡ 0 → NoneHold x (couple_bands cs)
+none_couples d h x [] f none = tt
+none_couples d h x (c ∷ cs) f none =
+    each-append (Misses x) (bands c.first) (bands c.second ++ couple_bands cs)
+    (none_hold x c.first f.0.first.kept (omega (arith, count-append, none)))
+    (each-append (Misses x) (bands c.second) (couple_bands cs) (none_hold x c.second f.0.second.kept (omega (arith, count-append, none)))
+    (none_couples d h x cs f.1 (omega (arith, count-append, none))))
+
+-- and has height 0
 pub low_branches : (d : TableValue) (h : ℕ → ℕ) (x : ℕ) (base : List ℕ) (tree : List BranchValue) → Each (IsFirm d h) tree
     → count x (outer_members base tree) ≡ 0 → count x (inner_members tree) ≡ 0 →
     height x (branch_bands tree) ≡ 0
-low_branches d h x base [] f none empty = refl
-low_branches d h x base (b ∷ bs) f none empty =
-    let o = count-append x b.outer.members (outer_members base bs) in
-    let i = count-append x b.inner.members (inner_members bs) in
-    omega (
-      arith,
-      low x b.inner f.0.inner.kept (omega (arith, i, empty)),
-      low x b.outer f.0.outer.kept (omega (arith, o, none)),
-      low_branches d h x base bs f.1 (omega (arith, o, none)) (omega (arith, i, empty)),
-      height-append x (bands b.inner) (bands b.outer ++ branch_bands bs),
-      height-append x (bands b.outer) (branch_bands bs),
-    )
+low_branches d h x base tree f none empty = none_tall x (branch_bands tree) (none_branches d h x base tree f none empty)
 
 pub low_couples : (d : TableValue) (h : ℕ → ℕ) (x : ℕ) (cs : List CoupleValue) → Each (IsFirmCouple d h) cs → count x (couple_members cs)
     ≡ 0
     → height x (couple_bands cs) ≡ 0
-low_couples d h x [] f none = refl
-low_couples d h x (c ∷ cs) f none =
-    let o = count-append x c.first.members (c.second.members ++ couple_members cs) in
-    let i = count-append x c.second.members (couple_members cs) in
-    omega (
-      arith,
-      low x c.first f.0.first.kept (omega (arith, o, i, none)),
-      low x c.second f.0.second.kept (omega (arith, o, i, none)),
-      low_couples d h x cs f.1 (omega (arith, o, i, none)),
-      height-append x (bands c.first) (bands c.second ++ couple_bands cs),
-      height-append x (bands c.second) (couple_bands cs),
-    )
+low_couples d h x cs f none = none_tall x (couple_bands cs) (none_couples d h x cs f none)
 
 -- a place is taken from the free ones
 pub taken_place : (x : ℕ) (xs new : List ℕ) (i place : ℕ) → i < length xs → get_or xs i 0 ≡ place → new ≡ take i xs ++ drop (suc i) xs
@@ -311,10 +294,9 @@ taken_place x xs new i place low is e =
     omega (
       arith,
       ap (λ (ys : List ℕ). count x ys) e,
-      count-append x (take i xs) (drop (suc i) xs),
+      count-append,
       ap (λ (ys : List ℕ). count x ys)
           (take-append-drop i xs),
-      count-append x (take i xs) (drop i xs),
       ap (λ (ys : List ℕ). count x ys) here,
     )
 

@@ -7,15 +7,15 @@ use Rattle.blossom_match.specs.Bands.{Adds, Band, NestValue, Kept, bands, count}
 use Rattle.blossom_match.specs.Rings.{members_in, bands_in, IsRing}
 use Rattle.blossom_match.specs.RingRows.{HaveRows}
 use Rattle.blossom_match.specs.Sound.{IsFirm, IsSound, IsFirmPart}
-use Rattle.blossom_match.specs.Trees.{both, outer_members, inner_members, IsGrown}
+use Rattle.blossom_match.specs.Trees.{both, outer_members, inner_members, outer_sets, IsGrown}
 use Rattle.blossom_match.specs.Shrinks.{part_of, ring_value, Closable, Shrinking, Shrinks, Chaining}
 use Rattle.blossom_match.specs.declared.nest.Link.{Link}
 use Rattle.blossom_match.specs.Values.{BranchValue, PartValue}
 use Rattle.blossom_match.proofs.ListLemmas.{each-append, each-left, each-last, each-map}
-use Rattle.blossom_match.proofs.SumLemmas.{adds_none, count-append, size-append, some_member}
+use Rattle.blossom_match.proofs.SumLemmas.{adds_none, bands-append, bands_push, count-append, members-append, members_push, size-append, some_member}
 use Rattle.blossom_match.proofs.ClosingLemmas.{chain_closes, ring_sound, tree_even}
-use Rattle.blossom_match.proofs.TreeLemmas.{last_of, outer_members_push, inner_members_push, branch_bands_push, branch_bands-append, inner_bands_push, inner_bands-append, grown_more, grown-append, outer-append, inner-append}
-use Rattle.blossom_match.proofs.ChainLemmas.{around_push}
+use Rattle.blossom_match.proofs.TreeLemmas.{last_of, grown_more, grown-append}
+use Rattle.blossom_match.proofs.ChainLemmas.{around_append}
 
 pub ring_from : (top : NestValue) (way : Link) (chain : List PartValue) (to : ℕ) → Closable top way chain to → Kept top
     → IsRing (part_of top way ∷ chain)
@@ -51,7 +51,7 @@ have_rows t h top way chain s f within = record {
   rows = (refl, same_size t h (length top.near) s.near.0.size chain f);
   within = λ x here. omega (
     arith,
-    within x (omega (arith, here, count-append x top.members (members_in chain))),
+    within x (omega (arith, here, count-append)),
     s.near.0.size,
   );
 }
@@ -67,13 +67,13 @@ closable link root tree left bs b chain aside way to sh c e here there =
     let u = c.firm sh.t sh.h sh.symmetric sh.tight sh.firm in
     record {
       leads = c.leads;
-      from = omega (arith, c.once way.from, c.places way.from, outer_members_push way.from root.members bs b);
-      back = omega (arith, c.once to, c.places to, outer_members_push to root.members bs b);
+      from = omega (arith, c.once way.from, c.places way.from, members_push);
+      back = omega (arith, c.once to, c.places to, members_push);
       even = c.even;
-      some = not_empty link b.outer way to chain c.begun (omega (arith, c.apart, around_push link.from link.to bs b)) here there;
+      some = not_empty link b.outer way to chain c.begun (omega (arith, c.apart, around_append)) here there;
       kept = c.kept;
       rows = have_rows sh.t sh.h b.outer way chain (each-last (IsFirm sh.t sh.h) bs b u.0).outer u.2
-          (λ x some. sh.within x (omega (arith, some, c.places x, outer_members_push x root.members bs b)));
+          (λ x some. sh.within x (omega (arith, some, c.places x, members_push)));
     }
 
 pub closable_root : (link : Link) (root : NestValue) (tree left : List BranchValue) (chain : List PartValue) (aside : List BranchValue)
@@ -108,7 +108,7 @@ ring_sums F add key top way chain ring e =
       ap (λ (s : NestValue). F (bands s)) e,
       add (record { key = key; members = members_in (part_of top way ∷ chain); width = 0 } ∷ [])
           (bands_in (part_of top way ∷ chain)),
-      add (bands top) (bands_in chain),
+      add,
     )
 
 -- the heights of two places in the tree are both even or both odd
@@ -134,58 +134,26 @@ closed_inside key link root ring tree left bs mid new b chain aside way to sh c 
     let parts = part_of b.outer way ∷ chain in
     let q = λ (x : ℕ). count-append x b.outer.members (members_in chain) in
     let r = λ (x : ℕ). ap (λ (s : NestValue). count x s.members) closes ∙ q x in
-    let o = λ (x : ℕ). outer_members_push x root.members bs b in
     let b2 = with_outer b ring in
-    let o2 = λ (x : ℕ). outer_members_push x root.members bs b2 in
-    let i = λ (x : ℕ). inner_members_push x bs b in
-    let i2 = λ (x : ℕ). inner_members_push x bs b2 in
     let sizes = λ (ks : List Band). length ks in
     let made : IsGrown root.members (bs ++ b2 ∷ []) = grown-append root.members bs (b2 ∷ []) l.grown
-    (l.above, l.up_to, l.pair_from, omega (arith, l.pair_to, r b.pair.to, o b.pair.to, c.once b.pair.to, c.places b.pair.to), tt) in
+    (l.above, l.up_to, l.pair_from, omega (arith, l.pair_to, r b.pair.to, members_push, c.once b.pair.to, c.places b.pair.to), tt) in
     let hung : IsGrown (outer_members root.members (bs ++ b2 ∷ [])) (reverse aside) =
     grown_more (members_in chain ++ outer_members root.members (bs ++ b ∷ [])) (outer_members root.members (bs ++ b2 ∷ [])) (reverse aside)
-    (λ x. omega (arith, o x, o2 x, r x, count-append x (members_in chain) (outer_members root.members (bs ++ b ∷ [])))) c.hung in
+    (λ x. omega (arith, members_push, r x, count-append)) c.hung in
     let is : new ≡ (bs ++ b2 ∷ []) ++ reverse aside = n ∙ ap (λ (ks : List BranchValue). ks ++ reverse aside) m in
     subst (λ (ks : List BranchValue). Shrinks key link root root tree ks) (sym is) (record {
       grown = grown-append root.members (bs ++ b2 ∷ []) (reverse aside) made hung;
-      places = λ x. omega (
-        arith,
-        outer-append x root.members (bs ++ b2 ∷ []) (reverse aside),
-        inner-append x (bs ++ b2 ∷ [])
-            (reverse aside),
-        o x,
-        o2 x,
-        i x,
-        i2 x,
-        r x,
-        c.places x,
-      );
+      places = λ x. omega (arith, members-append, members_push, r x, c.places x);
       ring = members_in parts;
-      sums = λ F add. omega (
-        arith,
-        branch_bands-append F add (bs ++ b2 ∷ [])
-            (reverse aside),
-        branch_bands_push F add bs b2,
-        branch_bands_push F add bs b,
-        c.sums F add,
-        ring_sums F add key b.outer way chain ring
-            closes,
-      );
-      fewer = omega (
-        arith,
-        inner_bands-append sizes size-append (bs ++ b2 ∷ [])
-            (reverse aside),
-        inner_bands_push sizes size-append bs b2,
-        inner_bands_push sizes size-append bs b,
-        c.fewer,
-        cl.some,
-      );
+      sums = λ F add. omega (arith, bands-append F add, bands_push F add, c.sums F add, ring_sums F add key b.outer way chain ring closes);
+      fewer = omega (arith, bands-append sizes size-append, bands_push sizes size-append, c.fewer, cl.some);
       firm = λ d h sy w s t. let u = c.firm d h sy w t in let f = each-last (IsFirm d h) bs b u.0 in
           let sound = ring_sound d h key (part_of b.outer way) chain (ring_from b.outer way chain to cl kb)
-          (λ x. omega (arith, q x, o x, c.once x, c.places x))
+          (λ x. omega (arith, q x, members_push, c.once x, c.places x))
           (record { next = u.3; nest = f.outer }, u.2)
-          (λ x y hx hy. two_even d h root tree sh.grown s t x y (omega (arith, hx, q x, o x, c.places x))
-          (omega (arith, hy, q y, o y, c.places y))) in (
+          (λ x y hx hy. two_even d h root tree sh.grown s t x y (omega (arith, hx, q x, members_push, c.places x))
+          (omega (arith, hy, q y, members_push, c.places y))) in (
             s,
             each-append (IsFirm d h) (bs ++ b2 ∷ []) (reverse aside)
                 (each-append (IsFirm d h) bs (b2 ∷ []) (each-left (IsFirm d h) bs (b ∷ []) u.0) (
@@ -206,8 +174,8 @@ at_the_root key link root ring tree new chain aside way to sh c cl kr closes n =
     let r = λ (x : ℕ). ap (λ (s : NestValue). count x s.members) closes ∙ q x in
     subst (λ (ks : List BranchValue). Shrinks key link root ring tree ks) (sym n) (record {
       grown = grown_more (members_in chain ++ root.members) ring.members (reverse aside)
-          (λ x. omega (arith, r x, count-append x (members_in chain) root.members)) c.hung;
-      places = λ x. omega (arith, outer-append x ring.members [] (reverse aside), r x, c.places x);
+          (λ x. omega (arith, r x, count-append)) c.hung;
+      places = λ x. omega (arith, members-append outer_sets x ring.members [] (reverse aside), r x, c.places x);
       ring = members_in (part_of root way ∷ chain);
       sums = λ F add. omega (arith, c.sums F add, adds_none F add, ring_sums F add key root way chain ring closes);
       fewer = omega (arith, c.fewer, cl.some);

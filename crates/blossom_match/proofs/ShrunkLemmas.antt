@@ -8,17 +8,16 @@ use Rattle.blossom_match.specs.Rings.{bands_in}
 use Rattle.blossom_match.specs.Shrinks.{branch_of, part_of, ring_value, Chaining, Closable, Shrinking, Shrinks}
 use Rattle.blossom_match.specs.Slots.{branch_in, branches_in, parts_in, set_in, AreSets, Inserts, Slots}
 use Rattle.blossom_match.specs.Sound.{IsFirm}
-use Rattle.blossom_match.specs.Trees.{all_bands, branch_bands}
+use Rattle.blossom_match.specs.Trees.{all_bands, branch_bands, branch_sets}
 use Rattle.blossom_match.specs.Values.{BranchValue, CoupleValue, PartValue}
 use Rattle.blossom_match.specs.declared.nest.Link.{Link}
 use Rattle.blossom_match.specs.declared.nest.Seat.{Seat}
 use Rattle.blossom_match.specs.declared.nest.Part.{Part}
 use Rattle.blossom_match.specs.declared.branches.Branch.{Branch}
 use Rattle.blossom_match.proofs.ListLemmas.{each-last, mapped_reverse, none_left}
-use Rattle.blossom_match.proofs.SumLemmas.{uses-append}
+use Rattle.blossom_match.proofs.SumLemmas.{bands_push, uses-append}
 use Rattle.blossom_match.proofs.SlotLemmas.{inserted_keeps, keep_branches, keep_seat, sets_fewer}
 use Rattle.blossom_match.proofs.ShrinkLemmas.{closed_inside, closed_root}
-use Rattle.blossom_match.proofs.TreeLemmas.{branch_bands_push}
 
 -- a key in the sets of a search
 pub all_uses : (k : ℕ) (root : NestValue) (tree : List BranchValue) (rest : List CoupleValue) → uses k (all_bands root tree rest)
@@ -50,7 +49,7 @@ ring_sets sets link root tree left bs b chain aside way to c e are =
       uses-append k (bands b.outer) (bands_in chain),
       c.sums (uses k) (uses-append k),
       ap (λ (ks : List BranchValue). uses k (branch_bands ks)) e,
-      branch_bands_push (uses k) (uses-append k) bs b,
+      bands_push (uses k) (uses-append k),
     ))
 
 pub root_sets : (sets : Slots) (link : Link) (root : NestValue) (tree left : List BranchValue)
@@ -83,7 +82,7 @@ module _ (old new : Slots) (link : Link) (root : Seat) (tree : List Branch) (lef
       let turned = mapped_reverse (branch_in old) aside in
       let count = λ (k : ℕ). all_uses k (set_in old root) (branches_in old tree) [] in
       let sum = λ (k : ℕ). c.sums (uses k) (uses-append k) in
-      let push = λ (k : ℕ). branch_bands_push (uses k) (uses-append k) (branches_in old bs) last in
+      let push = λ (k : ℕ). bands_push (uses k) (uses-append k) BranchValue branch_sets (branches_in old bs) last in
       let at = λ (k : ℕ). ap (λ (ks : List BranchValue). uses k (branch_bands ks)) e in
       let r = keep_seat old new root (inserted_keeps old new ring.key (bands (set_in old root)) ins.fresh ins.others
       (λ k u. are.each k (omega (arith, u, count k)))) in

@@ -15,11 +15,10 @@ use Rattle.blossom_match.specs.declared.nest.Seat.{Seat}
 use Rattle.blossom_match.specs.declared.couples.Couple.{Couple}
 use Rattle.blossom_match.specs.declared.branches.Branch.{Branch}
 use Rattle.blossom_match.specs.declared.search.Step.TheVariants.{Meet}
-use Rattle.blossom_match.proofs.SumLemmas.{hit_is, hit_same, uses-append}
+use Rattle.blossom_match.proofs.SumLemmas.{bands-append, bands_push, hit_is, hit_same, uses-append}
 use Rattle.blossom_match.proofs.SlotLemmas.{inserted_keeps, keep_branches, keep_couples, keep_seat, no_slot, has_slot, set_more, sets_fewer}
 use Rattle.blossom_match.proofs.SearchLemmas.{is_one}
 use Rattle.blossom_match.proofs.ShrunkLemmas.{all_uses}
-use Rattle.blossom_match.proofs.TreeLemmas.{branch_bands_push, couple_bands-append}
 
 unused_case : (n : ℕ) (sets : Slots) (key : ℕ) (bs : List Band) → uses key bs ≡ n → AreSets sets bs → get sets key ≡ None
     → uses key bs ≡ 0
@@ -129,12 +128,11 @@ grown_sets sets place up root tree now rest left c out e are =
       all_uses k root tree rest,
       all_uses k root now left,
       ap (λ (ks : List BranchValue). uses k (branch_bands ks)) e,
-      branch_bands_push (uses k) (uses-append k) tree (hung_by up c),
+      bands_push (uses k) (uses-append k),
       hung_uses (ltb 0 (count up.to c.first.members)) k up c (hung_by up c) refl,
       ap (λ (ks : List CoupleValue). uses k (couple_bands ks)) out.was,
       ap (λ (ks : List CoupleValue). uses k (couple_bands ks)) out.now,
-      couple_bands-append (uses k) (uses-append k) out.before (c ∷ out.after),
-      couple_bands-append (uses k) (uses-append k) out.before out.after,
+      bands-append (uses k) (uses-append k),
       uses-append k (bands c.first) (bands c.second ++ couple_bands out.after),
       uses-append k (bands c.second) (couple_bands out.after),
     ))

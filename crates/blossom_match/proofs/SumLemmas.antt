@@ -1,24 +1,30 @@
--- Counts, heights and loads of joined lists.
-use Rattle.std.proofs.Common.{◌≡◌, ℕ, ◌+◌, ◌-◌, ◌*◌, ◌≤◌, List, [], ◌∷◌, ◌++◌, arith, refl, cond, eqb, length, length-append, Bool, true, false, ap}
+-- Counts, heights and loads of joined lists, and of the sets of items.
+use Rattle.std.proofs.Common.{◌≡◌, ℕ, ◌+◌, ◌-◌, ◌*◌, ◌≤◌, List, [], ◌∷◌, ◌++◌, arith, refl, cond, eqb, length, length-append, Bool, true, false, ap, ◌∙◌}
 use Rattle.std.proofs.lemmas.Bool.{eqb-true, eq-eqb}
-use Rattle.blossom_match.specs.TableValue.{TableValue}
-use Rattle.blossom_match.specs.Bands.{Band, NestValue, Adds, Toll, apart, bands, count, height, hit, load, total, uses, NoneHold, Kept, IsPaid}
+use Rattle.std.proofs.lemmas.List.Concat.{flat_map-append}
+use Rattle.std.specs.List.{flat_map}
+use Rattle.blossom_match.specs.Lists.{sum_over}
+use Rattle.blossom_match.specs.Bands.{Band, NestValue, Adds, apart, bands, bands_of, count, height, hit, load, members_onto, total, uses, NoneHold, Kept}
+
+pub sum_over-append : {X : Type 0} (f : X → ℕ) (xs ys : List X) → sum_over f (xs ++ ys) ≡ sum_over f xs + sum_over f ys
+sum_over-append f [] ys = omega arith
+sum_over-append f (x ∷ xs) ys = omega (arith, sum_over-append f xs ys)
 
 pub count-append : (x : ℕ) (xs ys : List ℕ) → count x (xs ++ ys) ≡ count x xs + count x ys
 count-append x [] ys = omega arith
 count-append x (y ∷ xs) ys = omega (arith, count-append x xs ys)
 
 pub height-append : (x : ℕ) (xs ys : List Band) → height x (xs ++ ys) ≡ height x xs + height x ys
-height-append x [] ys = omega arith
-height-append x (b ∷ xs) ys = omega (arith, height-append x xs ys)
+height-append x xs ys = sum_over-append (λ (b : Band). b.width * count x b.members) xs ys
 
 pub total-append : (xs ys : List Band) → total (xs ++ ys) ≡ total xs + total ys
-total-append [] ys = omega arith
-total-append (b ∷ xs) ys = omega (arith, total-append xs ys)
+total-append xs ys = sum_over-append (λ (b : Band). b.width) xs ys
 
 pub load-append : (a b : ℕ) (xs ys : List Band) → load a b (xs ++ ys) ≡ load a b xs + load a b ys
-load-append a b [] ys = omega arith
-load-append a b (s ∷ xs) ys = omega (arith, load-append a b xs ys)
+load-append a b xs ys = sum_over-append (λ (s : Band). s.width * apart (count a s.members) (count b s.members)) xs ys
+
+pub uses-append : (k : ℕ) (xs ys : List Band) → uses k (xs ++ ys) ≡ uses k xs + uses k ys
+uses-append k xs ys = sum_over-append (λ (b : Band). hit k b.key) xs ys
 
 pub size-append : (xs ys : List Band) → length (xs ++ ys) ≡ length xs + length ys
 size-append xs ys = length-append xs ys
@@ -29,10 +35,6 @@ adds_none F add = omega (arith, add [] [])
 pub none_tall : (x : ℕ) (bs : List Band) → NoneHold x bs → height x bs ≡ 0
 none_tall x [] none = refl
 none_tall x (b ∷ bs) none = rw none.0 (omega (arith, none_tall x bs none.1))
-
-pub NoneHold-append : (x : ℕ) (xs ys : List Band) → NoneHold x xs → NoneHold x ys → NoneHold x (xs ++ ys)
-NoneHold-append x [] ys p q = q
-NoneHold-append x (b ∷ xs) ys p q = (p.0, NoneHold-append x xs ys p.1 q)
 
 one_side : (w m : ℕ) → w * ((m - 0) + (0 - m)) ≡ w * m
 one_side w m = let e : (m - 0) + (0 - m) ≡ m = omega arith in rw e refl
@@ -69,18 +71,6 @@ load_across a b s kept none = omega (arith, load_other a b (bands s) (none_hold 
 pub load_along : (a b : ℕ) (s : NestValue) → Kept s → count b s.members ≡ 0 → load a b (bands s) ≡ height a (bands s) + height b (bands s)
 load_along a b s kept none = omega (arith, load_alone a b (bands s) (none_hold b s kept none), low b s kept none)
 
-pub IsPaid-append : (d : TableValue) (xs ys : List Toll) → IsPaid d xs → IsPaid d ys → IsPaid d (xs ++ ys)
-IsPaid-append d [] ys p q = q
-IsPaid-append d (t ∷ xs) ys p q = (p.0, IsPaid-append d xs ys p.1 q)
-
-pub IsPaid-left : (d : TableValue) (xs ys : List Toll) → IsPaid d (xs ++ ys) → IsPaid d xs
-IsPaid-left d [] ys p = tt
-IsPaid-left d (t ∷ xs) ys p = (p.0, IsPaid-left d xs ys p.1)
-
-pub IsPaid-right : (d : TableValue) (xs ys : List Toll) → IsPaid d (xs ++ ys) → IsPaid d ys
-IsPaid-right d [] ys p = p
-IsPaid-right d (t ∷ xs) ys p = IsPaid-right d xs ys p.1
-
 pub hit_same : (x : ℕ) → hit x x ≡ 1
 hit_same x = rw (eq-eqb x x refl) refl
 
@@ -96,6 +86,40 @@ pub some_member : (xs : List ℕ) → 1 ≤ length xs → (x : ℕ) × (1 ≤ co
 some_member [] some = absurd (omega arith)
 some_member (x ∷ xs) some = (x, omega (arith, hit_same x))
 
-pub uses-append : (k : ℕ) (xs ys : List Band) → uses k (xs ++ ys) ≡ uses k xs + uses k ys
-uses-append k [] ys = omega arith
-uses-append k (b ∷ xs) ys = omega (arith, uses-append k xs ys)
+-- how often sets have the place, and what F is of them
+abbrev pub counts : ℕ → List NestValue → ℕ
+counts x ss = sum_over (λ (s : NestValue). count x s.members) ss
+
+abbrev pub amounts : (List Band → ℕ) → List NestValue → ℕ
+amounts F ss = sum_over (λ (s : NestValue). F (bands s)) ss
+
+-- what a list of sets has is what they have one by one
+pub members_each : (x : ℕ) (places : List ℕ) (ss : List NestValue) → count x (members_onto places ss) ≡ count x places + counts x ss
+members_each x places [] = omega arith
+members_each x places (s ∷ ss) = omega (arith, members_each x places ss, count-append x s.members (members_onto places ss))
+
+pub bands_each : (F : List Band → ℕ) → Adds F → (ss : List NestValue) → F (bands_of ss) ≡ amounts F ss
+bands_each F add [] = adds_none F add
+bands_each F add (s ∷ ss) = omega (arith, bands_each F add ss, add (bands s) (bands_of ss))
+
+-- the sets of items
+pub sets-append : {X : Type 0} (f : X → List NestValue) (g : NestValue → ℕ) (xs ys : List X)
+    → sum_over g (flat_map f (xs ++ ys)) ≡ sum_over g (flat_map f xs) + sum_over g (flat_map f ys)
+sets-append f g xs ys = ap (sum_over g) (flat_map-append f xs ys) ∙ sum_over-append g (flat_map f xs) (flat_map f ys)
+
+pub members-append : {X : Type 0} (f : X → List NestValue) (x : ℕ) (places : List ℕ) (xs ys : List X)
+    → count x (members_onto places (flat_map f (xs ++ ys)))
+    ≡ count x (members_onto places (flat_map f xs)) + count x (members_onto [] (flat_map f ys))
+members-append f x places xs ys = omega (arith, members_each, sets-append f (λ (s : NestValue). count x s.members) xs ys)
+
+pub members_push : {X : Type 0} (f : X → List NestValue) (x : ℕ) (places : List ℕ) (xs : List X) (y : X)
+    → count x (members_onto places (flat_map f (xs ++ y ∷ []))) ≡ count x (members_onto places (flat_map f xs)) + counts x (f y)
+members_push f x places xs y = omega (arith, members-append f x places xs (y ∷ []), members_each, sum_over-append)
+
+pub bands-append : (F : List Band → ℕ) → Adds F → (X : Type 0) (f : X → List NestValue) (xs ys : List X)
+    → F (bands_of (flat_map f (xs ++ ys))) ≡ F (bands_of (flat_map f xs)) + F (bands_of (flat_map f ys))
+bands-append F add X f xs ys = omega (arith, bands_each F add, sets-append f (λ (s : NestValue). F (bands s)) xs ys)
+
+pub bands_push : (F : List Band → ℕ) → Adds F → (X : Type 0) (f : X → List NestValue) (xs : List X) (y : X)
+    → F (bands_of (flat_map f (xs ++ y ∷ []))) ≡ F (bands_of (flat_map f xs)) + amounts F (f y)
+bands_push F add X f xs y = omega (arith, bands-append F add X f xs (y ∷ []), bands_each F add, sum_over-append)

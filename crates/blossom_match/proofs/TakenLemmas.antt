@@ -2,7 +2,7 @@
 use Rattle.std.proofs.Common.{◌≡◌, ℕ, ◌+◌, ◌*◌, ◌≤◌, ◌<◌, List, [], ◌∷◌, ◌++◌, length, arith, refl, sym, ap, subst, ◌∙◌, append_assoc, Some, None, Option}
 use Rattle.std.proofs.lemmas.List.{append-nil}
 use Rattle.blossom_match.specs.Lists.{Each}
-use Rattle.blossom_match.specs.Bands.{NestValue, Band, bands, count, load, total, uses}
+use Rattle.blossom_match.specs.Bands.{Adds, NestValue, Band, bands, count, load, total, uses}
 use Rattle.blossom_match.specs.Couples.{couple_members, couple_bands, IsJoined}
 use Rattle.blossom_match.specs.Opens.{OpensAt}
 use Rattle.blossom_match.specs.Matchings.{load_on, width_of}
@@ -15,39 +15,19 @@ use Rattle.blossom_match.proofs.MoatLemmas.{cost_push, ends_push, lie_both, lie_
 
 places_of : (x : ℕ) (c : CoupleValue) (rest : List CoupleValue) → count x (couple_members (c ∷ rest))
     ≡ count x c.first.members + count x c.second.members + count x (couple_members rest)
-places_of x c rest = omega (
-  arith,
-  count-append x c.first.members (c.second.members ++ couple_members rest),
-  count-append x c.second.members
-      (couple_members rest),
-)
+places_of x c rest = omega (arith, count-append)
+
+sum_of : (F : List Band → ℕ) → Adds F → (c : CoupleValue) (rest : List CoupleValue) → F (couple_bands (c ∷ rest))
+    ≡ F (bands c.first) + F (bands c.second) + F (couple_bands rest)
+sum_of F add c rest = omega (arith, add)
 
 total_of : (c : CoupleValue) (rest : List CoupleValue) → total (couple_bands (c ∷ rest))
     ≡ total (bands c.first) + total (bands c.second) + total (couple_bands rest)
-total_of c rest = omega (
-  arith,
-  total-append (bands c.first) (bands c.second ++ couple_bands rest),
-  total-append (bands c.second)
-      (couple_bands rest),
-)
-
-loads_of : (a b : ℕ) (c : CoupleValue) (rest : List CoupleValue) → load a b (couple_bands (c ∷ rest))
-    ≡ load a b (bands c.first) + load a b (bands c.second) + load a b (couple_bands rest)
-loads_of a b c rest = omega (
-  arith,
-  load-append a b (bands c.first) (bands c.second ++ couple_bands rest),
-  load-append a b (bands c.second)
-      (couple_bands rest),
-)
+total_of c rest = sum_of total total-append c rest
 
 sizes_of : (c : CoupleValue) (rest : List CoupleValue) → length (couple_bands (c ∷ rest))
     ≡ length (bands c.first) + length (bands c.second) + length (couple_bands rest)
-sizes_of c rest = omega (
-  arith,
-  size-append (bands c.first) (bands c.second ++ couple_bands rest),
-  size-append (bands c.second)
-      (couple_bands rest),
-)
+sizes_of c rest = sum_of (λ (bs : List Band). length bs) size-append c rest
 
 pub record Head (c : CoupleValue) (all : List CoupleValue) : Type 0 where
   pub from : count c.link.from c.first.members ≡ 1
@@ -82,7 +62,6 @@ pub taking_more : (all left : List CoupleValue) (old now mid end new : List Pair
 taking_more all left old now mid end new was a b z c rest taking e one two pushed =
     let t = subst (λ (l : List CoupleValue). Taking all l old now was a) e taking in
     let both = c.first.members ++ c.second.members in
-    let at = λ (x : ℕ). count-append x c.first.members c.second.members in
     record {
       joined = t.joined.1;
       once = t.once;
@@ -109,15 +88,15 @@ taking_more all left old now mid end new was a b z c rest taking e one two pushe
             x,
       ));
       widths = omega (arith, total_of c rest, t.widths, one.widths, two.widths);
-      loads = λ x y. omega (arith, loads_of x y c rest, t.loads x y, one.loads x y, two.loads x y);
+      loads = λ x y. omega (arith, sum_of (load x y) (load-append x y) c rest, t.loads x y, one.loads x y, two.loads x y);
       taken = t.taken ++ both;
-      rest = λ x. omega (arith, t.rest x, places_of x c rest, count-append x t.taken both, at x);
+      rest = λ x. omega (arith, t.rest x, places_of x c rest, count-append);
       moats = t.moats ++ (one.moats ++ two.moats);
       is = joined_lists was a b z t.moats one.moats two.moats t.is one.is two.is;
       lie = lie_both t.taken both (t.taken ++ both) t.moats (one.moats ++ two.moats) t.lie
           (lie_both c.first.members c.second.members both one.moats two.moats one.lie two.lie
-          (λ x. omega (arith, places_of x c rest, t.once x, t.rest x)) (λ x. omega (arith, at x)))
-          (λ x. omega (arith, at x, places_of x c rest, t.once x, t.rest x)) (λ x. omega (arith, count-append x t.taken both));
+          (λ x. omega (arith, places_of x c rest, t.once x, t.rest x)) (λ x. omega (arith, count-append)))
+          (λ x. omega (arith, count-append, places_of x c rest, t.once x, t.rest x)) (λ x. omega (arith, count-append));
     }
 
 pub taking_start : (all left : List CoupleValue) (old : List Pair) (was : List Moat) → Each IsJoined all

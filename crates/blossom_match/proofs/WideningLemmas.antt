@@ -1,10 +1,10 @@
 -- After a change of widths the step can be done, and all holds that held before.
-use Rattle.std.proofs.Common.{◌≡◌, ◌≢◌, ℕ, ◌+◌, ◌*◌, ◌^◌, ◌≤◌, ◌<◌, suc, zero, List, [], ◌∷◌, length, drop, arith, refl, sym, ap, subst, ◌∙◌}
+use Rattle.std.proofs.Common.{◌≡◌, ◌≢◌, ℕ, ◌+◌, ◌*◌, ◌^◌, ◌≤◌, ◌<◌, suc, zero, List, [], ◌∷◌, flat_map, length, drop, arith, refl, sym, ap, subst, ◌∙◌}
 use Rattle.blossom_match.specs.Lists.{Each}
 use Rattle.blossom_match.specs.Bands.{Band, NestValue, apart, bands, count, height, load}
 use Rattle.blossom_match.specs.Couples.{couple_members, couple_bands, IsJoined}
 use Rattle.blossom_match.specs.Sound.{IsFirm, IsFirmCouple, IsSound, IsTight}
-use Rattle.blossom_match.specs.Trees.{around, both, branch_bands, inner_bands, inner_members, outer_members, IsGrown}
+use Rattle.blossom_match.specs.Trees.{around, both, branch_bands, inner_bands, inner_members, inner_sets, outer_members, outer_sets, IsGrown}
 use Rattle.blossom_match.specs.Lays.{FirstComesApart}
 use Rattle.blossom_match.specs.Searches.{height_at, height_of, holding_both, outers, IsReady, IsSearch}
 use Rattle.blossom_match.specs.Bounds.{Bounds, CanSearch, FirstIsDue, IsDue, RingIsWide}
@@ -18,15 +18,15 @@ use Rattle.blossom_match.specs.declared.search.Step.{Step}
 use Rattle.blossom_match.specs.declared.search.Step.TheVariants.{Meet, Grow, Shrink, Expand}
 use Rattle.blossom_match.specs.declared.least.Change.{Change}
 use Rattle.blossom_match.proofs.ListLemmas.{each-right}
-use Rattle.blossom_match.proofs.SumLemmas.{count-append, some_member}
-use Rattle.blossom_match.proofs.TreeLemmas.{base_in, inner-append, outer-append}
+use Rattle.blossom_match.proofs.SumLemmas.{count-append, members-append, some_member}
+use Rattle.blossom_match.proofs.TreeLemmas.{base_in}
 use Rattle.blossom_match.proofs.ExpandLemmas.{grown-right}
 use Rattle.blossom_match.proofs.ScanLemmas.{apart_from}
 use Rattle.blossom_match.proofs.SearchLemmas.{in_place, is_one, place_in}
 use Rattle.blossom_match.proofs.FreeLemmas.{load_of, load_of-comm, under}
 use Rattle.blossom_match.proofs.BoundLemmas.{height_limit, loads_apart}
 use Rattle.blossom_match.proofs.TableLemmas.{entry-comm}
-use Rattle.blossom_match.proofs.WidthLemmas.{around-comm, around_same_all, between_in, between_out, branches_load, branches_tall, counted_in, counted_out, couples_same, drop_changed, each_split, firm_changed, grown_same, inner_same, inside, more_wide, one_place, outer_limit, outer_same, set_limit, sizes_same, sound_up, times_by, wide_tall, within}
+use Rattle.blossom_match.proofs.WidthLemmas.{around-comm, around_same_all, between_in, between_out, branches_load, branches_tall, counted, couples_same, drop_changed, each_split, firm_changed, grown_same, inner_same, inside, more_wide, one_place, outer_limit, outer_same, set_limit, sizes_same, sound_up, times_by, wide_tall, within}
 
 -- the inner ring at which the step is due has no width after the change
 due_comes_apart : (by : ℕ) (bs : List BranchValue) → FirstIsDue by bs → FirstComesApart (all_changed by bs)
@@ -61,9 +61,9 @@ can_change t h s c is tri i b some =
     let firm = (each-right (IsFirm t h) bs (k ∷ after) (subst (λ (ks : List BranchValue). Each (IsFirm t h) ks) e i.tree)).0 in
     let ring = (each-right (RingIsWide c.by) bs (k ∷ after) (subst (λ (ks : List BranchValue). Each (RingIsWide c.by) ks) e b.rings)).0 in
     let at = λ (x : ℕ). ap (λ (ks : List BranchValue). count x (outer_members s.root.members ks)) e
-    ∙ outer-append x s.root.members bs (k ∷ after) in
+    ∙ members-append outer_sets x s.root.members bs (k ∷ after) in
     let on = λ (x : ℕ). count-append x k.outer.members (outer_members [] after) in
-    let deep = λ (x : ℕ). ap (λ (ks : List BranchValue). count x (inner_members ks)) e ∙ inner-append x bs (k ∷ after) in
+    let deep = λ (x : ℕ). ap (λ (ks : List BranchValue). count x (inner_members ks)) e ∙ members-append inner_sets x [] bs (k ∷ after) in
     let under = λ (x : ℕ). count-append x k.inner.members (inner_members after) in
     let from : 1 ≤ count k.up.from (outers s) = omega (arith, at k.up.from, grown.0) in
     let to : 1 ≤ count k.pair.to (outers s) = omega (arith, at k.pair.to, on k.pair.to, grown.3) in
@@ -109,7 +109,7 @@ can_change_heights t s c m can b wide = record {
   fall = λ x. fall_case (count x (inner_members s.tree)) c.by (height_at s x) (count x (inner_members s.tree)) refl (λ here.
       let i = can.search in
       let no : count x (outer_members [] s.tree) ≡ 0 = omega
-      (arith, i.places x, is_one t x, here, outer-append x s.root.members [] s.tree) in
+      (arith, i.places x, is_one t x, here, members-append outer_sets x s.root.members [] s.tree) in
       omega (
         arith,
         branches_tall x c.by s.tree wide,
@@ -144,7 +144,7 @@ moved by s r ch can x =
       ap (λ (v : NestValue). height x (bands v)) ch.root,
       ap (λ (ks : List BranchValue). height x (branch_bands ks)) ch.tree,
       ap (λ (cs : List CoupleValue). height x (couple_bands cs)) ch.rest,
-      times_by by _ _ _ (outer-append x s.root.members [] s.tree),
+      times_by by _ _ _ (members-append outer_sets x s.root.members [] s.tree),
     )
 
 -- the bound on a place of an outer set and any other that no set holds with it
@@ -206,8 +206,8 @@ loads_stay t h s r c i bd ch can a b la lb ne =
     (load a b (bands s.root)) refl refl in
     let branches = ap (λ (ks : List BranchValue). load a b (branch_bands ks)) ch.tree in
     let rest = ap (λ (cs : List CoupleValue). load a b (couple_bands cs)) ch.rest in
-    let oa = outer-append a s.root.members [] tree in
-    let ob = outer-append b s.root.members [] tree in
+    let oa = members-append outer_sets a s.root.members [] tree in
+    let ob = members-append outer_sets b s.root.members [] tree in
     let pa = i.places a in
     let pb = i.places b in
     within (2 * entry t a b) (load_of s a b) (load_of r a b) by bo (between_in a b tree) (holding_both a b s) (inside a b tree)
@@ -216,8 +216,8 @@ loads_stay t h s r c i bd ch can a b la lb ne =
     (load a b (bands s.root)) (load a b (branch_bands tree)) (load a b (couple_bands s.rest))
     (load a b (branch_bands (all_changed by tree))) (apart_of a b s.root) (between_out a b tree) (between_in a b tree) root branches rest
     (branches_load a b by tree can))
-    (omega (arith, counted_out a b tree, oa, ob)) (counted_in a b tree) (omega (arith, pa, is_one t a)) (omega (arith, pb, is_one t b))
-    (i.loads a b la lb ne)
+    (omega (arith, counted a b (flat_map outer_sets tree), oa, ob)) (counted a b (flat_map inner_sets tree))
+    (omega (arith, pa, is_one t a)) (omega (arith, pb, is_one t b)) (i.loads a b la lb ne)
     (λ some none apart. one_case (count a (outers s)) t h s c a b i bd la lb refl some none apart)
     (λ two apart. omega (
       arith,

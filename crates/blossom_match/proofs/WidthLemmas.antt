@@ -1,10 +1,10 @@
 -- A change of widths keeps what holds between two steps.
-use Rattle.std.proofs.Common.{◌≡◌, ℕ, ◌+◌, ◌-◌, ◌*◌, ◌^◌, ◌≤◌, ◌<◌, suc, zero, List, [], ◌∷◌, ◌++◌, length, map, take, drop, get_or, set, set-set, get_or-set_same, arith, refl, sym, ap, ◌∙◌, append_assoc}
-use Rattle.blossom_match.specs.Lists.{Each}
-use Rattle.blossom_match.specs.Bands.{NestValue, apart, bands, count, height, load, uses, with_width}
+use Rattle.std.proofs.Common.{◌≡◌, ℕ, ◌+◌, ◌-◌, ◌*◌, ◌^◌, ◌≤◌, ◌<◌, suc, zero, List, [], ◌∷◌, ◌++◌, flat_map, length, map, take, drop, get_or, set, set-set, get_or-set_same, arith, refl, sym, ap, ◌∙◌, append_assoc}
+use Rattle.blossom_match.specs.Lists.{Each, sum_over}
+use Rattle.blossom_match.specs.Bands.{NestValue, apart, bands, count, height, load, members_onto, uses, with_width}
 use Rattle.blossom_match.specs.Couples.{couple_members, IsJoined}
 use Rattle.blossom_match.specs.Sound.{IsFirm, IsFirmCouple, IsSound}
-use Rattle.blossom_match.specs.Trees.{all_bands, around, both, branch_bands, inner_bands, inner_members, outer_members, IsGrown}
+use Rattle.blossom_match.specs.Trees.{all_bands, around, both, branch_bands, inner_bands, inner_members, inner_sets, outer_members, outer_sets, IsGrown}
 use Rattle.blossom_match.specs.Searches.{outers, IsSearch}
 use Rattle.blossom_match.specs.Bounds.{Bounds}
 use Rattle.blossom_match.specs.Widths.{all_changed, changed_by, resized, CanChange, CanResize}
@@ -16,7 +16,7 @@ use Rattle.blossom_match.specs.Slots.{branch_in, branches_in, AreSets, Slots}
 use Rattle.blossom_match.specs.declared.branches.Branch.{Branch}
 use Rattle.blossom_match.specs.declared.least.Change.{Change}
 use Rattle.std.proofs.lemmas.List.Edits.{map_over_more}
-use Rattle.blossom_match.proofs.ListLemmas.{get_or_self}
+use Rattle.blossom_match.proofs.ListLemmas.{get_or_self, mapped_drop}
 use Rattle.blossom_match.proofs.SeatLemmas.{no_branch}
 use Rattle.blossom_match.proofs.ShrunkLemmas.{all_uses}
 use Rattle.blossom_match.proofs.SlotLemmas.{sets_fewer}
@@ -52,9 +52,7 @@ sizes_same by (b ∷ bs) = omega (
 )
 
 pub drop_changed : (by at : ℕ) (bs : List BranchValue) → drop at (all_changed by bs) ≡ all_changed by (drop at bs)
-drop_changed by zero bs = refl
-drop_changed by (suc at) [] = refl
-drop_changed by (suc at) (b ∷ bs) = drop_changed by at bs
+drop_changed by at bs = mapped_drop (changed_by by) at bs
 
 narrowed : (w by c : ℕ) → by ≤ w → (w - by) * c + by * c ≡ w * c
 narrowed w by c low =
@@ -137,77 +135,57 @@ pub firm_changed : (d : TableValue) (h k : ℕ → ℕ) (by : ℕ) (base : List 
     ((x : ℕ) → 1 ≤ count x (inner_members bs) → k x + by ≡ h x) → Each (IsFirm d k) (all_changed by bs)
 firm_changed d h k by base [] g can f once up down = tt
 firm_changed d h k by base (b ∷ bs) g can f once up down =
-    let o = λ (x : ℕ). count-append x b.outer.members (outer_members base bs) in
-    let i = λ (x : ℕ). count-append x b.inner.members (inner_members bs) in
     let more = λ (x : ℕ). outer_members_base x b.outer.members base bs in
-    let in_inner = λ (x : ℕ) (here : 1 ≤ count x b.inner.members). down x (omega (arith, i x, here)) in
-    let in_outer = λ (x : ℕ) (here : 1 ≤ count x b.outer.members). up x (omega (arith, o x, here)) in (
+    let in_inner = λ (x : ℕ) (here : 1 ≤ count x b.inner.members). down x (omega (arith, count-append, here)) in
+    let in_outer = λ (x : ℕ) (here : 1 ≤ count x b.outer.members). up x (omega (arith, count-append, here)) in (
       record {
         up = omega (
           arith,
           f.0.up,
-          up b.up.from (omega (arith, g.0, base_in b.up.from base bs, o b.up.from)),
+          up b.up.from (omega (arith, g.0, base_in b.up.from base bs, count-append)),
           in_inner b.up.to
               (omega (arith, g.1)),
         );
         pair = omega (arith, f.0.pair, in_inner b.pair.from (omega (arith, g.2)), in_outer b.pair.to (omega (arith, g.3)));
-        inner = sound_down d h k by b.inner can.0.wide (λ x. omega (arith, once x, i x)) in_inner f.0.inner;
-        outer = sound_up d h k by b.outer (λ x. omega (arith, once x, o x)) in_outer f.0.outer;
+        inner = sound_down d h k by b.inner can.0.wide (λ x. omega (arith, once x, count-append)) in_inner f.0.inner;
+        outer = sound_up d h k by b.outer (λ x. omega (arith, once x, count-append)) in_outer f.0.outer;
       },
-      firm_changed d h k by (b.outer.members ++ base) bs g.4 can.1 f.1 (λ x. omega (arith, once x, o x, i x, more x))
-          (λ x here. up x (omega (arith, here, more x, o x))) (λ x here. down x (omega (arith, here, i x))),
+      firm_changed d h k by (b.outer.members ++ base) bs g.4 can.1 f.1 (λ x. omega (arith, once x, count-append, more x))
+          (λ x here. up x (omega (arith, here, more x, count-append))) (λ x here. down x (omega (arith, here, count-append))),
     )
 
 pub couples_same : (d : TableValue) (h k : ℕ → ℕ) (cs : List CoupleValue) → Each IsJoined cs → Each (IsFirmCouple d h) cs
     → ((x : ℕ) → 1 ≤ count x (couple_members cs) → k x ≡ h x) → Each (IsFirmCouple d k) cs
 couples_same d h k [] j f same = tt
 couples_same d h k (c ∷ cs) j f same =
-    let o = λ (x : ℕ). count-append x c.first.members (c.second.members ++ couple_members cs) in
-    let i = λ (x : ℕ). count-append x c.second.members (couple_members cs) in
-    let first = λ (x : ℕ) (here : 1 ≤ count x c.first.members). same x (omega (arith, here, o x)) in
-    let second = λ (x : ℕ) (here : 1 ≤ count x c.second.members). same x (omega (arith, here, o x, i x)) in (
+    let first = λ (x : ℕ) (here : 1 ≤ count x c.first.members). same x (omega (arith, here, count-append)) in
+    let second = λ (x : ℕ) (here : 1 ≤ count x c.second.members). same x (omega (arith, here, count-append)) in (
       record {
         link = omega (arith, f.0.link, first c.link.from (omega (arith, j.0.from)), second c.link.to (omega (arith, j.0.to)));
         first = sound_same d h k c.first first f.0.first;
         second = sound_same d h k c.second second f.0.second;
       },
-      couples_same d h k cs j.1 f.1 (λ x here. same x (omega (arith, here, o x, i x))),
+      couples_same d h k cs j.1 f.1 (λ x here. same x (omega (arith, here, count-append))),
     )
+
+-- 1 where the set holds exactly one of the places
+abbrev one_of : ℕ → ℕ → NestValue → ℕ
+one_of a b s = apart (count a s.members) (count b s.members)
 
 -- how many sets of the branches hold exactly one of the places, and how many inner sets hold both
 abbrev pub between_out : ℕ → ℕ → List BranchValue → ℕ
-between_out a b [] = 0
-between_out a b (c ∷ cs) = apart (count a c.outer.members) (count b c.outer.members) + between_out a b cs
+between_out a b bs = sum_over (one_of a b) (flat_map outer_sets bs)
 
 abbrev pub between_in : ℕ → ℕ → List BranchValue → ℕ
-between_in a b [] = 0
-between_in a b (c ∷ cs) = apart (count a c.inner.members) (count b c.inner.members) + between_in a b cs
+between_in a b bs = sum_over (one_of a b) (flat_map inner_sets bs)
 
 abbrev pub inside : ℕ → ℕ → List BranchValue → ℕ
-inside a b [] = 0
-inside a b (c ∷ cs) = both a b c.inner + inside a b cs
+inside a b bs = sum_over (both a b) (flat_map inner_sets bs)
 
-pub counted_out : (a b : ℕ) (bs : List BranchValue) → between_out a b bs + 2 * around a b bs
-    ≡ count a (outer_members [] bs) + count b (outer_members [] bs)
-counted_out a b [] = refl
-counted_out a b (c ∷ cs) = omega (
-  arith,
-  counted_out a b cs,
-  count-append a c.outer.members
-      (outer_members [] cs),
-  count-append b c.outer.members (outer_members [] cs),
-)
-
-pub counted_in : (a b : ℕ) (bs : List BranchValue) → between_in a b bs + 2 * inside a b bs
-    ≡ count a (inner_members bs) + count b (inner_members bs)
-counted_in a b [] = refl
-counted_in a b (c ∷ cs) = omega (
-  arith,
-  counted_in a b cs,
-  count-append a c.inner.members (inner_members cs),
-  count-append b c.inner.members
-      (inner_members cs),
-)
+pub counted : (a b : ℕ) (ss : List NestValue) → sum_over (one_of a b) ss + 2 * sum_over (both a b) ss
+    ≡ count a (members_onto [] ss) + count b (members_onto [] ss)
+counted a b [] = refl
+counted a b (s ∷ ss) = omega (arith, counted a b ss, count-append)
 
 pub more_wide : (w by k rest new old : ℕ) → new ≡ (w + by) * k + rest → old ≡ w * k + rest → new ≡ old + by * k
 more_wide w by k rest new old e f = omega arith

@@ -1,5 +1,7 @@
 -- Odd sets of places with widths, as flat lists. Widths and heights count halves of a step.
 use Rattle.std.specs.Prelude.{◌≡◌, ℕ, ◌+◌, ◌-◌, ◌*◌, ◌%◌, List, [], ◌∷◌, ◌++◌, length, eqb, cond}
+use Rattle.std.specs.List.{flat_map}
+use Rattle.blossom_match.specs.Lists.{Each, sum_over}
 use Rattle.blossom_match.specs.TableValue.{TableValue}
 use Rattle.blossom_match.specs.Tables.{entry}
 
@@ -36,6 +38,15 @@ pub record NestValue : Type 0 where
 abbrev pub bands : NestValue → List Band
 bands s = record { key = s.key; members = s.members; width = s.width } ∷ s.below
 
+-- so of each set of a list
+abbrev pub bands_of : List NestValue → List Band
+bands_of ss = flat_map bands ss
+
+-- the members of the sets, before these places
+abbrev pub members_onto : List ℕ → List NestValue → List ℕ
+members_onto places [] = places
+members_onto places (s ∷ ss) = s.members ++ members_onto places ss
+
 -- the row of the set and those of all sets inside it
 abbrev pub rows_of : NestValue → List Row
 rows_of s = record { members = s.members; below = s.below; cells = s.near } ∷ s.rows
@@ -63,18 +74,15 @@ count x (y ∷ ys) = hit x y + count x ys
 
 -- how many of the sets stand under the key
 abbrev pub uses : ℕ → List Band → ℕ
-uses k [] = 0
-uses k (b ∷ bs) = hit k b.key + uses k bs
+uses k bs = sum_over (λ (b : Band). hit k b.key) bs
 
 -- the widths of the sets that hold the place
 abbrev pub height : ℕ → List Band → ℕ
-height x [] = 0
-height x (b ∷ bs) = b.width * count x b.members + height x bs
+height x bs = sum_over (λ (b : Band). b.width * count x b.members) bs
 
 -- all widths
 abbrev pub total : List Band → ℕ
-total [] = 0
-total (b ∷ bs) = b.width + total bs
+total bs = sum_over (λ (b : Band). b.width) bs
 
 -- how far two counts are apart: 1 where a set holds exactly one of two places
 abbrev pub apart : ℕ → ℕ → ℕ
@@ -82,17 +90,19 @@ apart m n = (m - n) + (n - m)
 
 -- the widths of the sets that hold exactly one of the two places
 abbrev pub load : ℕ → ℕ → List Band → ℕ
-load a b [] = 0
-load a b (s ∷ ss) = s.width * apart (count a s.members) (count b s.members) + load a b ss
+load a b bs = sum_over (λ (s : Band). s.width * apart (count a s.members) (count b s.members)) bs
 
 -- a quantity that adds up over lists of sets
 abbrev pub Adds : (List Band → ℕ) → Type 0
 Adds F = (xs ys : List Band) → F (xs ++ ys) ≡ F xs + F ys
 
+-- the set doesn't hold the place
+abbrev pub Misses : ℕ → Band → Type 0
+Misses x b = count x b.members ≡ 0
+
 -- no set of the list holds the place
 abbrev pub NoneHold : ℕ → List Band → Type 0
-NoneHold x [] = Unit {0}
-NoneHold x (b ∷ bs) = (count x b.members ≡ 0) × NoneHold x bs
+NoneHold x bs = Each (Misses x) bs
 
 -- a link uses up its distance
 abbrev pub TollIsPaid : TableValue → Toll → Type 0
@@ -100,8 +110,7 @@ TollIsPaid d t = 2 * entry d t.from t.to ≡ t.price
 
 -- all links use up their distances
 abbrev pub IsPaid : TableValue → List Toll → Type 0
-IsPaid d [] = Unit {0}
-IsPaid d (t ∷ ts) = TollIsPaid d t × IsPaid d ts
+IsPaid d ts = Each (TollIsPaid d) ts
 
 -- what each set keeps: it is odd, a place that is no member is in no set inside, and without a
 -- set inside it is one place

@@ -1,8 +1,9 @@
 -- Sets in pairs.
-use Rattle.std.specs.Prelude.{◌≡◌, ℕ, ◌+◌, ◌*◌, ◌≤◌, List, [], ◌∷◌, ◌++◌, drop}
+use Rattle.std.specs.Prelude.{◌≡◌, ℕ, ◌+◌, ◌*◌, ◌≤◌, List, [], ◌∷◌, drop}
+use Rattle.std.specs.List.{flat_map}
 use Rattle.blossom_match.specs.TableValue.{TableValue}
 use Rattle.blossom_match.specs.Tables.{entry}
-use Rattle.blossom_match.specs.Bands.{Band, bands, count, height, IsPaid}
+use Rattle.blossom_match.specs.Bands.{Band, NestValue, bands, bands_of, count, height, members_onto, IsPaid}
 use Rattle.blossom_match.specs.Values.{CoupleValue, PartValue}
 
 -- every second part is paired with the one after it
@@ -12,15 +13,17 @@ couples_along (p ∷ []) = []
 couples_along (p ∷ q ∷ ps) = record { first = p.nest; second = q.nest; link = p.next }
     ∷ couples_along ps
 
+-- the sets of a couple
+abbrev pub couple_sets : CoupleValue → List NestValue
+couple_sets c = c.first ∷ c.second ∷ []
+
 -- all members of the couples
 abbrev pub couple_members : List CoupleValue → List ℕ
-couple_members [] = []
-couple_members (c ∷ cs) = c.first.members ++ (c.second.members ++ couple_members cs)
+couple_members cs = members_onto [] (flat_map couple_sets cs)
 
 -- the couples' sets and all sets inside them
 abbrev pub couple_bands : List CoupleValue → List Band
-couple_bands [] = []
-couple_bands (c ∷ cs) = bands c.first ++ (bands c.second ++ couple_bands cs)
+couple_bands cs = bands_of (flat_map couple_sets cs)
 
 -- the link leads from the first set to the second
 pub record IsJoined (c : CoupleValue) : Type 0 where

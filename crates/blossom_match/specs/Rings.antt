@@ -1,7 +1,8 @@
 -- Rings of parts.
 use Rattle.std.specs.Prelude.{◌≡◌, ℕ, ◌+◌, ◌%◌, ◌<◌, ◌≤◌, List, [], ◌∷◌, ◌++◌, length, take, drop}
+use Rattle.std.specs.List.{flat_map}
 use Rattle.blossom_match.specs.Lists.{Each}
-use Rattle.blossom_match.specs.Bands.{Band, Row, Toll, NestValue, bands, count, height, rows_of, Kept}
+use Rattle.blossom_match.specs.Bands.{Band, Row, Toll, NestValue, bands, bands_of, count, height, members_onto, rows_of, Kept}
 use Rattle.blossom_match.specs.Rows.{single_row}
 use Rattle.blossom_match.specs.TableValue.{TableValue}
 use Rattle.blossom_match.specs.declared.nest.Link.{Link}
@@ -11,25 +12,25 @@ use Rattle.blossom_match.specs.Values.{PartValue}
 abbrev pub back_of : Link → Link
 back_of l = record { from = l.to; to = l.from }
 
+-- the set of a part
+abbrev pub part_sets : PartValue → List NestValue
+part_sets p = p.nest ∷ []
+
 -- all members of the parts
 abbrev pub members_in : List PartValue → List ℕ
-members_in [] = []
-members_in (p ∷ ps) = p.nest.members ++ members_in ps
+members_in ps = members_onto [] (flat_map part_sets ps)
 
 -- the parts and all sets inside them
 abbrev pub bands_in : List PartValue → List Band
-bands_in [] = []
-bands_in (p ∷ ps) = bands p.nest ++ bands_in ps
+bands_in ps = bands_of (flat_map part_sets ps)
 
 -- all links inside the parts
 abbrev pub tolls_in : List PartValue → List Toll
-tolls_in [] = []
-tolls_in (p ∷ ps) = p.nest.tolls ++ tolls_in ps
+tolls_in ps = flat_map (λ (p : PartValue). p.nest.tolls) ps
 
 -- the rows of the parts and of all sets inside them
 abbrev pub rows_in : List PartValue → List Row
-rows_in [] = []
-rows_in (p ∷ ps) = rows_of p.nest ++ rows_in ps
+rows_in ps = flat_map (λ (p : PartValue). rows_of p.nest) ps
 
 -- what the link from p to q uses up
 abbrev pub toll_of : PartValue → PartValue → Toll

@@ -2,20 +2,19 @@
 use Rattle.std.specs.Prelude.{ℕ, zero, suc, List, [], ◌∷◌}
 use Rattle.std.proofs.Props.{props}
 use Rattle.blossom_match.specs.Lists.{Each}
-use Rattle.blossom_match.specs.Bands.{Band, Kept, NoneHold}
+use Rattle.blossom_match.specs.Bands.{Band, Kept, Misses, NoneHold}
 use Rattle.blossom_match.specs.Rings.{IsLinkedRing, IsMade, IsRing, Linked}
 use Rattle.blossom_match.specs.Slots.{parts_at, IsRowOf, IsSet, IsSetTo, Slots}
 use Rattle.blossom_match.specs.Values.{PartValue}
 use Rattle.blossom_match.specs.declared.nest.Part.{Part}
 
-none_hold-prop : (x : ℕ) (bs : List Band) → IsProp (NoneHold x bs)
-none_hold-prop x [] = hlevel props
-none_hold-prop x (b ∷ bs) = hlevel (props, none_hold-prop x bs)
-
 each-prop : {X : Type 0} (P : X → Type 0) → ((x : X) → IsProp (P x)) → (xs : List X)
     → IsProp (Each P xs)
 each-prop P each [] = hlevel props
 each-prop P each (x ∷ xs) = hlevel (props, each x, each-prop P each xs)
+
+none_hold-prop : (x : ℕ) (bs : List Band) → IsProp (NoneHold x bs)
+none_hold-prop x bs = each-prop (Misses x) (λ b. hlevel props) bs
 
 linked-prop : (p : PartValue) (ps : List PartValue) → IsProp (Linked p ps)
 linked-prop p [] = hlevel props

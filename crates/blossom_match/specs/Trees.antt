@@ -1,33 +1,40 @@
 -- The search tree as a list of branches, the oldest first.
 use Rattle.std.specs.Prelude.{◌≡◌, ℕ, ◌+◌, ◌≤◌, List, [], ◌∷◌, ◌++◌, min, nat_lt, if◌then◌else◌}
+use Rattle.std.specs.List.{flat_map}
 use Rattle.blossom_match.specs.TableValue.{TableValue}
-use Rattle.blossom_match.specs.Lists.{Each}
-use Rattle.blossom_match.specs.Bands.{Adds, Band, NestValue, bands, count}
+use Rattle.blossom_match.specs.Lists.{Each, sum_over}
+use Rattle.blossom_match.specs.Bands.{Adds, Band, NestValue, bands, bands_of, count, members_onto}
 use Rattle.blossom_match.specs.Rings.{back_of}
 use Rattle.blossom_match.specs.Couples.{couple_members, couple_bands, IsJoined}
 use Rattle.blossom_match.specs.Sound.{IsTight, IsSound, IsFirm, IsFirmCouple}
 use Rattle.blossom_match.specs.declared.nest.Link.{Link}
 use Rattle.blossom_match.specs.Values.{BranchValue, CoupleValue}
 
+-- the sets of a branch: both, the outer one, the inner one
+abbrev pub branch_sets : BranchValue → List NestValue
+branch_sets b = b.inner ∷ b.outer ∷ []
+
+abbrev pub outer_sets : BranchValue → List NestValue
+outer_sets b = b.outer ∷ []
+
+abbrev pub inner_sets : BranchValue → List NestValue
+inner_sets b = b.inner ∷ []
+
 -- the places of the root and of the outer sets
 abbrev pub outer_members : List ℕ → List BranchValue → List ℕ
-outer_members places [] = places
-outer_members places (b ∷ bs) = b.outer.members ++ outer_members places bs
+outer_members places bs = members_onto places (flat_map outer_sets bs)
 
 -- the places of the inner sets
 abbrev pub inner_members : List BranchValue → List ℕ
-inner_members [] = []
-inner_members (b ∷ bs) = b.inner.members ++ inner_members bs
+inner_members bs = members_onto [] (flat_map inner_sets bs)
 
 -- the branches' sets and all sets inside them
 abbrev pub branch_bands : List BranchValue → List Band
-branch_bands [] = []
-branch_bands (b ∷ bs) = bands b.inner ++ (bands b.outer ++ branch_bands bs)
+branch_bands bs = bands_of (flat_map branch_sets bs)
 
 -- the inner sets and all sets inside them
 abbrev pub inner_bands : List BranchValue → List Band
-inner_bands [] = []
-inner_bands (b ∷ bs) = bands b.inner ++ inner_bands bs
+inner_bands bs = bands_of (flat_map inner_sets bs)
 
 -- all sets of a search
 abbrev pub all_bands : NestValue → List BranchValue → List CoupleValue → List Band
@@ -47,8 +54,7 @@ both a b s = min (count a s.members) (count b s.members)
 
 -- how many outer sets of the branches hold both places
 abbrev pub around : ℕ → ℕ → List BranchValue → ℕ
-around a b [] = 0
-around a b (c ∷ cs) = both a b c.outer + around a b cs
+around a b bs = sum_over (both a b) (flat_map outer_sets bs)
 
 -- the hand: a set and a link to it from an outer set
 pub record Augmenting (met : NestValue) (link : Link) (root : NestValue)

@@ -1,5 +1,5 @@
 -- The widths of the outermost sets change: outer sets grow and inner sets shrink.
-use Rattle.std.specs.Prelude.{◌≡◌, ℕ, ◌+◌, ◌-◌, ◌*◌, ◌^◌, ◌<◌, ◌≤◌, List, [], ◌∷◌, length, slice_index}
+use Rattle.std.specs.Prelude.{◌≡◌, ℕ, ◌+◌, ◌-◌, ◌*◌, ◌^◌, ◌<◌, ◌≤◌, List, length, map, slice_index}
 use Rattle.blossom_match.specs.Bands.{NestValue, count, with_width}
 use Rattle.blossom_match.specs.Trees.{inner_members, outer_members}
 use Rattle.blossom_match.specs.Heights.{CanFall, CanRise, HasCells}
@@ -23,8 +23,7 @@ changed_by by b = record {
 
 -- all branches so
 abbrev pub all_changed : ℕ → List BranchValue → List BranchValue
-all_changed by [] = []
-all_changed by (b ∷ bs) = changed_by by b ∷ all_changed by bs
+all_changed by bs = map (changed_by by) bs
 
 -- the outer set has room for the change, and the inner set has its width
 pub record CanChange (by : ℕ) (b : BranchValue) : Type 0 where

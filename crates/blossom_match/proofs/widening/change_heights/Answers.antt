@@ -1,9 +1,11 @@
 use Rattle.std.proofs.Common.{arith, ap, ℕ, List, [], ◌*◌}
 use Rattle.blossom_match.specs.Bands.{count}
 use Rattle.blossom_match.specs.Slots.{branches_in, set_in}
-use Rattle.blossom_match.proofs.TreeLemmas.{base_in, outer-append}
+use Rattle.blossom_match.specs.Trees.{outer_sets}
+use Rattle.blossom_match.proofs.TreeLemmas.{base_in}
 use Rattle.blossom_match.proofs.RaisedLemmas.{more_by}
 use Rattle.blossom_match.proofs.widening.change_heights.Goals as goal
+use Rattle.blossom_match.proofs.SumLemmas.{members-append}
 
 pub raise-requires-clause-within : goal.raise-requires-clause-within
 raise-requires-clause-within c = λ x here.
@@ -22,7 +24,7 @@ raise-requires-clause-fits c = λ x.
       c.requires.rise x,
       ap (λ (xs : List ℕ). c.args.by * count x xs) c.members.ensures,
       more_by c.args.by _ _ _
-          (outer-append x (set_in c.args.sets.now c.args.root).members [] (branches_in c.args.sets.now c.args.tree.now)),
+          (members-append outer_sets x (set_in c.args.sets.now c.args.root).members [] (branches_in c.args.sets.now c.args.tree.now)),
     )
 
 pub raise_outers-requires-clause-within : goal.raise_outers-requires-clause-within
@@ -32,7 +34,7 @@ raise_outers-requires-clause-within c = λ x here.
       c.requires.cells x (omega (
         arith,
         here,
-        outer-append x (set_in c.args.sets.now c.args.root).members []
+        members-append outer_sets x (set_in c.args.sets.now c.args.root).members []
             (branches_in c.args.sets.now c.args.tree.now),
       )),
       c.raise.auto.heights,
@@ -46,7 +48,7 @@ raise_outers-requires-clause-fits c = λ x.
       c.raise.ensures x,
       ap (λ (xs : List ℕ). c.args.by * count x xs) c.members.ensures,
       more_by c.args.by _
-          _ _ (outer-append x (set_in c.args.sets.now c.args.root).members [] (branches_in c.args.sets.now c.args.tree.now)),
+          _ _ (members-append outer_sets x (set_in c.args.sets.now c.args.root).members [] (branches_in c.args.sets.now c.args.tree.now)),
     )
 
 pub lower_inners-requires-clause-within : goal.lower_inners-requires-clause-within
@@ -64,6 +66,6 @@ returns-clause-moves c = λ x.
       c.raise_outers.ensures x,
       c.lower_inners.ensures x,
       ap (λ (xs : List ℕ). c.args.by * count x xs) c.members.ensures,
-      more_by c.args.by _ _ _ (outer-append x (set_in c.args.sets.now c.args.root).members []
+      more_by c.args.by _ _ _ (members-append outer_sets x (set_in c.args.sets.now c.args.root).members []
           (branches_in c.args.sets.now c.args.tree.now)),
     )
