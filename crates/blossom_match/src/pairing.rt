@@ -18,11 +18,7 @@ pub fn couple_all(alloc: Global, t: &DistTable) -> Result<Standing, Memory>
     ensures { IfOk result (λ r. IsMatched t.now (couples_in r.sets r.couples.items)) }
 {
     let now = priced(alloc, t, t.places())?;
-    if now.free.len() == 0 {
-        return Ok(now);
-    }
-    let matched = search_all(alloc, t, now)?;
-    Ok(matched)
+    search_all(alloc, t, now)
 }
 
 /// Searches from each free place in turn.

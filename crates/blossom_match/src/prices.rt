@@ -130,21 +130,10 @@ fn raise_price(t: &DistTable, place: u32, from: Standing) -> Standing
     ensures stands { StandsAt t.now result }
     ensures free { result.free.items ≡ from.free.items }
 {
-    let Standing {
-        sets,
-        couples,
-        free,
-        heights,
-    } = from;
-    let mut prices = heights;
-    let price = room_at(t, &prices, place);
-    prices[place as usize] = price;
-    Standing {
-        sets,
-        couples,
-        free,
-        heights: prices,
-    }
+    let mut raised = from;
+    let price = room_at(t, &raised.heights, place);
+    raised.heights[place as usize] = price;
+    raised
 }
 
 /// Another free place, if the prices leave no room to it.
@@ -188,31 +177,16 @@ fn pair(
     alloc: Global,
     t: &DistTable,
     place: u32,
-    other: u32,
+    to: u32,
     from: Standing,
 ) -> Result<Standing, Memory>
-    requires { CanPair t.now place other (standing_value from) }
+    requires { CanPair t.now place to (standing_value from) }
     ensures { IfOk result (λ r. Pairs t.now (standing_value from) (standing_value r)) }
 {
-    let Standing {
-        sets,
-        couples,
-        free,
-        heights,
-    } = from;
-    let mut left = free;
-    take_place(&mut left, place);
-    let alone = Standing {
-        sets,
-        couples,
-        free: left,
-        heights,
-    };
+    let mut alone = from;
+    take_place(&mut alone.free, place);
     let search = begin(alloc, t, place, alone)?;
-    let link = Link {
-        from: place,
-        to: other,
-    };
+    let link = Link { from: place, to };
     let met = meet(alloc, t, search, link)?;
     Ok(met)
 }
