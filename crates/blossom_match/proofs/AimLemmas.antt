@@ -1,20 +1,18 @@
 -- The place to which a link becomes tight by the least change of widths.
-use Rattle.std.proofs.Common.{◌≡◌, ℕ, ◌+◌, ◌≤◌, ◌<◌, ◌⊎◌, inl, inr, suc, zero, List, [], ◌∷◌, ◌++◌, length, take, drop, get_or, None, arith, refl, sym, ap, subst, ◌∙◌}
-use Rattle.std.proofs.lemmas.List.{drop_all, take-append-drop}
+use Rattle.std.proofs.Common.{◌≡◌, ℕ, ◌+◌, ◌≤◌, ◌<◌, ◌⊎◌, inl, inr, suc, zero, List, [], ◌∷◌, length, take, drop, get_or, None, arith, refl, sym, ap, subst, ◌∙◌}
+use Rattle.std.proofs.lemmas.List.{drop_all}
 use Rattle.blossom_match.specs.Bands.{NestValue, count}
-use Rattle.blossom_match.specs.Couples.{couple_members}
 use Rattle.blossom_match.specs.Trees.{around, both, outer_members, outer_sets}
 use Rattle.blossom_match.specs.Bounds.{holding}
 use Rattle.blossom_match.specs.Reaches.{left_by, IsLeft, IsReached}
 use Rattle.blossom_match.specs.Aims.{change_at, Aims, AimsAt, CanLead, Leaves}
 use Rattle.blossom_match.specs.TableValue.{TableValue}
 use Rattle.blossom_match.specs.declared.table.TheConstants.{FAR}
-use Rattle.blossom_match.specs.Values.{BranchValue, CoupleValue}
+use Rattle.blossom_match.specs.Values.{BranchValue}
 use Rattle.blossom_match.specs.declared.least.Aim.{Aim}
 use Rattle.blossom_match.specs.declared.least.Kind.{Kind}
 use Rattle.blossom_match.proofs.ListLemmas.{drop_here, number_here, take_here}
 use Rattle.blossom_match.proofs.SumLemmas.{count-append, members-append, members_push}
-use Rattle.blossom_match.proofs.CoupleLemmas.{couple_here}
 use Rattle.blossom_match.proofs.RaisedLemmas.{outer_places}
 use Rattle.blossom_match.proofs.ScanLemmas.{split_here}
 use Rattle.blossom_match.proofs.ChainLemmas.{around_append}
@@ -52,29 +50,6 @@ pub aims_next : (hs reach : List ℕ) (k : Kind) (ys : List ℕ) (i : ℕ) (o m 
 aims_next hs reach k ys i o m n low one two =
     aims_join hs reach k (take i ys) (get_or ys i 0 ∷ []) (take (i + 1) ys) o m n
     (λ x. ap (λ (zs : List ℕ). count x zs) (number_here ys i low) ∙ count-append x (take i ys) (get_or ys i 0 ∷ [])) one two
-
--- one couple more
-pub aims_couple : (hs reach : List ℕ) (k : Kind) (cs : List CoupleValue) (i : ℕ) (c : CoupleValue) (o m n p : Aim) → i < length cs
-    → c ≡ get_or cs i c → Aims hs reach k (couple_members (take i cs)) o m → Aims hs reach k c.first.members m n
-    → Aims hs reach k c.second.members n p → Aims hs reach k (couple_members (take (i + 1) cs)) o p
-aims_couple hs reach k cs i c o m n p low is one two three =
-    let both_ = c.first.members ++ c.second.members in
-    let at = λ (x : ℕ). count-append x c.first.members c.second.members in
-    aims_join hs reach k (couple_members (take i cs)) both_ (couple_members (take (i + 1) cs)) o m p
-    (λ x. omega (arith, at x, members_push, ap (λ (ks : List CoupleValue). count x (couple_members ks)) (take_here cs i c low is)))
-    one (aims_join hs reach k c.first.members c.second.members both_ m n p at two three)
-
--- a couple's places are coupled
-pub couple_within : (x : ℕ) (cs : List CoupleValue) (i : ℕ) (c : CoupleValue) → i < length cs → c ≡ get_or cs i c
-    → count x c.first.members + count x c.second.members ≤ count x (couple_members cs)
-couple_within x cs i c low is =
-    omega (
-      arith,
-      members-append,
-      ap (λ (ks : List CoupleValue). count x (couple_members ks)) (take-append-drop i cs),
-      ap (λ (ks : List CoupleValue). count x (couple_members ks)) (couple_here cs i c low is),
-      count-append,
-    )
 
 -- one outer set more
 pub aims_outer : (hs reach : List ℕ) (k : Kind) (base : List ℕ) (tree : List BranchValue) (i : ℕ) (b : BranchValue) (o m n : Aim)

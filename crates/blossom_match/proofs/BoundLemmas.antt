@@ -11,7 +11,7 @@ use Rattle.blossom_match.specs.TableValue.{TableValue}
 use Rattle.blossom_match.specs.Tables.{entry, IsTable}
 use Rattle.blossom_match.specs.Bounds.{step_of, Bounds, IsDue, Narrows, RingIsDue}
 use Rattle.blossom_match.specs.Reaches.{Reaches}
-use Rattle.blossom_match.specs.Aims.{change_at, goals, Aims, AimsAt, IsAimed, LeadsTo}
+use Rattle.blossom_match.specs.Aims.{change_at, goals, Aims, AimsAt, CanLead, IsAimed, LeadsTo}
 use Rattle.blossom_match.specs.declared.table.TheConstants.{FAR}
 use Rattle.blossom_match.specs.declared.least.Aim.{Aim}
 use Rattle.blossom_match.specs.declared.least.Kind.{Kind}
@@ -220,6 +220,28 @@ aimed t h s hs reach first met grown crossed a =
     (still_aimed s hs reach kind.Grow met grown
     (still_aimed s hs reach kind.Meet first met (aimed_case s hs reach kind.Meet first a.at_first) a.at_met.is) a.at_grown.is)
     a.at_crossed.is
+
+goal_there : (k : Kind) (t : TableValue) (h : ℕ → ℕ) (s : SearchValue) (x : ℕ) → IsSearch t h s → 1 ≤ count x (goals s k) → x < t.places
+goal_there kind.Meet t h s x i here = place_in t x (omega (arith, i.places x, here))
+goal_there kind.Grow t h s x i here = place_in t x (omega (arith, i.places x, here))
+goal_there kind.Shrink t h s x i here = place_in t x (omega (arith, i.places x, here))
+
+-- outer places reach the last aim
+pub leads_on : (t : TableValue) (h : ℕ → ℕ) (s : SearchValue) (hs reach : List ℕ) (first met grown crossed : Aim)
+    → IsAimedAt t h s hs reach first met grown crossed → CanLead t hs s.root s.tree reach crossed
+leads_on t h s hs reach first met grown crossed a =
+    let i = a.search in
+    let on = aimed t h s hs reach first met grown crossed a in
+    record {
+      can = record {
+        cells = a.size;
+        within = λ x here. place_in t x (omega (arith, i.places x, here));
+        once = λ x. omega (arith, i.places x, is_one t x);
+      };
+      reaches = a.reaches;
+      within = goal_there crossed.kind t h s crossed.to i on.there;
+      near = on.near;
+    }
 
 -- an outer place of another set reaches the place
 pub is_near : (t : TableValue) (h : ℕ → ℕ) (s : SearchValue) (hs reach : List ℕ) (a b : ℕ) → IsTable t → IsSearch t h s

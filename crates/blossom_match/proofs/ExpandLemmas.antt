@@ -200,6 +200,8 @@ expanded key root old bs b later mid new parts ring was cs now s is made g l e f
       grown = grown-append root.members mid later l.grown (grown_more (outer_members root.members tree)
           (outer_members root.members mid) later
           (λ x. omega (arith, l.more x, members_push)) s.after);
+      more = cs;
+      rest = refl;
       joined = λ j. each-append IsJoined was cs j l.joined;
       places = λ x. omega (arith, members-append, members_push, l.places x, g.places x, inside x);
       ring = members_in parts;

@@ -31,6 +31,7 @@ pub mod ScanLemmas
 pub mod RowLemmas
 pub mod ReachLemmas
 pub mod AimLemmas
+pub mod MaskLemmas
 pub mod BoundLemmas
 pub mod WidthLemmas
 pub mod LoweredLemmas

@@ -1,5 +1,6 @@
 -- Worked rows.
-use Rattle.std.proofs.Common.{◌≡◌, ℕ, [], ◌∷◌, refl}
+use Rattle.std.proofs.Common.{◌≡◌, ℕ, [], ◌∷◌, map, refl}
+use Rattle.blossom_match.specs.Masks.{shown}
 use Rattle.blossom_match.specs.Rings.{single_of}
 use Rattle.blossom_match.specs.RingRows.{ring_row}
 use Rattle.blossom_match.specs.Rows.{single_row}
@@ -20,3 +21,8 @@ known_single = refl
 -- of 10 less 1, 8 less 2 and 12 less 5 the second is least
 pub known_ring : ring_row (part 0 1 1 ∷ part 1 2 2 ∷ part 2 5 0 ∷ []) ≡ 400001 ∷ 400001 ∷ 400001 ∷ 6 ∷ []
 known_ring = refl
+
+-- 0 and 1 are shown, 1 higher than what is left for it; nothing is left for 2, and 3 isn't shown
+pub known_shown : map (shown (3 ∷ 9 ∷ 2 ∷ 1 ∷ []) (10 ∷ 7 ∷ 400001 ∷ 8 ∷ []) (0 ∷ 0 ∷ 0 ∷ 400001 ∷ [])) (0 ∷ 1 ∷ 2 ∷ 3 ∷ [])
+    ≡ 7 ∷ 0 ∷ 400001 ∷ 400001 ∷ []
+known_shown = refl

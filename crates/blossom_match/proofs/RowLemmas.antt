@@ -42,19 +42,19 @@ put_case false x m v cells is low here =
     let ne : x ≢ m = eqb-false x m is in
     rw get_or-set_other (here ne)
 
--- the cell of one place more is FAR
-pub clear_next : (members cells : List ℕ) (i : ℕ) → i < length members → get_or members i 0 < length cells
-    → ((x : ℕ) → 1 ≤ count x (take i members) → get_or cells x 0 ≡ FAR) → (x : ℕ) → 1 ≤ count x (take (i + 1) members)
-    → get_or (set cells (get_or members i 0) FAR) x 0 ≡ FAR
-clear_next members cells i low within on x here =
-    put_case (eqb x (get_or members i 0)) x (get_or members i 0) FAR cells refl within
+-- the cell of one place more has the value
+pub put_next : (members cells : List ℕ) (i v : ℕ) → i < length members → get_or members i 0 < length cells
+    → ((x : ℕ) → 1 ≤ count x (take i members) → get_or cells x 0 ≡ v) → (x : ℕ) → 1 ≤ count x (take (i + 1) members)
+    → get_or (set cells (get_or members i 0) v) x 0 ≡ v
+put_next members cells i v low within on x here =
+    put_case (eqb x (get_or members i 0)) x (get_or members i 0) v cells refl within
     (λ ne. on x (omega (arith, here, counts_next members i x low, not_hit x (get_or members i 0) ne)))
 
 -- and no other
-pub clear_others : (members cells first : List ℕ) (i v : ℕ) → i < length members
+pub put_others : (members cells first : List ℕ) (i v : ℕ) → i < length members
     → ((x : ℕ) → count x (take i members) ≡ 0 → get_or cells x 0 ≡ get_or first x 0) → (x : ℕ)
     → count x (take (i + 1) members) ≡ 0 → get_or (set cells (get_or members i 0) v) x 0 ≡ get_or first x 0
-clear_others members cells first i v low others x none =
+put_others members cells first i v low others x none =
     let m = get_or members i 0 in
     let ne : x ≢ m = λ e. omega (arith, none, counts_next members i x low, hit_same x, ap (λ (y : ℕ). hit x y) e) in
     rw get_or-set_other (others x (omega (arith, none, counts_next members i x low)))

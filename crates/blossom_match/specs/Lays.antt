@@ -110,6 +110,8 @@ pub record GrowsAt (at : ℕ) (old new : List BranchValue) : Type 0 where
 pub record Expands (key : ℕ) (root : NestValue) (old new : List BranchValue)
     (was now : List CoupleValue) : Type 0 where
   pub grown : IsGrown root.members new
+  pub more : List CoupleValue
+  pub rest : now ≡ was ++ more
   pub joined : Each IsJoined was → Each IsJoined now
   pub places : (x : ℕ) → count x (outer_members root.members new) + count x (inner_members new)
       + count x (couple_members now) ≡

@@ -22,6 +22,7 @@ pub mod Bounds
 pub mod Widths
 pub mod Reaches
 pub mod Aims
+pub mod Masks
 pub mod Slots
 pub mod Climbs
 pub mod SlotProps

@@ -4,6 +4,7 @@ use Rattle.blossom_match.specs.Rings.{single_of}
 use Rattle.blossom_match.specs.Searches.{size_of, Advances, Ends, IsStanding}
 use Rattle.blossom_match.specs.Bounds.{CanSearch}
 use Rattle.blossom_match.specs.Reaches.{SearchReaches}
+use Rattle.blossom_match.specs.Masks.{SearchMasks}
 use Rattle.blossom_match.specs.TableValue.{TableValue}
 use Rattle.blossom_match.specs.Tables.{IsTable}
 use Rattle.blossom_match.specs.Values.{CoupleValue, SearchValue}
@@ -49,6 +50,11 @@ abbrev pub Goes : TableValue → SearchValue → Stepped → Type 0
 Goes t s (More r) = CanSearch t (search_value r) × (size_of (search_value r) < size_of s)
     × (r.free.items ≡ s.free)
 Goes t s (Done r) = StandsAt t r × (length r.free.items + 1 ≡ length s.free)
+
+-- the couples that the mask shows after the step
+abbrev pub StepMasks : TableValue → Stepped → List ℕ → Type 0
+StepMasks t (More r) mask = SearchMasks t (search_value r) mask
+StepMasks t (Done r) mask = Unit {0}
 
 -- what is left for each place after the step
 abbrev pub StepReaches : TableValue → Stepped → List ℕ → Type 0

@@ -16,6 +16,11 @@ abbrev pub Merges : List ℕ → ℕ → List ℕ → List ℕ → Type 0
 Merges near width old new = (x : ℕ) → x < length near
     → slice_index new x ≡ min (lowered width (slice_index near x)) (slice_index old x)
 
+-- each cell of the places gets the room, and no other cell changes
+pub record Puts (room : ℕ) (places old new : List ℕ) : Type 0 where
+  pub on : (x : ℕ) → 1 ≤ count x places → slice_index new x ≡ room
+  pub off : (x : ℕ) → count x places ≡ 0 → slice_index new x ≡ slice_index old x
+
 -- one of the row's members has so much room for x over the widths of the sets inside
 pub record IsRoomOf (t : TableValue) (r : Row) (x room : ℕ) : Type 0 where
   pub a : ℕ

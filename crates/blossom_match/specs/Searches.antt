@@ -99,10 +99,12 @@ pub record Advances (s : SearchValue) (step : Step) (r : SearchValue) : Type 0 w
   pub free : r.free ≡ s.free
   pub heights : r.heights ≡ s.heights
 
--- branches more before that at the index, below the same root
+-- branches more before that at the index, below the same root, and couples more behind the others
 pub record ComesApart (at : ℕ) (s r : SearchValue) : Type 0 where
   pub grows : GrowsAt at s.tree r.tree
   pub root : r.root ≡ s.root
+  pub more : List CoupleValue
+  pub rest : r.rest ≡ s.rest ++ more
 
 -- a branch more, below the same root
 pub record HangsOn (s r : SearchValue) : Type 0 where

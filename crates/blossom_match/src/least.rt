@@ -1,20 +1,21 @@
 ghost use Rattle.std.specs.Prelude.{◌≡◌, ◌≤◌, ◌<◌, ◌∷◌, [], ℕ, length, slice_index};
 ghost use Rattle.blossom_match.specs.Bands.{count};
-ghost use Rattle.blossom_match.specs.Couples.{couple_members};
 ghost use Rattle.blossom_match.specs.Trees.{outer_members};
+ghost use Rattle.blossom_match.specs.Heights.{HasCells};
 ghost use Rattle.blossom_match.specs.Tables.{IsTable};
 ghost use Rattle.blossom_match.specs.Bounds.{holding, step_of, Bounds, CanSearch, Narrows, NarrowsAt};
-ghost use Rattle.blossom_match.specs.Searches.{height_at};
+ghost use Rattle.blossom_match.specs.Searches.{height_at, outers};
 ghost use Rattle.blossom_match.specs.Reaches.{left_by, CanReach, IsReached, SearchReaches};
-ghost use Rattle.blossom_match.specs.Slots.{branch_in, branches_in, couples_in, set_in};
+ghost use Rattle.blossom_match.specs.Slots.{branch_in, branches_in, set_in};
+ghost use Rattle.blossom_match.specs.Masks.{shown, AimsShown, IsShown, SearchMasks};
 ghost use Rattle.blossom_match.specs.States.{search_value};
 ghost use Rattle.blossom_match.specs.Aims.{change_of, Aims, AimsAt, CanLead, LeadsTo, Leaves, LeavesIn};
 ghost use Rattle.blossom_match.specs.declared.least.Kind.TheVariants as kind;
-ghost use Rattle.blossom_match.specs.declared.table.TheConstants.{FAR};
+ghost use Rattle.blossom_match.specs.declared.table.TheConstants.{FAR, MAX_PLACES};
 
 use crate::branches::Branch;
-use crate::couples::Couple;
 use crate::nest::{Link, Seat, Sets};
+use crate::rows::lesser_by;
 use crate::search::Step;
 use crate::state::Search;
 use crate::table::{DistTable, FAR};
@@ -43,26 +44,28 @@ struct Aim {
 }
 
 /// The least change of widths after which a step can be done.
-pub fn least(t: &DistTable, reach: &[u32], s: &Search) -> Change
+pub fn least(t: &DistTable, reach: &[u32], mask: &[u32], s: &Search) -> Change
     requires table { IsTable t.now }
     requires can { CanSearch t.now (search_value s.now) }
     requires reaches { SearchReaches t.now (search_value s.now) reach.now }
+    requires masks { SearchMasks t.now (search_value s.now) mask.now }
     ensures { Bounds t.now (height_at (search_value s.now)) (search_value s.now) result }
 {
-    least_at(t, &s.heights, reach, s)
+    least_at(t, &s.heights, reach, mask, s)
 }
 
-fn least_at(t: &DistTable, heights: &[u32], reach: &[u32], s: &Search) -> Change
+fn least_at(t: &DistTable, heights: &[u32], reach: &[u32], mask: &[u32], s: &Search) -> Change
     requires table { IsTable t.now }
     requires can { CanSearch t.now (search_value s.now) }
     requires reaches { SearchReaches t.now (search_value s.now) reach.now }
+    requires masks { SearchMasks t.now (search_value s.now) mask.now }
     requires heights { heights.now ≡ s.now.heights.items }
     ensures { Bounds t.now (height_at (search_value s.now)) (search_value s.now) result }
 {
     let first = first_aim(heights, reach, &s.free);
     let met = aim_at(heights, reach, &s.free, Kind::Meet, first);
-    let grown = aim_at_couples(&s.sets, heights, reach, &s.rest, met);
-    let crossed = aim_at_outers(&s.sets, heights, reach, s.root, &s.tree, grown);
+    let grown = aim_at_shown(heights, reach, mask, met);
+    let crossed = aim_at_outers(heights, reach, s, grown);
     let change = change_to(t, heights, reach, s, crossed);
     scan_rings(&s.sets, &s.tree, change)
 }
@@ -136,39 +139,71 @@ fn aim_at(heights: &[u32], reach: &[u32], ys: &[u32], kind: Kind, best: Aim) -> 
     least
 }
 
-/// The lesser of an aim and the nearest place of a couple.
-fn aim_at_couples(sets: &Sets, heights: &[u32], reach: &[u32], couples: &[Couple], best: Aim) -> Aim
+/// The lesser of an aim and the nearest place that the mask shows.
+fn aim_at_shown(heights: &[u32], reach: &[u32], mask: &[u32], best: Aim) -> Aim
     requires cells { length heights.now ≡ length reach.now }
-    requires within { (b : ℕ) → 1 ≤ count b (couple_members (couples_in sets.now couples.now))
-        → b < length reach.now }
-    ensures { Aims heights.now reach.now kind.Grow (couple_members (couples_in sets.now couples.now))
-        best result }
+    requires masked { length mask.now ≡ length reach.now }
+    requires few { length reach.now ≤ MAX_PLACES }
+    requires near { best.by ≤ FAR }
+    ensures { AimsShown heights.now reach.now mask.now best result }
 {
-    let mut least = best;
-    for c in couples {
-        let one = aim_at(heights, reach, c.first.members(sets), Kind::Grow, least);
-        least = aim_at(heights, reach, c.second.members(sets), Kind::Grow, one);
+    let room = least_shown(heights, reach, mask);
+    if room >= best.by {
+        return best;
+    }
+    let to = place_shown(heights, reach, mask, room);
+    nearer(heights, reach, to, Kind::Grow, best)
+}
+
+/// The least room that the mask shows.
+fn least_shown(heights: &[u32], reach: &[u32], mask: &[u32]) -> u32
+    requires cells { length heights.now ≡ length reach.now }
+    requires masked { length mask.now ≡ length reach.now }
+    ensures least { (x : ℕ) → x < length reach.now → result ≤ shown heights.now reach.now mask.now x }
+    ensures is { result < FAR → IsShown heights.now reach.now mask.now result }
+{
+    let mut least = FAR;
+    for x in 0..reach.len() {
+        least = lesser_by(heights[x], reach[x]).max(mask[x]).min(least);
     }
     least
 }
 
-/// The lesser of an aim and the nearest outer place.
-fn aim_at_outers(
-    sets: &Sets,
-    heights: &[u32],
-    reach: &[u32],
-    root: Seat,
-    tree: &[Branch],
-    best: Aim,
-) -> Aim
+/// The first place at which the mask shows so much room.
+fn place_shown(heights: &[u32], reach: &[u32], mask: &[u32], room: u32) -> u32
     requires cells { length heights.now ≡ length reach.now }
-    requires within { (b : ℕ)
-        → 1 ≤ count b (outer_members (set_in sets.now root).members (branches_in sets.now tree.now))
-        → b < length reach.now }
-    ensures { Aims heights.now reach.now kind.Shrink
-        (outer_members (set_in sets.now root).members (branches_in sets.now tree.now)) best result }
+    requires masked { length mask.now ≡ length reach.now }
+    requires few { length reach.now ≤ MAX_PLACES }
+    requires there { IsShown heights.now reach.now mask.now room }
+    ensures within { result < length reach.now }
+    ensures exact { room ≡ shown heights.now reach.now mask.now result }
 {
-    let mut least = aim_at(heights, reach, root.members(sets), Kind::Shrink, best);
+    for x in 0..reach.len() {
+        if lesser_by(heights[x], reach[x]).max(mask[x]) == room {
+            return x as u32;
+        }
+    }
+    unreachable!()
+}
+
+/// The lesser of an aim and the nearest outer place.
+fn aim_at_outers(heights: &[u32], reach: &[u32], s: &Search, best: Aim) -> Aim
+    requires cells { length heights.now ≡ length reach.now }
+    requires within { HasCells (λ b. count b (outers (search_value s.now))) reach.now }
+    ensures { Aims heights.now reach.now kind.Shrink (outers (search_value s.now)) best result }
+{
+    let rooted = aim_at(heights, reach, s.root.members(&s.sets), Kind::Shrink, best);
+    aim_at_branches(&s.sets, heights, reach, &s.tree, rooted)
+}
+
+/// The lesser of an aim and the nearest place of the branches' outer sets.
+fn aim_at_branches(sets: &Sets, heights: &[u32], reach: &[u32], tree: &[Branch], best: Aim) -> Aim
+    requires cells { length heights.now ≡ length reach.now }
+    requires within { HasCells (λ b. count b (outer_members [] (branches_in sets.now tree.now))) reach.now }
+    ensures { Aims heights.now reach.now kind.Shrink (outer_members [] (branches_in sets.now tree.now))
+        best result }
+{
+    let mut least = best;
     for b in tree {
         least = aim_at(heights, reach, b.outer.members(sets), Kind::Shrink, least);
     }
@@ -227,23 +262,16 @@ fn nearest(
 }
 
 /// A place of the set that leaves so much, if the set doesn't hold the other place too.
-fn leaving(
-    sets: &Sets,
-    t: &DistTable,
-    heights: &[u32],
-    set: Seat,
-    to: u32,
-    room: u32,
-) -> Option<u32>
+fn leaving(sets: &Sets, t: &DistTable, heights: &[u32], s: Seat, to: u32, room: u32) -> Option<u32>
     requires cells { length heights.now ≡ t.now.places }
-    requires within { (a : ℕ) → 1 ≤ count a (set_in sets.now set).members → a < t.now.places }
+    requires within { (a : ℕ) → 1 ≤ count a (set_in sets.now s).members → a < t.now.places }
     requires to_in { to < t.now.places }
-    ensures { Leaves t.now heights.now (set_in sets.now set) to room result }
+    ensures { Leaves t.now heights.now (set_in sets.now s) to room result }
 {
-    if set.holds(sets, to) {
+    if s.holds(sets, to) {
         None
     } else {
-        first_leaving(t, heights, set.members(sets), to, room)
+        first_leaving(t, heights, s.members(sets), to, room)
     }
 }
 

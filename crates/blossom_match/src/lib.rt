@@ -8,6 +8,7 @@ mod expanding;
 mod heights;
 mod laws;
 mod least;
+mod masks;
 mod matching;
 mod nest;
 mod opening;

@@ -29,9 +29,10 @@ fn search_all(alloc: Global, t: &DistTable, from: Standing) -> Result<Standing, 
     ensures { IfOk result (λ r. IsMatched t.now (couples_in r.sets r.couples.items)) }
 {
     let mut reach = far_cells(alloc, t.places() as usize)?;
+    let mut mask = far_cells(alloc, t.places() as usize)?;
     let mut now = from;
     while let Some(place) = now.free.pop() {
-        now = pair_up(alloc, t, place, now, &mut reach)?;
+        now = pair_up(alloc, t, place, now, &mut reach, &mut mask)?;
     }
     Ok(now)
 }

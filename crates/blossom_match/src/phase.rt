@@ -3,13 +3,15 @@ ghost use Rattle.blossom_match.specs.Tables.{IsMetric};
 ghost use Rattle.blossom_match.specs.Bounds.{CanSearch};
 ghost use Rattle.blossom_match.specs.Searches.{CanStepAt};
 ghost use Rattle.blossom_match.specs.Reaches.{SearchReaches};
+ghost use Rattle.blossom_match.specs.Masks.{SearchMasks};
 ghost use Rattle.blossom_match.specs.Slots.{couples_in};
 ghost use Rattle.blossom_match.specs.States.{search_value};
-ghost use Rattle.blossom_match.specs.Phases.{Begins, Goes, Leads, Stands, StandsAt, StepReaches};
+ghost use Rattle.blossom_match.specs.Phases.{Begins, Goes, Leads, Stands, StandsAt, StepMasks, StepReaches};
 
 use crate::least::least;
-use crate::nest::{Link, single};
-use crate::reach::{lower_reach, reach_anew, reach_from};
+use crate::masks::{hide, show_from};
+use crate::nest::single;
+use crate::reach::{lower_reach, reach_anew, reach_from, reset};
 use crate::search::{Step, expand_at, grow_to, meet, shrink_by};
 use crate::state::{Search, Standing};
 use crate::table::DistTable;
@@ -31,9 +33,11 @@ pub fn pair_up(
     place: u32,
     from: Standing,
     reach: &mut [u32],
+    mask: &mut [u32],
 ) -> Result<Standing, Memory>
     requires metric { IsMetric t.now }
     requires size { length reach.old ≡ t.now.places }
+    requires masked { length mask.old ≡ t.now.places }
     requires stands { Stands t.now (couples_in from.sets from.couples.items)
         (from.free.items ++ place ∷ []) from.heights.items }
     requires some { 1 ≤ length from.free.items }
@@ -42,8 +46,10 @@ pub fn pair_up(
 {
     let mut now = begin(alloc, t, place, from)?;
     reach_anew(&now, reach);
+    reset(mask);
+    show_from(&now, 0, mask);
     'steps: loop {
-        match advance(alloc, t, now, reach)? {
+        match advance(alloc, t, now, reach, mask)? {
             Stepped::More(next) => now = next,
             Stepped::Done(standing) => return Ok(standing),
         }
@@ -76,17 +82,25 @@ pub fn begin(alloc: Global, t: &DistTable, place: u32, from: Standing) -> Result
 }
 
 /// Changes the widths as little as allows a step, and takes it.
-fn advance(alloc: Global, t: &DistTable, s: Search, reach: &mut [u32]) -> Result<Stepped, Memory>
+fn advance(
+    alloc: Global,
+    t: &DistTable,
+    s: Search,
+    reach: &mut [u32],
+    mask: &mut [u32],
+) -> Result<Stepped, Memory>
     requires metric { IsMetric t.now }
     requires search { CanSearch t.now (search_value s) }
     requires reaches { SearchReaches t.now (search_value s) reach.old }
+    requires masks { SearchMasks t.now (search_value s) mask.old }
     ensures goes { IfOk result (λ r. Goes t.now (search_value s) r) }
     ensures reaches { IfOk result (λ r. StepReaches t.now r reach.new) }
+    ensures masks { IfOk result (λ r. StepMasks t.now r mask.new) }
 {
-    let change = least(t, reach, &s);
+    let change = least(t, reach, mask, &s);
     let wide = widen(s, change);
     lower_reach(change.by, reach);
-    let next = take_step(alloc, t, wide, change.step, reach)?;
+    let next = take_step(alloc, t, wide, change.step, reach, mask)?;
     Ok(next)
 }
 
@@ -96,13 +110,17 @@ fn take_step(
     s: Search,
     step: Step,
     reach: &mut [u32],
+    mask: &mut [u32],
 ) -> Result<Stepped, Memory>
     requires step { CanStepAt t.now (search_value s) step }
     requires reaches { SearchReaches t.now (search_value s) reach.old }
+    requires masks { SearchMasks t.now (search_value s) mask.old }
     ensures leads { IfOk result (λ r. Leads t.now (search_value s) step r) }
     ensures reaches { IfOk result (λ r. StepReaches t.now r reach.new) }
+    ensures masks { IfOk result (λ r. StepMasks t.now r mask.new) }
 {
     let before = s.tree.len();
+    let coupled = s.rest.len();
     match step {
         Step::Meet(link) => {
             let standing = meet(alloc, t, s, link)?;
@@ -111,6 +129,7 @@ fn take_step(
         Step::Grow(link) => {
             let grown = grow_to(s, link)?;
             reach_from(&grown, before, 1, reach);
+            hide(&grown.sets, grown.tree[before], mask);
             Ok(Stepped::More(grown))
         }
         Step::Shrink(link) => {
@@ -121,6 +140,7 @@ fn take_step(
         Step::Expand(at) => {
             let expanded = expand_at(alloc, s, at)?;
             reach_from(&expanded, at, expanded.tree.len() - before, reach);
+            show_from(&expanded, coupled, mask);
             Ok(Stepped::More(expanded))
         }
     }

@@ -20,7 +20,8 @@ fn take_set(sets: &Sets, set: Seat, reach: &mut [u32])
     merge(set.near(sets), set.width, reach);
 }
 
-fn reset(reach: &mut [u32])
+/// Leaves nothing for any place.
+pub fn reset(reach: &mut [u32])
     ensures { (x : ℕ) → x < length reach.new → slice_index reach.new x ≡ FAR }
 {
     for x in 0..reach.len() {

@@ -7,7 +7,8 @@ ghost use Rattle.blossom_match.specs.Slots.{parts_in};
 ghost use Rattle.blossom_match.specs.declared.table.TheConstants.{FAR};
 
 use crate::nest::{Part, Sets};
-use crate::rows::{clear, far_cells, merge};
+use crate::rows::{far_cells, merge, put};
+use crate::table::FAR;
 use design_model::Memory;
 use std::alloc::Global;
 use std::collections::VecDeque;
@@ -91,7 +92,7 @@ fn fill(sets: &Sets, parts: &[Part], members: &[u32], cells: &mut [u32])
     ensures { cells.new ≡ the_row (length cells.old) (parts_in sets.now parts.now) }
 {
     merge_all(sets, parts, cells);
-    clear(members, cells);
+    put(FAR, members, cells);
 }
 
 /// The least that the parts leave over their widths.

@@ -1,6 +1,7 @@
-ghost use Rattle.std.specs.Prelude.{◌≡◌, ◌≤◌, ◌<◌, ℕ, length, slice_index, IfOk};
+ghost use Rattle.std.specs.Prelude.{◌≡◌, ◌<◌, ℕ, length, slice_index, IfOk};
 ghost use Rattle.blossom_match.specs.Bands.{count};
-ghost use Rattle.blossom_match.specs.Rows.{lowered, single_cell, single_row as the_row, Merges};
+ghost use Rattle.blossom_match.specs.Heights.{HasCells};
+ghost use Rattle.blossom_match.specs.Rows.{lowered, single_cell, single_row as the_row, Merges, Puts};
 ghost use Rattle.blossom_match.specs.Tables.{IsTable};
 ghost use Rattle.blossom_match.specs.declared.table.TheConstants.{FAR};
 
@@ -38,14 +39,13 @@ pub fn merge(near: &[u32], width: u32, cells: &mut [u32])
     }
 }
 
-/// Leaves nothing for the places.
-pub fn clear(places: &[u32], cells: &mut [u32])
-    requires within { (x : ℕ) → 1 ≤ count x places.now → x < length cells.old }
-    ensures on { (x : ℕ) → 1 ≤ count x places.now → slice_index cells.new x ≡ FAR }
-    ensures off { (x : ℕ) → count x places.now ≡ 0 → slice_index cells.new x ≡ slice_index cells.old x }
+/// Puts the room into the cells of the places.
+pub fn put(room: u32, places: &[u32], cells: &mut [u32])
+    requires { HasCells (λ x. count x places.now) cells.old }
+    ensures { Puts room places.now cells.old cells.new }
 {
     for a in places {
-        cells[*a as usize] = FAR;
+        cells[*a as usize] = room;
     }
 }
 

@@ -55,7 +55,8 @@ pub fn grow_to(s: Search, link: Link) -> Result<Search, Memory>
 /// Makes the ring that the link closes one outer set.
 pub fn shrink_by(alloc: Global, s: Search, link: Link) -> Result<Search, Memory>
     requires { CanStep (search_value s) (step.Shrink link) }
-    ensures { IfOk result (λ r. Advances (search_value s) (step.Shrink link) (search_value r)) }
+    ensures advances { IfOk result (λ r. Advances (search_value s) (step.Shrink link) (search_value r)) }
+    ensures rest { IfOk result (λ r. (search_value r).rest ≡ (search_value s).rest) }
 {
     let Search {
         sets,

@@ -1,42 +1,41 @@
-use Rattle.std.proofs.Common.{get_or, arith, List, ℕ, ap, subst}
-use Rattle.blossom_match.specs.Bands.{count}
+use Rattle.std.proofs.Common.{arith, [], List, ℕ, ap, subst}
 use Rattle.blossom_match.specs.Aims.{Aims}
+use Rattle.blossom_match.specs.Bands.{count}
+use Rattle.blossom_match.specs.Searches.{outers}
+use Rattle.blossom_match.specs.Slots.{branches_in}
+use Rattle.blossom_match.specs.States.{search_value}
+use Rattle.blossom_match.specs.Trees.{outer_members}
+use Rattle.blossom_match.specs.declared.branches.Branch.{Branch}
 use Rattle.blossom_match.specs.declared.least.Kind.TheVariants as kind
+use Rattle.blossom_match.proofs.AimLemmas.{aims_join}
+use Rattle.blossom_match.proofs.SumLemmas.{members_each}
 use Rattle.blossom_match.proofs.TreeLemmas.{base_in}
-use Rattle.blossom_match.proofs.ReachLemmas.{outer_within}
-use Rattle.blossom_match.proofs.AimLemmas.{aims_outer}
-use Rattle.blossom_match.specs.Slots.{branch_in, branches_in, set_in}
-use Rattle.blossom_match.proofs.ListLemmas.{mapped_item, mapped_low}
-use Rattle.blossom_match.proofs.SeatLemmas.{no_branch}
 use Rattle.blossom_match.proofs.least.aim_at_outers.Goals as goal
 
-pub aim_at-least-requires-clause-within : goal.aim_at-least-requires-clause-within
-aim_at-least-requires-clause-within c = λ b hb.
-    c.requires.within b (omega (
+pub aim_at-rooted-requires-clause-within : goal.aim_at-rooted-requires-clause-within
+aim_at-rooted-requires-clause-within c = λ x here.
+    let s = search_value c.args.s.now in
+    c.requires.within x (omega (arith, here, ap (λ (ks : List ℕ). count x ks) c.members.ensures, base_in x s.root.members s.tree))
+
+pub aim_at_branches-requires-clause-within : goal.aim_at_branches-requires-clause-within
+aim_at_branches-requires-clause-within c = λ x here.
+    let s = search_value c.args.s.now in
+    c.requires.within x (omega (
       arith,
-      hb,
-      ap (λ (ks : List ℕ). count b ks) c.members.ensures,
-      base_in b (set_in c.args.sets.now c.args.root).members (branches_in c.args.sets.now c.args.tree.now),
+      here,
+      ap (λ (ks : List Branch). count x (outer_members [] (branches_in c.args.s.now.sets ks))) c.deref.ensures.value,
+      members_each,
     ))
 
-pub aim_at-least-requires-in-loop-b-clause-within : goal.aim_at-least-requires-in-loop-b-clause-within
-aim_at-least-requires-in-loop-b-clause-within c = λ b hb.
-    c.requires.within b (omega (
-      arith,
-      hb,
-      ap (λ (ks : List ℕ). count b ks) c.members-in-loop-b.ensures,
-      outer_within b (set_in c.args.sets.now c.args.root).members (branches_in c.args.sets.now c.args.tree.now) c.loop-b.b-index
-          (branch_in c.args.sets.now (get_or c.args.tree.now c.loop-b.b-index no_branch))
-          (mapped_low (branch_in c.args.sets.now) c.args.tree.now c.loop-b.b-index c.loop-b-test.true)
-          (mapped_item (branch_in c.args.sets.now) c.args.tree.now c.loop-b.b-index no_branch),
-    ))
-
-pub loop-b-preserved : goal.loop-b-preserved
-loop-b-preserved c =
-    aims_outer c.args.heights.now c.args.reach.now kind.Shrink (set_in c.args.sets.now c.args.root).members
-    (branches_in c.args.sets.now c.args.tree.now) c.loop-b.b-index (branch_in c.args.sets.now
-    (get_or c.args.tree.now c.loop-b.b-index no_branch))
-    c.args.best c.loop-b.least c.aim_at-least-in-loop-b.result (mapped_low (branch_in c.args.sets.now) c.args.tree.now c.loop-b.b-index
-    c.loop-b-test.true) (mapped_item (branch_in c.args.sets.now) c.args.tree.now c.loop-b.b-index no_branch) c.loop-b.invariant
-    (subst (λ (ks : List ℕ). Aims c.args.heights.now c.args.reach.now kind.Shrink ks c.loop-b.least c.aim_at-least-in-loop-b.result)
-    c.members-in-loop-b.ensures c.aim_at-least-in-loop-b.ensures)
+pub returns : goal.returns
+returns c =
+    let s = search_value c.args.s.now in
+    let hs = c.args.heights.now in
+    let r = c.args.reach.now in
+    let rooted = c.aim_at-rooted.result in
+    let out = c.aim_at_branches.result in
+    aims_join hs r kind.Shrink s.root.members (outer_members [] s.tree) (outers s) c.args.best rooted out
+    (λ x. omega (arith, members_each))
+    (subst (λ (ks : List ℕ). Aims hs r kind.Shrink ks c.args.best rooted) c.members.ensures c.aim_at-rooted.ensures)
+    (subst (λ (ks : List Branch). Aims hs r kind.Shrink (outer_members [] (branches_in c.args.s.now.sets ks)) rooted out)
+    c.deref.ensures.value c.aim_at_branches.ensures)

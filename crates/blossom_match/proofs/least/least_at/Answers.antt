@@ -1,17 +1,20 @@
-use Rattle.std.proofs.Common.{◌≤◌, ℕ, List, ap, get_or, length, subst, sym, ◌∙◌}
+use Rattle.std.proofs.Common.{◌≡◌, ◌≤◌, ℕ, List, ap, get_or, length, subst, sym, ◌∙◌}
 use Rattle.blossom_match.specs.Bands.{count}
 use Rattle.blossom_match.specs.Couples.{couple_members}
-use Rattle.blossom_match.specs.Trees.{outer_members}
-use Rattle.blossom_match.specs.Searches.{height_at}
-use Rattle.blossom_match.specs.Bounds.{Narrows}
-use Rattle.blossom_match.specs.Reaches.{Reaches}
+use Rattle.blossom_match.specs.Searches.{height_at, outers}
+use Rattle.blossom_match.specs.Bounds.{CanSearch, Narrows}
+use Rattle.blossom_match.specs.Reaches.{Reaches, SearchReaches}
 use Rattle.blossom_match.specs.Aims.{Aims, AimsAt}
-use Rattle.blossom_match.specs.Slots.{branches_in, couples_in}
+use Rattle.blossom_match.specs.Masks.{AimsShown, SearchMasks}
+use Rattle.blossom_match.specs.Slots.{branches_in}
 use Rattle.blossom_match.specs.States.{search_value}
+use Rattle.blossom_match.specs.TableValue.{TableValue}
+use Rattle.blossom_match.specs.Tables.{IsTable}
+use Rattle.blossom_match.specs.Values.{SearchValue}
 use Rattle.blossom_match.specs.declared.branches.Branch.{Branch}
-use Rattle.blossom_match.specs.declared.couples.Couple.{Couple}
+use Rattle.blossom_match.specs.declared.least.Aim.{Aim}
 use Rattle.blossom_match.specs.declared.least.Kind.TheVariants as kind
-use Rattle.blossom_match.proofs.BoundLemmas.{bounds_of, free_near}
+use Rattle.blossom_match.proofs.BoundLemmas.{bounds_of, free_near, leads_on, IsAimedAt}
 use Rattle.blossom_match.proofs.least.least_at.Goals as goal
 
 pub first_aim-first-requires-clause-near : goal.first_aim-first-requires-clause-near
@@ -19,6 +22,36 @@ first_aim-first-requires-clause-near c = λ b hb.
     free_near c.args.t.now (height_at (search_value c.args.s.now)) (search_value c.args.s.now) c.args.s.now.heights.items c.args.reach.now
     b c.requires.table
     c.requires.can.search c.requires.reaches (subst (λ (ks : List ℕ). 1 ≤ count b ks) c.deref.ensures.value hb)
+
+-- what is known of the aims, by the search's own lists
+aims_at : (t : TableValue) (s : SearchValue) (hs reach mask free : List ℕ) (first met grown crossed : Aim) → IsTable t → CanSearch t s
+    → hs ≡ s.heights → SearchReaches t s reach → SearchMasks t s mask → free ≡ s.free → AimsAt hs reach kind.Meet free first
+    → Aims hs reach kind.Meet s.free first met → AimsShown hs reach mask met grown → Aims hs reach kind.Shrink (outers s) grown crossed
+    → IsAimedAt t (height_at s) s hs reach first met grown crossed
+aims_at t s hs reach mask free first met grown crossed is can same reaches m free_is at_first at_met at_grown at_crossed = record {
+  table = is;
+  search = can.search;
+  heights = λ x. ap (λ (ks : List ℕ). get_or ks x 0) same;
+  size = ap (λ (ks : List ℕ). length ks) same ∙ can.size;
+  reaches = subst (λ (ks : List ℕ). Reaches t ks s.root s.tree reach) (sym same) reaches;
+  at_first = subst (λ (ks : List ℕ). AimsAt hs reach kind.Meet ks first) free_is at_first;
+  at_met = at_met;
+  at_grown = at_grown (couple_members s.rest) m.masks;
+  at_crossed = at_crossed;
+}
+
+pub change_to-change-requires : goal.change_to-change-requires
+change_to-change-requires c =
+    let s = search_value c.args.s.now in
+    let hs = c.args.heights.now in
+    let r = c.args.reach.now in
+    let first = c.first_aim-first.result in
+    let met = c.aim_at-met.result in
+    leads_on c.args.t.now (height_at s) s hs r first met c.aim_at_shown-grown.result c.aim_at_outers-crossed.result
+    (aims_at c.args.t.now s hs r c.args.mask.now c.deref.result.now first met c.aim_at_shown-grown.result c.aim_at_outers-crossed.result
+    c.requires.table c.requires.can c.requires.heights c.requires.reaches c.requires.masks c.deref.ensures.value c.first_aim-first.ensures
+    (subst (λ (ks : List ℕ). Aims hs r kind.Meet ks first met) c.deref-2.ensures.value c.aim_at-met.ensures)
+    c.aim_at_shown-grown.ensures c.aim_at_outers-crossed.ensures)
 
 pub returns : goal.returns
 returns c =
@@ -28,21 +61,12 @@ returns c =
     let r = c.args.reach.now in
     let first = c.first_aim-first.result in
     let met = c.aim_at-met.result in
-    let grown = c.aim_at_couples-grown.result in
+    let grown = c.aim_at_shown-grown.result in
     let crossed = c.aim_at_outers-crossed.result in
     let change = c.change_to-change.result in
-    let narrows = subst (λ (ks : List Branch). Narrows (branches_in sets ks) change c.scan_rings.result) c.deref-5.ensures.value
-    c.scan_rings.ensures in
-    bounds_of c.args.t.now (height_at s) s hs r first met grown crossed change c.scan_rings.result (record {
-      table = c.requires.table;
-      search = c.requires.can.search;
-      heights = λ x. ap (λ (ks : List ℕ). get_or ks x 0) c.requires.heights;
-      size = ap (λ (ks : List ℕ). length ks) c.requires.heights ∙ c.requires.can.size;
-      reaches = subst (λ (ks : List ℕ). Reaches c.args.t.now ks s.root s.tree r) (sym c.requires.heights) c.requires.reaches;
-      at_first = subst (λ (ks : List ℕ). AimsAt hs r kind.Meet ks first) c.deref.ensures.value c.first_aim-first.ensures;
-      at_met = subst (λ (ks : List ℕ). Aims hs r kind.Meet ks first met) c.deref-2.ensures.value c.aim_at-met.ensures;
-      at_grown = subst (λ (ks : List Couple). Aims hs r kind.Grow (couple_members (couples_in sets ks)) met grown) c.deref-3.ensures.value
-          c.aim_at_couples-grown.ensures;
-      at_crossed = subst (λ (ks : List Branch). Aims hs r kind.Shrink (outer_members s.root.members (branches_in sets ks)) grown crossed)
-          c.deref-4.ensures.value c.aim_at_outers-crossed.ensures;
-    }) c.change_to-change.ensures narrows
+    bounds_of c.args.t.now (height_at s) s hs r first met grown crossed change c.scan_rings.result
+    (aims_at c.args.t.now s hs r c.args.mask.now c.deref.result.now first met grown crossed
+    c.requires.table c.requires.can c.requires.heights c.requires.reaches c.requires.masks c.deref.ensures.value c.first_aim-first.ensures
+    (subst (λ (ks : List ℕ). Aims hs r kind.Meet ks first met) c.deref-2.ensures.value c.aim_at-met.ensures)
+    c.aim_at_shown-grown.ensures c.aim_at_outers-crossed.ensures) c.change_to-change.ensures
+    (subst (λ (ks : List Branch). Narrows (branches_in sets ks) change c.scan_rings.result) c.deref-3.ensures.value c.scan_rings.ensures)

@@ -9,6 +9,7 @@ invariant-loop-place l = record {
   stands : Stands l.t (couples_in l.now.sets l.now.couples.items) l.now.free.items l.now.heights.items;
   even : length l.now.free.items % 2 ≡ 0;
   size : length l.reach.items ≡ l.t.places;
+  masked : length l.mask.items ≡ l.t.places;
 }
 
 abbrev pub decreases-loop-place : goal.decreases-loop-place

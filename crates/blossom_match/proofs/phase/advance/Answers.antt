@@ -1,6 +1,7 @@
 use Rattle.blossom_match.specs.States.{search_value}
 use Rattle.blossom_match.proofs.EndLemmas.{can_step, can_widen_now, goes}
 use Rattle.blossom_match.proofs.LoweredLemmas.{still_reaches}
+use Rattle.blossom_match.proofs.MaskLemmas.{masks_same}
 use Rattle.blossom_match.proofs.phase.advance.Goals as goal
 
 pub widen-wide-requires : goal.widen-wide-requires
@@ -18,6 +19,11 @@ take_step-requires-clause-reaches c =
     c.lower_reach.new.reach
     c.requires.metric.table c.requires.search.search c.widen-wide.ensures.changes c.requires.reaches c.lower_reach.auto.reach
     c.lower_reach.ensures
+
+pub take_step-requires-clause-masks : goal.take_step-requires-clause-masks
+take_step-requires-clause-masks c =
+    masks_same c.args.t.now (search_value c.args.s) (search_value c.widen-wide.result) c.args.mask.now c.widen-wide.ensures.changes.rest
+    c.requires.masks
 
 pub returns-clause-goes : goal.returns-clause-goes
 returns-clause-goes c = goes c.args.t.now (search_value c.args.s) (search_value c.widen-wide.result) c.least-change.result

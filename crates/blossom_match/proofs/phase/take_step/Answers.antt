@@ -2,13 +2,14 @@ use Rattle.blossom_match.specs.declared.search.Step.TheVariants as step
 use Rattle.std.proofs.Common.{arith, ap, List, [], ◌∷◌, ℕ, ◌-◌, drop, length, length-append, subst, sym, take}
 use Rattle.std.proofs.lemmas.List.{length-map}
 use Rattle.blossom_match.specs.Reaches.{ReachesOn}
-use Rattle.blossom_match.specs.Slots.{branch_in, branches_in}
+use Rattle.blossom_match.specs.Slots.{branch_in, branches_in, couple_in, couples_in}
 use Rattle.blossom_match.specs.States.{search_value}
-use Rattle.blossom_match.specs.Values.{BranchValue}
-use Rattle.blossom_match.specs.Searches.{Advances}
+use Rattle.blossom_match.specs.Values.{BranchValue, CoupleValue}
+use Rattle.blossom_match.specs.Searches.{height_at, Advances}
 use Rattle.blossom_match.specs.declared.search.Step.{Step}
 use Rattle.blossom_match.proofs.ReachLemmas.{grown_past, grown_size}
 use Rattle.blossom_match.proofs.LoweredLemmas.{anew, apart_more, is_reachable, one_more, steps_at}
+use Rattle.blossom_match.proofs.MaskLemmas.{have_cells, hides_there, masks_apart, masks_hung, masks_same, newest_is, next_search}
 use Rattle.blossom_match.proofs.phase.take_step.Goals as goal
 
 pub grow_to-requires : goal.grow_to-requires
@@ -43,17 +44,90 @@ returns-in_ok-grown-in-Grow-clause-reaches c =
     (subst (λ (n : ℕ). ReachesOn (take 1 (drop n (search_value c.in_ok-grown-in-Grow.grown).tree)) c.args.reach.now c.reach_from.new.reach)
     (omega (arith, c.len-before.ensures, length-map c.args.s.tree.items (branch_in c.args.s.sets))) c.reach_from.ensures)
 
+pub index-requires : goal.index-requires
+index-requires c =
+    let s = c.args.s in
+    let r = c.in_ok-grown-in-Grow.grown in
+    let hangs = c.in_ok-grown-in-Grow.ensures.hangs in
+    omega (
+      arith,
+      c.len-before.ensures,
+      ap (λ (ks : List BranchValue). length ks) hangs.tree,
+      length-append (branches_in s.sets s.tree.items) (hangs.branch ∷ []),
+      length-map s.tree.items (branch_in s.sets),
+      length-map r.tree.items (branch_in r.sets),
+    )
+
+pub hide-requires : goal.hide-requires
+hide-requires c =
+    let s = c.args.s in
+    let r = c.in_ok-grown-in-Grow.grown in
+    let hangs = c.in_ok-grown-in-Grow.ensures.hangs in
+    hides_there c.args.t.now (search_value s) (search_value r) c.args.step (step.Grow c.in-Grow.link) _ c.args.mask.now c.in-Grow.is
+    c.requires.step c.in_ok-grown-in-Grow.ensures.advances hangs
+    (newest_is (branch_in r.sets) r.tree.items c.len-before.result c.index.result.now (branches_in s.sets s.tree.items) hangs.branch
+    c.index.ensures hangs.tree
+    (omega (arith, c.len-before.ensures, length-map s.tree.items (branch_in s.sets)))) c.requires.masks
+
+pub returns-in_ok-grown-in-Grow-clause-masks : goal.returns-in_ok-grown-in-Grow-clause-masks
+returns-in_ok-grown-in-Grow-clause-masks c =
+    let s = c.args.s in
+    let r = c.in_ok-grown-in-Grow.grown in
+    let hangs = c.in_ok-grown-in-Grow.ensures.hangs in
+    masks_hung c.args.t.now (search_value s) (search_value r) c.args.step (step.Grow c.in-Grow.link) _ c.args.mask.now c.hide.new.mask
+    c.in-Grow.is c.requires.step c.in_ok-grown-in-Grow.ensures.advances hangs
+    (newest_is (branch_in r.sets) r.tree.items c.len-before.result c.index.result.now (branches_in s.sets s.tree.items) hangs.branch
+    c.index.ensures hangs.tree
+    (omega (arith, c.len-before.ensures, length-map s.tree.items (branch_in s.sets)))) c.requires.masks c.hide.auto.mask c.hide.ensures
+
+pub returns-in_ok-shrunk-in-Shrink-clause-masks : goal.returns-in_ok-shrunk-in-Shrink-clause-masks
+returns-in_ok-shrunk-in-Shrink-clause-masks c =
+    masks_same c.args.t.now (search_value c.args.s) (search_value c.in_ok-shrunk-in-Shrink.shrunk) c.args.mask.now
+    c.in_ok-shrunk-in-Shrink.ensures.rest c.requires.masks
+
+pub show_from-requires-clause-within : goal.show_from-requires-clause-within
+show_from-requires-clause-within c =
+    let s = c.args.s in
+    let r = c.in_ok-expanded-in-Expand.expanded in
+    let apart = c.in_ok-expanded-in-Expand.ensures.apart in
+    omega (
+      arith,
+      c.len-coupled.ensures,
+      ap (λ (cs : List CoupleValue). length cs) apart.rest,
+      length-append (couples_in s.sets s.rest.items) apart.more,
+      length-map s.rest.items (couple_in s.sets),
+      length-map r.rest.items (couple_in r.sets),
+    )
+
+pub show_from-requires-clause-cells : goal.show_from-requires-clause-cells
+show_from-requires-clause-cells c =
+    let s = search_value c.args.s in
+    let r = search_value c.in_ok-expanded-in-Expand.expanded in
+    have_cells c.args.t.now (height_at s) r c.len-coupled.result c.args.mask.now
+    (next_search c.args.t.now s r c.args.step (step.Expand c.in-Expand.at) c.in-Expand.is c.requires.step
+    c.in_ok-expanded-in-Expand.ensures.advances) c.requires.masks.size
+
+pub returns-in_ok-expanded-in-Expand-clause-masks : goal.returns-in_ok-expanded-in-Expand-clause-masks
+returns-in_ok-expanded-in-Expand-clause-masks c =
+    let s = search_value c.args.s in
+    let r = search_value c.in_ok-expanded-in-Expand.expanded in
+    masks_apart c.args.t.now (height_at s) s r c.in-Expand.at c.len-coupled.result c.args.mask.now c.show_from.new.mask
+    (next_search c.args.t.now s r c.args.step (step.Expand c.in-Expand.at) c.in-Expand.is c.requires.step
+    c.in_ok-expanded-in-Expand.ensures.advances) c.in_ok-expanded-in-Expand.ensures.apart
+    (omega (arith, c.len-coupled.ensures, length-map c.args.s.rest.items (couple_in c.args.s.sets))) c.requires.masks
+    c.show_from.auto.mask c.show_from.ensures
+
 pub reach_anew-requires : goal.reach_anew-requires
 reach_anew-requires c =
     is_reachable c.args.t.now (search_value c.args.s) (search_value c.in_ok-shrunk-in-Shrink.shrunk) c.args.step
     (step.Shrink c.in-Shrink.link) c.args.reach.now
-    c.in-Shrink.is c.requires.step c.in_ok-shrunk-in-Shrink.ensures c.requires.reaches
+    c.in-Shrink.is c.requires.step c.in_ok-shrunk-in-Shrink.ensures.advances c.requires.reaches
 
 pub returns-in_ok-shrunk-in-Shrink-clause-reaches : goal.returns-in_ok-shrunk-in-Shrink-clause-reaches
 returns-in_ok-shrunk-in-Shrink-clause-reaches c =
     anew c.args.t.now (search_value c.args.s) (search_value c.in_ok-shrunk-in-Shrink.shrunk) c.args.step (step.Shrink c.in-Shrink.link)
     c.args.reach.now
-    c.reach_anew.new.reach c.in-Shrink.is c.requires.step c.in_ok-shrunk-in-Shrink.ensures c.requires.reaches
+    c.reach_anew.new.reach c.in-Shrink.is c.requires.step c.in_ok-shrunk-in-Shrink.ensures.advances c.requires.reaches
     c.reach_anew.auto.reach c.reach_anew.ensures
 
 pub reach_from-requires-in-Expand-clause-can : goal.reach_from-requires-in-Expand-clause-can

@@ -9,4 +9,6 @@ returns-clause-advances c =
     came_apart x.0 c.args.at (search_value c.args.s) _ x.1 c.in_ok-expand.ensures.root refl refl
 
 pub returns-clause-apart : goal.returns-clause-apart
-returns-clause-apart c = record { grows = c.in_ok-expand.ensures.grows; root = c.in_ok-expand.ensures.root }
+returns-clause-apart c =
+    let x = c.in_ok-expand.ensures.expands in
+    record { grows = c.in_ok-expand.ensures.grows; root = c.in_ok-expand.ensures.root; more = x.1.more; rest = x.1.rest }

@@ -16,13 +16,20 @@ shrink-requires-clause-sets c =
     sets_fewer c.args.s.sets (all_bands s.root s.tree s.rest) (all_bands s.root s.tree []) c.args.s.stand
     (λ k. omega (arith, all_uses k s.root s.tree s.rest, all_uses k s.root s.tree []))
 
-pub returns : goal.returns
-returns c =
+pub returns-clause-advances : goal.returns-clause-advances
+returns-clause-advances c =
     let s = search_value c.args.s in
     let e = c.in_ok-top.ensures in
     shrunk e.0 c.args.link s _ e.2
     (couples_stay c.args.s.sets c.shrink.new.sets e.0 (all_bands s.root s.tree s.rest) c.args.s.rest.items e.1 c.args.s.stand
     (λ k. omega (arith, all_uses k s.root s.tree s.rest))) refl refl
+
+pub returns-clause-rest : goal.returns-clause-rest
+returns-clause-rest c =
+    let s = search_value c.args.s in
+    let e = c.in_ok-top.ensures in
+    couples_stay c.args.s.sets c.shrink.new.sets e.0 (all_bands s.root s.tree s.rest) c.args.s.rest.items e.1 c.args.s.stand
+    (λ k. omega (arith, all_uses k s.root s.tree s.rest))
 
 pub invariant_of-result : goal.invariant_of-result
 invariant_of-result c =

@@ -1,0 +1,31 @@
+use Rattle.std.proofs.Common.{[], get_or, arith, List, ℕ, ap, subst}
+use Rattle.blossom_match.specs.Bands.{count}
+use Rattle.blossom_match.specs.Aims.{Aims}
+use Rattle.blossom_match.specs.declared.least.Kind.TheVariants as kind
+use Rattle.blossom_match.proofs.ReachLemmas.{outer_within}
+use Rattle.blossom_match.proofs.AimLemmas.{aims_outer}
+use Rattle.blossom_match.specs.Slots.{branch_in, branches_in}
+use Rattle.blossom_match.proofs.ListLemmas.{mapped_item, mapped_low}
+use Rattle.blossom_match.proofs.SeatLemmas.{no_branch}
+use Rattle.blossom_match.proofs.least.aim_at_branches.Goals as goal
+
+pub aim_at-least-requires-clause-within : goal.aim_at-least-requires-clause-within
+aim_at-least-requires-clause-within c = λ b hb.
+    c.requires.within b (omega (
+      arith,
+      hb,
+      ap (λ (ks : List ℕ). count b ks) c.members.ensures,
+      outer_within b [] (branches_in c.args.sets.now c.args.tree.now) c.loop-b.b-index
+          (branch_in c.args.sets.now (get_or c.args.tree.now c.loop-b.b-index no_branch))
+          (mapped_low (branch_in c.args.sets.now) c.args.tree.now c.loop-b.b-index c.loop-b-test.true)
+          (mapped_item (branch_in c.args.sets.now) c.args.tree.now c.loop-b.b-index no_branch),
+    ))
+
+pub loop-b-preserved : goal.loop-b-preserved
+loop-b-preserved c =
+    aims_outer c.args.heights.now c.args.reach.now kind.Shrink [] (branches_in c.args.sets.now c.args.tree.now) c.loop-b.b-index
+    (branch_in c.args.sets.now (get_or c.args.tree.now c.loop-b.b-index no_branch)) c.args.best c.loop-b.least c.aim_at-least.result
+    (mapped_low (branch_in c.args.sets.now) c.args.tree.now c.loop-b.b-index c.loop-b-test.true)
+    (mapped_item (branch_in c.args.sets.now) c.args.tree.now c.loop-b.b-index no_branch) c.loop-b.invariant
+    (subst (λ (ks : List ℕ). Aims c.args.heights.now c.args.reach.now kind.Shrink ks c.loop-b.least c.aim_at-least.result)
+    c.members.ensures c.aim_at-least.ensures)

@@ -1,0 +1,42 @@
+-- A mask over all places shows some of them: 0 at each of these, FAR at all others.
+use Rattle.std.specs.Prelude.{◌≡◌, ℕ, ◌<◌, ◌≤◌, List, ◌++◌, length, max, slice_index}
+use Rattle.blossom_match.specs.Bands.{count}
+use Rattle.blossom_match.specs.Couples.{couple_members}
+use Rattle.blossom_match.specs.Rows.{lowered}
+use Rattle.blossom_match.specs.Aims.{Aims}
+use Rattle.blossom_match.specs.TableValue.{TableValue}
+use Rattle.blossom_match.specs.Values.{BranchValue, SearchValue}
+use Rattle.blossom_match.specs.declared.least.Aim.{Aim}
+use Rattle.blossom_match.specs.declared.least.Kind.TheVariants as kind
+use Rattle.blossom_match.specs.declared.table.TheConstants.{FAR}
+
+-- the mask shows the places alone
+pub record Masks (places mask : List ℕ) : Type 0 where
+  pub within : (x : ℕ) → 1 ≤ count x places → x < length mask
+  pub on : (x : ℕ) → 1 ≤ count x places → slice_index mask x ≡ 0
+  pub off : (x : ℕ) → x < length mask → count x places ≡ 0 → slice_index mask x ≡ FAR
+
+-- over all places of the table it shows those of the search's couples
+pub record SearchMasks (t : TableValue) (s : SearchValue) (mask : List ℕ) : Type 0 where
+  pub size : length mask ≡ t.places
+  pub masks : Masks (couple_members s.rest) mask
+
+-- the places of a branch
+abbrev pub branch_members : BranchValue → List ℕ
+branch_members b = b.inner.members ++ b.outer.members
+
+-- what is left for a place above its height, or FAR where the mask doesn't show it
+abbrev pub shown : List ℕ → List ℕ → List ℕ → ℕ → ℕ
+shown hs reach mask x =
+    max (lowered (slice_index hs x) (slice_index reach x)) (slice_index mask x)
+
+-- so much room is shown at a place
+pub record IsShown (hs reach mask : List ℕ) (room : ℕ) : Type 0 where
+  pub place : ℕ
+  pub within : place < length reach
+  pub exact : room ≡ shown hs reach mask place
+
+-- the lesser of an aim and the nearest of the places that the mask shows
+abbrev pub AimsShown : List ℕ → List ℕ → List ℕ → Aim → Aim → Type 0
+AimsShown hs reach mask old new =
+    (places : List ℕ) → Masks places mask → Aims hs reach kind.Grow places old new
