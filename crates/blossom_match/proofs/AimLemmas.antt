@@ -1,4 +1,4 @@
--- The place to which a link becomes tight by the least change of widths.
+-- The place to which a link becomes tight by the least change of duals.
 use Rattle.std.proofs.Common.{◌≡◌, ℕ, ◌+◌, ◌≤◌, ◌<◌, ◌⊎◌, inl, inr, suc, zero, List, [], ◌∷◌, length, take, drop, get_or, None, arith, refl, sym, ap, subst, ◌∙◌}
 use Rattle.std.proofs.lemmas.List.{drop_all}
 use Rattle.blossom_match.specs.Bands.{NestValue, count}
@@ -60,10 +60,10 @@ aims_outer hs reach k base tree i b o m n low is one two =
     (λ x. omega (arith, members_push, ap (λ (ks : List BranchValue). count x (outer_members base ks)) (take_here tree i b low is)))
     one two
 
-reached_case : (t : TableValue) (hs : List ℕ) (root : NestValue) (tree : List BranchValue) (x room : ℕ) → room < FAR
-    → (room ≡ FAR) ⊎ IsReached t hs root tree x room → IsReached t hs root tree x room
-reached_case t hs root tree x room near (inl far) = absurd (omega (arith, near, far))
-reached_case t hs root tree x room near (inr r) = r
+reached_case : (t : TableValue) (hs : List ℕ) (root : NestValue) (tree : List BranchValue) (x left : ℕ) → left < FAR
+    → (left ≡ FAR) ⊎ IsReached t hs root tree x left → IsReached t hs root tree x left
+reached_case t hs root tree x left near (inl far) = absurd (omega (arith, near, far))
+reached_case t hs root tree x left near (inr r) = r
 
 -- the aim is reached
 pub reached : (t : TableValue) (hs : List ℕ) (root : NestValue) (tree : List BranchValue) (reach : List ℕ) (aim : Aim)
@@ -72,18 +72,18 @@ reached t hs root tree reach aim c =
     reached_case t hs root tree aim.to (get_or reach aim.to 0) c.near (c.reaches.is aim.to c.within)
 
 -- one of the branches' outer places leaves so much
-pub record IsBelow (t : TableValue) (hs : List ℕ) (tree : List BranchValue) (x room : ℕ) : Type 0 where
+pub record IsBelow (t : TableValue) (hs : List ℕ) (tree : List BranchValue) (x left : ℕ) : Type 0 where
   pub a : ℕ
   pub here : 1 ≤ count a (outer_members [] tree)
   pub apart : around a x tree ≡ 0
-  pub exact : room ≡ left_by t hs a x
+  pub exact : left ≡ left_by t hs a x
 
-below_case : (n : ℕ) (t : TableValue) (hs : List ℕ) (root : NestValue) (tree : List BranchValue) (x room : ℕ)
-    → (r : IsReached t hs root tree x room) → count r.a root.members ≡ n
-    → (count x root.members ≡ 0 → IsLeft t hs root.members x room → ⊥) → IsBelow t hs tree x room
-below_case (suc n) t hs root tree x room r e none =
+below_case : (n : ℕ) (t : TableValue) (hs : List ℕ) (root : NestValue) (tree : List BranchValue) (x left : ℕ)
+    → (r : IsReached t hs root tree x left) → count r.a root.members ≡ n
+    → (count x root.members ≡ 0 → IsLeft t hs root.members x left → ⊥) → IsBelow t hs tree x left
+below_case (suc n) t hs root tree x left r e none =
     absurd (none (omega (arith, r.apart, e)) (record { a = r.a; here = omega (arith, e); exact = r.exact }))
-below_case zero t hs root tree x room r e none = record {
+below_case zero t hs root tree x left r e none = record {
   a = r.a;
   here = omega (arith, r.here, e, members-append outer_sets r.a root.members [] tree);
   apart = omega (arith, r.apart);
@@ -91,18 +91,18 @@ below_case zero t hs root tree x room r e none = record {
 }
 
 -- the root's places do not
-pub below_root : (t : TableValue) (hs : List ℕ) (root : NestValue) (tree : List BranchValue) (x room : ℕ) → IsReached t hs root tree x room
-    → Leaves t hs root x room None → IsBelow t hs tree x room
-below_root t hs root tree x room r none = below_case (count r.a root.members) t hs root tree x room r refl none
+pub below_root : (t : TableValue) (hs : List ℕ) (root : NestValue) (tree : List BranchValue) (x left : ℕ) → IsReached t hs root tree x left
+    → Leaves t hs root x left None → IsBelow t hs tree x left
+below_root t hs root tree x left r none = below_case (count r.a root.members) t hs root tree x left r refl none
 
-next_case : (n : ℕ) (t : TableValue) (hs : List ℕ) (tree : List BranchValue) (i : ℕ) (b : BranchValue) (x room : ℕ) → i < length tree
-    → b ≡ get_or tree i b → (r : IsBelow t hs (drop i tree) x room) → count r.a b.outer.members ≡ n
-    → (count x b.outer.members ≡ 0 → IsLeft t hs b.outer.members x room → ⊥) → IsBelow t hs (drop (i + 1) tree) x room
-next_case (suc n) t hs tree i b x room low is r e none =
+next_case : (n : ℕ) (t : TableValue) (hs : List ℕ) (tree : List BranchValue) (i : ℕ) (b : BranchValue) (x left : ℕ) → i < length tree
+    → b ≡ get_or tree i b → (r : IsBelow t hs (drop i tree) x left) → count r.a b.outer.members ≡ n
+    → (count x b.outer.members ≡ 0 → IsLeft t hs b.outer.members x left → ⊥) → IsBelow t hs (drop (i + 1) tree) x left
+next_case (suc n) t hs tree i b x left low is r e none =
     let apart : both r.a x b.outer + around r.a x (drop (i + 1) tree) ≡ 0 =
     sym (ap (λ (ks : List BranchValue). around r.a x ks) (drop_here tree i b low is)) ∙ r.apart in
     absurd (none (omega (arith, apart, e)) (record { a = r.a; here = omega (arith, e); exact = r.exact }))
-next_case zero t hs tree i b x room low is r e none =
+next_case zero t hs tree i b x left low is r e none =
     let apart : both r.a x b.outer + around r.a x (drop (i + 1) tree) ≡ 0 =
     sym (ap (λ (ks : List BranchValue). around r.a x ks) (drop_here tree i b low is)) ∙ r.apart in
     record {
@@ -113,10 +113,10 @@ next_case zero t hs tree i b x room low is r e none =
     }
 
 -- nor those of this branch
-pub below_next : (t : TableValue) (hs : List ℕ) (tree : List BranchValue) (i : ℕ) (b : BranchValue) (x room : ℕ) → i < length tree
-    → b ≡ get_or tree i b → IsBelow t hs (drop i tree) x room → Leaves t hs b.outer x room None
-    → IsBelow t hs (drop (i + 1) tree) x room
-below_next t hs tree i b x room low is r none = next_case (count r.a b.outer.members) t hs tree i b x room low is r refl none
+pub below_next : (t : TableValue) (hs : List ℕ) (tree : List BranchValue) (i : ℕ) (b : BranchValue) (x left : ℕ) → i < length tree
+    → b ≡ get_or tree i b → IsBelow t hs (drop i tree) x left → Leaves t hs b.outer x left None
+    → IsBelow t hs (drop (i + 1) tree) x left
+below_next t hs tree i b x left low is r none = next_case (count r.a b.outer.members) t hs tree i b x left low is r refl none
 
 pub nothing_left : (a : ℕ) (tree : List BranchValue) (i : ℕ) → length tree ≤ i → count a (outer_members [] (drop i tree)) ≡ 0
 nothing_left a tree i done = ap (λ (ks : List BranchValue). count a (outer_members [] ks)) (drop_all i tree done)

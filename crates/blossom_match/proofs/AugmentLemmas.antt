@@ -1,29 +1,29 @@
 -- Augmenting, branch by branch from the newest.
 use Rattle.std.proofs.Common.{◌≡◌, ◌≤◌, List, [], ◌∷◌, ◌++◌, length, arith, sym, subst}
 use Rattle.blossom_match.specs.Bands.{NestValue, count}
-use Rattle.blossom_match.specs.Couples.{IsJoined}
-use Rattle.blossom_match.specs.Sound.{IsFirm, IsFirmCouple}
+use Rattle.blossom_match.specs.Matches.{IsJoined}
+use Rattle.blossom_match.specs.Sound.{IsFirm, IsFirmMatch}
 use Rattle.blossom_match.specs.Trees.{Augmenting, Augments, PairsAt}
 use Rattle.blossom_match.specs.declared.nest.Link.{Link}
-use Rattle.blossom_match.specs.Values.{BranchValue, CoupleValue}
+use Rattle.blossom_match.specs.Values.{BranchValue, MatchValue}
 use Rattle.blossom_match.proofs.ListLemmas.{each-left, each-last, each-push}
 use Rattle.blossom_match.proofs.TreeLemmas.{last_of}
 use Rattle.blossom_match.proofs.SumLemmas.{bands_push, members_push}
 
 -- what is left to do does the rest
-pub record Pairing (root met : NestValue) (link : Link) (tree : List BranchValue) (old now : List CoupleValue) (hand : NestValue)
+pub record Pairing (root met : NestValue) (link : Link) (tree : List BranchValue) (old now : List MatchValue) (hand : NestValue)
     (way : Link)
     (left : List BranchValue) : Type 0 where
   pub can : Augmenting hand way root left
-  pub does : (new : List CoupleValue) → Augments root hand way left now new → Augments root met link tree old new
+  pub does : (new : List MatchValue) → Augments root hand way left now new → Augments root met link tree old new
 
-abbrev couple_of : NestValue → NestValue → Link → CoupleValue
-couple_of s t l = record { first = s; second = t; link = l }
+abbrev match_of : NestValue → NestValue → Link → MatchValue
+match_of s t l = record { first = s; second = t; link = l }
 
 pub takes_hand : (hand : NestValue) (way : Link) (b : BranchValue) → 1 ≤ count way.from b.outer.members
-    → PairsAt hand way b (couple_of b.outer hand way) b.inner b.up
+    → PairsAt hand way b (match_of b.outer hand way) b.inner b.up
 takes_hand hand way b here =
-    let c = couple_of b.outer hand way in
+    let c = match_of b.outer hand way in
     record {
       can = λ root bs can. let l = last_of root.members bs b can.grown in
           record {
@@ -38,16 +38,16 @@ takes_hand hand way b here =
             joined = λ j. a.joined (each-push IsJoined old c j (record { from = one; to = can.to }));
             firm = λ d h w r m t j. let f = each-last (IsFirm d h) bs b t in
                 a.firm d h f.up r f.inner (each-left (IsFirm d h) bs (b ∷ []) t)
-                (each-push (IsFirmCouple d h) old c j (record { link = w; first = f.outer; second = m }));
+                (each-push (IsFirmMatch d h) old c j (record { link = w; first = f.outer; second = m }));
             places = λ x. omega (arith, a.places x, members_push);
             sums = λ F add. omega (arith, a.sums F add, bands_push F add);
           };
     }
 
 pub keeps_hand : (hand : NestValue) (way : Link) (b : BranchValue) → count way.from b.outer.members ≡ 0
-    → PairsAt hand way b (couple_of b.inner b.outer b.pair) hand way
+    → PairsAt hand way b (match_of b.inner b.outer b.pair) hand way
 keeps_hand hand way b none =
-    let c = couple_of b.inner b.outer b.pair in
+    let c = match_of b.inner b.outer b.pair in
     record {
       can = λ root bs can. record {
         grown = (last_of root.members bs b can.grown).grown;
@@ -60,14 +60,14 @@ keeps_hand hand way b none =
             joined = λ j. a.joined (each-push IsJoined old c j (record { from = l.pair_from; to = l.pair_to }));
             firm = λ d h w r m t j. let f = each-last (IsFirm d h) bs b t in
                 a.firm d h w r m (each-left (IsFirm d h) bs (b ∷ []) t)
-                (each-push (IsFirmCouple d h) old c j (record { link = f.pair; first = f.inner; second = f.outer }));
+                (each-push (IsFirmMatch d h) old c j (record { link = f.pair; first = f.inner; second = f.outer }));
             places = λ x. omega (arith, a.places x, members_push);
             sums = λ F add. omega (arith, a.sums F add, bands_push F add);
           };
     }
 
-pub pairing_more : (root met : NestValue) (link : Link) (tree : List BranchValue) (old now next : List CoupleValue) (hand : NestValue)
-    (way : Link) (left bs : List BranchValue) (b : BranchValue) (c : CoupleValue) (more : NestValue) (on : Link) →
+pub pairing_more : (root met : NestValue) (link : Link) (tree : List BranchValue) (old now next : List MatchValue) (hand : NestValue)
+    (way : Link) (left bs : List BranchValue) (b : BranchValue) (c : MatchValue) (more : NestValue) (on : Link) →
     Pairing root met link tree old now hand way left → left ≡ bs ++ b ∷ [] → PairsAt hand way b c more on →
     next ≡ now ++ c ∷ [] → Pairing root met link tree old next more on bs
 pairing_more root met link tree old now next hand way left bs b c more on p e s f =
@@ -75,30 +75,30 @@ pairing_more root met link tree old now next hand way left bs b c more on p e s 
     record {
       can = s.can root bs can;
       does = λ new a. p.does new (subst (λ (ks : List BranchValue). Augments root hand way ks now new) (sym e)
-          (s.does root bs now new can (subst (λ (ks : List CoupleValue). Augments root more on bs ks new) f a)));
+          (s.does root bs now new can (subst (λ (ks : List MatchValue). Augments root more on bs ks new) f a)));
     }
 
-at_root : (root hand : NestValue) (way : Link) (now : List CoupleValue) → Augmenting hand way root []
-    → Augments root hand way [] now (now ++ couple_of root hand way ∷ [])
+at_root : (root hand : NestValue) (way : Link) (now : List MatchValue) → Augmenting hand way root []
+    → Augments root hand way [] now (now ++ match_of root hand way ∷ [])
 at_root root hand way now can =
     let one : count way.from root.members ≡ 1 = omega (arith, can.from, can.once way.from) in
-    let c = couple_of root hand way in
+    let c = match_of root hand way in
     record {
       joined = λ j. each-push IsJoined now c j (record { from = one; to = can.to });
-      firm = λ d h w r m t j. each-push (IsFirmCouple d h) now c j (record { link = w; first = r; second = m });
+      firm = λ d h w r m t j. each-push (IsFirmMatch d h) now c j (record { link = w; first = r; second = m });
       places = λ x. omega (arith, members_push);
       sums = λ F add. omega (arith, bands_push F add, add [] []);
     }
 
-pub pairing_done : (root met : NestValue) (link : Link) (tree : List BranchValue) (old now new : List CoupleValue) (hand : NestValue)
+pub pairing_done : (root met : NestValue) (link : Link) (tree : List BranchValue) (old now new : List MatchValue) (hand : NestValue)
     (way : Link)
     (left : List BranchValue) →
-    Pairing root met link tree old now hand way left → length left ≡ 0 → new ≡ now ++ couple_of root hand way ∷ []
+    Pairing root met link tree old now hand way left → length left ≡ 0 → new ≡ now ++ match_of root hand way ∷ []
     → Augments root met link tree old new
 pairing_done root met link tree old now new hand way [] p none f =
-    p.does new (subst (λ (ks : List CoupleValue). Augments root hand way [] now ks) (sym f) (at_root root hand way now p.can))
+    p.does new (subst (λ (ks : List MatchValue). Augments root hand way [] now ks) (sym f) (at_root root hand way now p.can))
 pairing_done root met link tree old now new hand way (b ∷ bs) p none f = absurd (omega arith)
 
-pub pairing_start : (root met : NestValue) (link : Link) (tree : List BranchValue) (old : List CoupleValue) → Augmenting met link root tree
+pub pairing_start : (root met : NestValue) (link : Link) (tree : List BranchValue) (old : List MatchValue) → Augmenting met link root tree
     → Pairing root met link tree old old met link tree
 pairing_start root met link tree old can = record { can = can; does = λ new a. a }

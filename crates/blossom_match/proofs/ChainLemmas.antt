@@ -4,7 +4,7 @@ use Rattle.std.proofs.lemmas.List.{reverse-append}
 use Rattle.blossom_match.specs.TableValue.{TableValue}
 use Rattle.blossom_match.specs.Lists.{Each}
 use Rattle.blossom_match.specs.Bands.{Band, NestValue, Kept, bands, count}
-use Rattle.blossom_match.specs.Rings.{back_of, members_in}
+use Rattle.blossom_match.specs.Blossoms.{back_of, members_in}
 use Rattle.blossom_match.specs.Sound.{IsFirm, IsFirmPart, IsSymmetric, IsTight}
 use Rattle.blossom_match.specs.Trees.{around, both, branch_bands, inner_bands, outer_members, outer_sets, IsGrown}
 use Rattle.blossom_match.specs.Shrinks.{part_of, Shrinking, Chaining}

@@ -1,11 +1,11 @@
--- Chains that close into rings, and the sets that they make.
+-- Chains that close into blossoms, and the sets that they make.
 use Rattle.std.proofs.Common.{◌≡◌, ℕ, ◌+◌, ◌%◌, ◌≤◌, zero, suc, List, [], ◌∷◌, ◌++◌, arith, refl, sym, subst}
 use Rattle.blossom_match.specs.TableValue.{TableValue}
 use Rattle.blossom_match.specs.Lists.{Each}
 use Rattle.blossom_match.specs.Bands.{bands, count, height, rows_of, IsPaid, TollIsPaid}
 use Rattle.blossom_match.specs.Rows.{IsNear}
-use Rattle.blossom_match.specs.Rings.{members_in, bands_in, tolls_in, Linked, ring_tolls, tolls_along, IsLinkedRing, IsRing, AllKept, rows_in}
-use Rattle.blossom_match.specs.RingRows.{ring_of, ring_row}
+use Rattle.blossom_match.specs.Blossoms.{members_in, bands_in, tolls_in, Linked, blossom_tolls, tolls_along, IsLinkedBlossom, IsBlossom, AllKept, rows_in}
+use Rattle.blossom_match.specs.BlossomRows.{blossom_of, blossom_row}
 use Rattle.blossom_match.specs.Sound.{IsFirm, IsFirmPart, IsSound, IsTight}
 use Rattle.blossom_match.specs.Shrinks.{Leads}
 use Rattle.blossom_match.specs.Trees.{outer_members, inner_members, IsGrown}
@@ -13,8 +13,8 @@ use Rattle.blossom_match.specs.declared.nest.Link.{Link}
 use Rattle.blossom_match.specs.Values.{BranchValue, PartValue}
 use Rattle.blossom_match.proofs.ListLemmas.{each-append, each-map}
 use Rattle.blossom_match.proofs.SumLemmas.{count-append, height-append, low, none_tall}
-use Rattle.blossom_match.proofs.RingLemmas.{made_kept, none_in}
-use Rattle.blossom_match.proofs.RowLemmas.{ring_near}
+use Rattle.blossom_match.proofs.BlossomLemmas.{made_kept, none_in}
+use Rattle.blossom_match.proofs.RowLemmas.{blossom_near}
 use Rattle.blossom_match.proofs.TreeLemmas.{outer_members_base}
 
 pub leads_on : (way : Link) (ps : List PartValue) (to : ℕ) (p : PartValue) → Leads way ps to → count to p.nest.members ≡ 1
@@ -28,10 +28,10 @@ linked_to : (p : PartValue) (ps : List PartValue) (to : ℕ) (top : PartValue) �
 linked_to p [] to top from l here = ((from, subst (λ (x : ℕ). count x top.nest.members ≡ 1) (sym l) here), tt)
 linked_to p (q ∷ ps) to top from l here = ((from, l.0), linked_to q ps to top l.1 l.2 here)
 
--- the set at the top and the chain below it are a ring
+-- the set at the top and the chain below it are a blossom
 pub chain_closes : (top : PartValue) (ps : List PartValue) (to : ℕ) → Leads top.next ps to → count top.next.from top.nest.members ≡ 1
     → count to top.nest.members ≡ 1 →
-    IsLinkedRing (top ∷ ps)
+    IsLinkedBlossom (top ∷ ps)
 chain_closes top ps to l from here = linked_to top ps to top from l here
 
 -- in each part heights are those over all sets
@@ -67,10 +67,10 @@ AllLocal_on : (h : ℕ → ℕ) (qs : List PartValue) (p : PartValue) → AllLoc
 AllLocal_on h [] p a b = (b, tt)
 AllLocal_on h (q ∷ qs) p a b = (a.0, AllLocal_on h qs p a.1 b)
 
--- the tolls of a new ring are paid where all its links are tight
-pub ring_is_paid : (d : TableValue) (h : ℕ → ℕ) (p : PartValue) (ps : List PartValue) → IsLinkedRing (p ∷ ps) → AllLocal h (p ∷ ps)
-    → Each (λ (k : PartValue). IsTight d h k.next) (p ∷ ps) → IsPaid d (ring_tolls (p ∷ ps))
-ring_is_paid d h p ps l a t = tight_is_paid d h p (ps ++ p ∷ []) l a.0 (AllLocal_on h ps p a.1 a.0) (chain_on d h p p ps t)
+-- the tolls of a new blossom are paid where all its links are tight
+pub blossom_is_paid : (d : TableValue) (h : ℕ → ℕ) (p : PartValue) (ps : List PartValue) → IsLinkedBlossom (p ∷ ps) → AllLocal h (p ∷ ps)
+    → Each (λ (k : PartValue). IsTight d h k.next) (p ∷ ps) → IsPaid d (blossom_tolls (p ∷ ps))
+blossom_is_paid d h p ps l a t = tight_is_paid d h p (ps ++ p ∷ []) l a.0 (AllLocal_on h ps p a.1 a.0) (chain_on d h p p ps t)
 
 paid_inside : (d : TableValue) (h : ℕ → ℕ) (ps : List PartValue) → Each (IsFirmPart d h) ps → IsPaid d (tolls_in ps)
 paid_inside d h [] f = tt
@@ -100,23 +100,23 @@ local_in d h x (p ∷ ps) kept f once some =
     local_case (count x p.nest.members) d h x p ps refl kept f.0.nest once
     (λ none. local_in d h x ps kept.1 f.1 (omega (arith, c)) (omega (arith, c, none)))
 
--- the set that a ring of firm parts makes is sound
-pub ring_sound : (d : TableValue) (h : ℕ → ℕ) (key : ℕ) (p : PartValue) (ps : List PartValue) → IsRing (p ∷ ps) →
+-- the set that a blossom of firm parts makes is sound
+pub blossom_sound : (d : TableValue) (h : ℕ → ℕ) (key : ℕ) (p : PartValue) (ps : List PartValue) → IsBlossom (p ∷ ps) →
     ((x : ℕ) → count x (members_in (p ∷ ps)) ≤ 1)
     → Each (IsFirmPart d h) (p ∷ ps) →
     ((x y : ℕ) → 1 ≤ count x (members_in (p ∷ ps)) → 1 ≤ count y (members_in (p ∷ ps)) → (h x + h y) % 2 ≡ 0)
-    → IsSound d h (ring_of key (p ∷ ps))
-ring_sound d h key p ps ring once firm even = record {
-  kept = made_kept key (members_in (p ∷ ps)) 0 (ring_row (p ∷ ps)) (p ∷ ps) (refl, ring);
-  paid = each-append (TollIsPaid d) (ring_tolls (p ∷ ps)) (tolls_in (p ∷ ps))
-      (ring_is_paid d h p ps ring.linked (each-map (IsFirmPart d h) (IsLocal h) (λ q f. f.nest.local) (p ∷ ps) firm)
+    → IsSound d h (blossom_of key (p ∷ ps))
+blossom_sound d h key p ps blossom once firm even = record {
+  kept = made_kept key (members_in (p ∷ ps)) 0 (blossom_row (p ∷ ps)) (p ∷ ps) (refl, blossom);
+  paid = each-append (TollIsPaid d) (blossom_tolls (p ∷ ps)) (tolls_in (p ∷ ps))
+      (blossom_is_paid d h p ps blossom.linked (each-map (IsFirmPart d h) (IsLocal h) (λ q f. f.nest.local) (p ∷ ps) firm)
       (each-map (IsFirmPart d h) (λ (k : PartValue). IsTight d h k.next) (λ q f. f.next) (p ∷ ps) firm))
       (paid_inside d h (p ∷ ps) firm);
   near = (
-    ring_near d h p ps firm once (λ x some. local_in d h x (p ∷ ps) ring.kept firm (once x) some),
+    blossom_near d h p ps firm once (λ x some. local_in d h x (p ∷ ps) blossom.kept firm (once x) some),
     near_inside d h (p ∷ ps) firm,
   );
-  local = λ x some. omega (arith, local_in d h x (p ∷ ps) ring.kept firm (once x) some);
+  local = λ x some. omega (arith, local_in d h x (p ∷ ps) blossom.kept firm (once x) some);
   even = even;
 }
 

@@ -6,22 +6,22 @@ use Rattle.std.proofs.lemmas.List.Elements.{All-nil, All-cons}
 use Rattle.std.proofs.lemmas.List.Kept.{AllPairs-cons}
 use Rattle.blossom_match.specs.Lists.{Each, EachPair}
 use Rattle.blossom_match.specs.Bands.{Band, apart, count, hit, load}
-use Rattle.blossom_match.specs.Couples.{couple_members, couple_bands, IsJoined, IsSettled}
-use Rattle.blossom_match.specs.Sound.{IsFirmCouple}
+use Rattle.blossom_match.specs.Matches.{match_members, match_bands, IsJoined, IsSettled}
+use Rattle.blossom_match.specs.Sound.{IsFirmMatch}
 use Rattle.blossom_match.specs.Searches.{height_at, IsSearch, IsStanding, CanStepAt}
 use Rattle.blossom_match.specs.Bounds.{Bounds, CanSearch}
-use Rattle.blossom_match.specs.Rings.{single_of}
-use Rattle.blossom_match.specs.Widths.{CanWiden, Widens}
+use Rattle.blossom_match.specs.Blossoms.{single_of}
+use Rattle.blossom_match.specs.Duals.{CanAdjust, Adjusts}
 use Rattle.blossom_match.specs.Phases.{Begins, Goes, IsMatched, Leads, Stands}
-use Rattle.blossom_match.specs.Taken.{IsOddIn, LieIn, TakesCouples}
+use Rattle.blossom_match.specs.Taken.{IsOddIn, LieIn, TakesMatches}
 use Rattle.blossom_match.specs.Matchings.{AreLaminar, IsMatching, IsOddMoat}
 use Rattle.blossom_match.specs.TableValue.{TableValue}
 use Rattle.blossom_match.specs.Tables.{entry, IsMetric}
-use Rattle.blossom_match.specs.Values.{CoupleValue, SearchValue}
+use Rattle.blossom_match.specs.Values.{MatchValue, SearchValue}
 use Rattle.blossom_match.specs.declared.matching.Moat.{Moat}
 use Rattle.blossom_match.specs.declared.matching.Pair.{Pair}
 use Rattle.blossom_match.specs.declared.least.Change.{Change}
-use Rattle.blossom_match.specs.Slots.{couples_in}
+use Rattle.blossom_match.specs.Slots.{matches_in}
 use Rattle.blossom_match.specs.States.{search_value}
 use Rattle.blossom_match.specs.declared.phase.Stepped.{Stepped}
 use Rattle.blossom_match.specs.declared.phase.Stepped.TheVariants.{More, Done}
@@ -46,18 +46,18 @@ places_more x n xs new e f =
     ∙ below_case (ltb x n) (eqb x n) (ltb x (n + 1)) x n refl refl refl
 
 -- a free place has a cell
-pub place_there : (t : TableValue) (place : ℕ) (couples : List CoupleValue) (free heights : List ℕ)
-    → Stands t couples (free ++ place ∷ []) heights → place < length heights
-place_there t place couples free heights st =
+pub place_there : (t : TableValue) (place : ℕ) (matches : List MatchValue) (free heights : List ℕ)
+    → Stands t matches (free ++ place ∷ []) heights → place < length heights
+place_there t place matches free heights st =
     omega (arith, st.size, place_in t place (omega (arith, st.standing.places place, count-append, hit_same place)))
 
-pub begins : (t : TableValue) (place : ℕ) (couples : List CoupleValue) (free heights : List ℕ) (s : SearchValue)
-    → Stands t couples (free ++ place ∷ []) heights → 1 ≤ length free → Begins t place couples free heights s → CanSearch t s
-begins t place couples free heights s st some b =
+pub begins : (t : TableValue) (place : ℕ) (matches : List MatchValue) (free heights : List ℕ) (s : SearchValue)
+    → Stands t matches (free ++ place ∷ []) heights → 1 ≤ length free → Begins t place matches free heights s → CanSearch t s
+begins t place matches free heights s st some b =
     let high = λ (hs : List ℕ) (x : ℕ). get_or hs x 0 in
     let at = subst (λ (hs : List ℕ). IsStanding t (high hs) s.rest (s.free ++ place ∷ [])) (sym b.heights)
-    (subst (λ (cs : List CoupleValue). IsStanding t (high heights) cs (s.free ++ place ∷ [])) (sym b.rest)
-    (subst (λ (xs : List ℕ). IsStanding t (high heights) couples (xs ++ place ∷ [])) (sym b.free) st.standing)) in
+    (subst (λ (cs : List MatchValue). IsStanding t (high heights) cs (s.free ++ place ∷ [])) (sym b.rest)
+    (subst (λ (xs : List ℕ). IsStanding t (high heights) matches (xs ++ place ∷ [])) (sym b.free) st.standing)) in
     record {
       search = begun t (height_at s) place s b.table at
           (subst (λ (hs : List ℕ). s.root ≡ single_of s.root.key t place (high hs place)) (sym b.heights) b.root)
@@ -66,18 +66,19 @@ begins t place couples free heights s st some b =
       some = omega (arith, some, ap (λ (xs : List ℕ). length xs) b.free);
     }
 
-pub can_step : (t : TableValue) (s wide : SearchValue) (c : Change) → IsMetric t → CanSearch t s → Bounds t (height_at s) s c → Widens s c
+pub can_step : (t : TableValue) (s wide : SearchValue) (c : Change) → IsMetric t → CanSearch t s → Bounds t (height_at s) s c → Adjusts s c
     wide
     → CanStepAt t wide c.step
 can_step t s wide c m can bounds w =
     let on = w.search t m can bounds in
     record { search = on.search; ready = on.ready; size = on.size }
 
-pub can_widen_now : (t : TableValue) (s : SearchValue) (c : Change) → IsMetric t → CanSearch t s → Bounds t (height_at s) s c → CanWiden s c
-can_widen_now t s c m can bounds = record { t = t; metric = m; can = can; bounds = bounds }
+pub can_adjust_now : (t : TableValue) (s : SearchValue) (c : Change) → IsMetric t → CanSearch t s → Bounds t (height_at s) s c
+    → CanAdjust s c
+can_adjust_now t s c m can bounds = record { t = t; metric = m; can = can; bounds = bounds }
 
 pub goes : (t : TableValue) (s wide : SearchValue) (c : Change) (next : Stepped) → IsMetric t → CanSearch t s → Bounds t (height_at s) s c
-    → Widens s c wide → Leads t wide c.step next → Goes t s next
+    → Adjusts s c wide → Leads t wide c.step next → Goes t s next
 goes t s wide c (More r) m can bounds w l =
     let on = w.search t m can bounds in
     let free = l.free ∙ w.free in
@@ -94,7 +95,7 @@ goes t s wide c (More r) m can bounds w l =
     )
 goes t s wide c (Done r) m can bounds w l =
     let on = w.search t m can bounds in
-    let same = subst (λ (hs : List ℕ). IsStanding t (λ (x : ℕ). get_or hs x 0) (couples_in r.sets r.couples.items) r.free.items)
+    let same = subst (λ (hs : List ℕ). IsStanding t (λ (x : ℕ). get_or hs x 0) (matches_in r.sets r.matches.items) r.free.items)
     (sym l.heights)
     l.standing in (
       record { standing = same; size = ap (λ (hs : List ℕ). length hs) l.heights ∙ on.size },
@@ -102,8 +103,8 @@ goes t s wide c (Done r) m can bounds w l =
           (arith, l.fewer, ap (λ (xs : List ℕ). length xs) w.free),
     )
 
--- each couple's links are paid
-settled : (d : TableValue) (h : ℕ → ℕ) (cs : List CoupleValue) → Each IsJoined cs → Each (IsFirmCouple d h) cs → Each (IsSettled d) cs
+-- each match's links are paid
+settled : (d : TableValue) (h : ℕ → ℕ) (cs : List MatchValue) → Each IsJoined cs → Each (IsFirmMatch d h) cs → Each (IsSettled d) cs
 settled d h [] j f = tt
 settled d h (c ∷ cs) j f = (
   record {
@@ -158,30 +159,30 @@ load_same : (a : ℕ) (bs : List Band) → load a a bs ≡ 0
 load_same a [] = refl
 load_same a (s ∷ bs) =
     let e : apart (count a s.members) (count a s.members) ≡ 0 = omega arith in
-    omega (arith, load_same a bs, ap (λ (k : ℕ). s.width * k) e)
+    omega (arith, load_same a bs, ap (λ (k : ℕ). s.dual * k) e)
 
-load_case : (p : Bool) (t : TableValue) (h : ℕ → ℕ) (cs : List CoupleValue) (a b : ℕ) → eqb a b ≡ p → IsStanding t h cs [] → a < t.places
-    → b < t.places → load a b (couple_bands cs) ≤ 2 * entry t a b
+load_case : (p : Bool) (t : TableValue) (h : ℕ → ℕ) (cs : List MatchValue) (a b : ℕ) → eqb a b ≡ p → IsStanding t h cs [] → a < t.places
+    → b < t.places → load a b (match_bands cs) ≤ 2 * entry t a b
 load_case true t h cs a b e st la lb =
     let same : a ≡ b = eqb-true a b e in
-    omega (arith, load_same a (couple_bands cs), ap (λ (x : ℕ). load a x (couple_bands cs)) (sym same))
+    omega (arith, load_same a (match_bands cs), ap (λ (x : ℕ). load a x (match_bands cs)) (sym same))
 load_case false t h cs a b e st la lb = st.loads a b la lb (eqb-false a b e)
 
--- what is taken out of couples that hold all places is a matching with moats
-pub matched : (t : TableValue) (cs : List CoupleValue) (pairs : List Pair) (moats : List Moat) → IsMatched t cs
-    → TakesCouples cs [] pairs [] moats → IsMatching t pairs moats
+-- what is taken out of matches that hold all places is a matching with moats
+pub matched : (t : TableValue) (cs : List MatchValue) (pairs : List Pair) (moats : List Moat) → IsMatched t cs
+    → TakesMatches cs [] pairs [] moats → IsMatching t pairs moats
 matched t cs pairs moats s k =
     let st = s.stands.standing in
     let places = λ (x : ℕ). st.places x in
-    let lie = subst (λ (ms : List Moat). LieIn (couple_members cs) ms) (sym k.is) k.lie in
+    let lie = subst (λ (ms : List Moat). LieIn (match_members cs) ms) (sym k.is) k.lie in
     record {
       paired = λ x. omega (arith, k.places x, places x);
-      odd = odd_moats t.places (couple_members cs) moats (λ x. omega (arith, places x, is_one t x))
+      odd = odd_moats t.places (match_members cs) moats (λ x. omega (arith, places x, is_one t x))
           (λ x some. place_in t x (omega (arith, places x, some))) lie.each;
       laminar = pairs_all AreLaminar moats lie.apart;
       loads = λ a b la lb. omega (arith, k.loads a b, load_case (eqb a b) t (λ x. get_or s.heights x 0) cs a b refl st la lb);
       paid = omega (arith, k.widths, k.paid t (settled t (λ x. get_or s.heights x 0) cs st.joined st.firm));
     }
 
-pub once_each : (t : TableValue) (cs : List CoupleValue) → IsMatched t cs → (x : ℕ) → count x (couple_members cs) ≤ 1
+pub once_each : (t : TableValue) (cs : List MatchValue) → IsMatched t cs → (x : ℕ) → count x (match_members cs) ≤ 1
 once_each t cs s x = omega (arith, s.stands.standing.places x, is_one t x)

@@ -5,21 +5,21 @@ use Rattle.blossom_match.specs.TableValue.{TableValue}
 use Rattle.blossom_match.specs.Lists.{Each}
 use Rattle.blossom_match.specs.Bands.{Adds, Band, NestValue, bands, count, height, rows_of, IsPaid, TollIsPaid}
 use Rattle.blossom_match.specs.Rows.{IsNear}
-use Rattle.blossom_match.specs.Rings.{members_in, bands_in, tolls_in, nest_of, ring_tolls, rows_in, AllKept, FirstHolds, IsRing}
-use Rattle.blossom_match.specs.Couples.{IsJoined}
-use Rattle.blossom_match.specs.Sound.{IsFirm, IsFirmCouple, IsFirmPart, IsSound, IsTight}
+use Rattle.blossom_match.specs.Blossoms.{members_in, bands_in, tolls_in, nest_of, blossom_tolls, rows_in, AllKept, FirstHolds, IsBlossom}
+use Rattle.blossom_match.specs.Matches.{IsJoined}
+use Rattle.blossom_match.specs.Sound.{IsFirm, IsFirmMatch, IsFirmPart, IsSound, IsTight}
 use Rattle.blossom_match.specs.Trees.{outer_members, inner_members, IsGrown}
 use Rattle.blossom_match.specs.Lays.{CanLay, Expanding, Expands, FirstComesApart, GoesEvenly, Lays, WayInto, GrowsAt}
 use Rattle.blossom_match.specs.declared.nest.Link.{Link}
-use Rattle.blossom_match.specs.Values.{BranchValue, CoupleValue, PartValue}
+use Rattle.blossom_match.specs.Values.{BranchValue, MatchValue, PartValue}
 use Rattle.blossom_match.proofs.ListLemmas.{each-append, each-left, each-right, each-last}
 use Rattle.blossom_match.proofs.SumLemmas.{bands-append, bands_push, count-append, height-append, low, members-append, members_push, none_tall, size-append}
-use Rattle.blossom_match.proofs.RingLemmas.{none_in}
+use Rattle.blossom_match.proofs.BlossomLemmas.{none_in}
 use Rattle.blossom_match.proofs.ClosingLemmas.{AllLocal, ChainTight, IsLocal, paid_is_tight}
 use Rattle.blossom_match.proofs.MirrorLemmas.{linked_left}
 use Rattle.blossom_match.proofs.TreeLemmas.{last_of, outer_members_base, grown_more, grown-append}
 
--- in a ring without a width each part alone makes the heights of its members
+-- in a blossom of dual 0 each part alone makes the heights of its members
 parts_local : (h : ℕ → ℕ) (ps : List PartValue) → AllKept ps → ((x : ℕ) → count x (members_in ps) ≤ 1)
     → ((x : ℕ) → 1 ≤ count x (members_in ps) → height x (bands_in ps) ≡ h x) → AllLocal h ps
 parts_local h [] kept once at = tt
@@ -68,17 +68,17 @@ firm_each d h (p ∷ ps) kept at t paid near even =
           (λ x y hx hy. even x y (omega (arith, c x, hx)) (omega (arith, c y, hy))),
     )
 
--- the parts of a sound ring without a width are firm
-parts_firm : (d : TableValue) (h : ℕ → ℕ) (key : ℕ) (near : List ℕ) (ps : List PartValue) → IsRing ps →
+-- the parts of a sound blossom of dual 0 are firm
+parts_firm : (d : TableValue) (h : ℕ → ℕ) (key : ℕ) (near : List ℕ) (ps : List PartValue) → IsBlossom ps →
     ((x : ℕ) → count x (members_in ps) ≤ 1)
     → IsSound d h (nest_of key (members_in ps) 0 near ps) → Each (IsFirmPart d h) ps
-parts_firm d h key near [] ring once s = tt
-parts_firm d h key near (p ∷ ps) ring once s =
-    let at = parts_local h (p ∷ ps) ring.kept once (λ x here. omega (arith, s.local x here)) in
-    let tight = paid_is_tight d h p (ps ++ p ∷ []) ring.linked at.0 (AllLocal_on h ps p at.1 at.0)
-    (each-left (TollIsPaid d) (ring_tolls (p ∷ ps)) (tolls_in (p ∷ ps)) s.paid) in
-    firm_each d h (p ∷ ps) ring.kept at (links_tight d h p p ps tight)
-    (each-right (TollIsPaid d) (ring_tolls (p ∷ ps)) (tolls_in (p ∷ ps)) s.paid) s.near.1 s.even
+parts_firm d h key near [] blossom once s = tt
+parts_firm d h key near (p ∷ ps) blossom once s =
+    let at = parts_local h (p ∷ ps) blossom.kept once (λ x here. omega (arith, s.local x here)) in
+    let tight = paid_is_tight d h p (ps ++ p ∷ []) blossom.linked at.0 (AllLocal_on h ps p at.1 at.0)
+    (each-left (TollIsPaid d) (blossom_tolls (p ∷ ps)) (tolls_in (p ∷ ps)) s.paid) in
+    firm_each d h (p ∷ ps) blossom.kept at (links_tight d h p p ps tight)
+    (each-right (TollIsPaid d) (blossom_tolls (p ∷ ps)) (tolls_in (p ∷ ps)) s.paid) s.near.1 s.even
 
 pub drop_past : (xs ys : List BranchValue) → drop (length xs) (xs ++ ys) ≡ ys
 drop_past [] ys = refl
@@ -104,7 +104,7 @@ grown-right base (b ∷ xs) ys g =
 -- the tree as the branches before, the one that comes apart and those after it
 pub record SplitAt (root : NestValue) (old bs : List BranchValue) (b : BranchValue) (later : List BranchValue) : Type 0 where
   pub is : old ≡ (bs ++ b ∷ []) ++ later
-  pub zero_wide : b.inner.width ≡ 0
+  pub zero_wide : b.inner.dual ≡ 0
   pub some : 0 < length b.inner.below
   pub before : IsGrown root.members bs
   pub above : 1 ≤ count b.up.from (outer_members root.members bs)
@@ -154,48 +154,50 @@ split_at root old kept bs b later at ex e f g =
       once = λ x. omega (arith, ex.once x, ap (λ (ks : List BranchValue). count x (inner_members ks)) is, members-append, members_push);
     }
 
-into_ring : (way : Link) (ring : List PartValue) → IsRing ring → FirstHolds way.to ring → ((x : ℕ) → count x (members_in ring) ≤ 1)
-    → WayInto way ring
-into_ring way [] r first once = absurd first
-into_ring way (p ∷ ps) r first once = (
+into_blossom : (way : Link) (blossom : List PartValue) → IsBlossom blossom → FirstHolds way.to blossom → ((x : ℕ)
+    → count x (members_in blossom) ≤ 1)
+    → WayInto way blossom
+into_blossom way [] r first once = absurd first
+into_blossom way (p ∷ ps) r first once = (
   omega (arith, first, once way.to, count-append),
   linked_left p
       ps (p ∷ []) r.linked,
 )
 
 pub can_lay : (key : ℕ) (root : NestValue) (old bs : List BranchValue) (b : BranchValue) (later : List BranchValue)
-    (parts ring : List PartValue)
+    (parts blossom : List PartValue)
     → SplitAt root old bs b later →
-    b.inner ≡ nest_of key (members_in parts) b.inner.width b.inner.near parts → GoesEvenly b.up.to b.pair.from parts ring
-    → CanLay root bs ring b.up b.pair b.outer
-can_lay key root old bs b later parts ring s made g =
+    b.inner ≡ nest_of key (members_in parts) b.inner.dual b.inner.near parts → GoesEvenly b.up.to b.pair.from parts blossom
+    → CanLay root bs blossom b.up b.pair b.outer
+can_lay key root old bs b later parts blossom s made g =
     let once = λ (x : ℕ). ap (λ (v : NestValue). count x v.members) made in
     record {
       grown = s.before;
       from = s.above;
-      into = into_ring b.up ring g.ring g.first (λ x. omega (arith, g.places x, once x, s.once x));
+      into = into_blossom b.up blossom g.blossom g.first (λ x. omega (arith, g.places x, once x, s.once x));
       exit = g.last;
-      odd = g.ring.odd;
+      odd = g.blossom.odd;
       to = s.pair_to;
       once = λ x. omega (arith, g.places x, once x, s.once x);
     }
 
 pub expanded : (key : ℕ) (root : NestValue) (old bs : List BranchValue) (b : BranchValue) (later mid new : List BranchValue)
-    (parts ring : List PartValue)
-    (was cs now : List CoupleValue) → SplitAt root old bs b later →
-    IsRing parts → b.inner ≡ nest_of key (members_in parts) b.inner.width b.inner.near parts → GoesEvenly b.up.to b.pair.from parts ring
-    → Lays root bs ring b.up b.pair b.outer mid cs →
+    (parts blossom : List PartValue)
+    (was cs now : List MatchValue) → SplitAt root old bs b later →
+    IsBlossom parts → b.inner ≡ nest_of key (members_in parts) b.inner.dual b.inner.near parts
+    → GoesEvenly b.up.to b.pair.from parts blossom
+    → Lays root bs blossom b.up b.pair b.outer mid cs →
     now ≡ was ++ cs → new ≡ mid ++ later → Expands key root old new was now
-expanded key root old bs b later mid new parts ring was cs now s is made g l e f =
+expanded key root old bs b later mid new parts blossom was cs now s is made g l e f =
     let flat : b.inner ≡ nest_of key (members_in parts) 0 b.inner.near parts =
     made ∙ ap (λ (w : ℕ). nest_of key (members_in parts) w b.inner.near parts) s.zero_wide in
     let inside = λ (x : ℕ). ap (λ (v : NestValue). count x v.members) made in
     let tree = bs ++ b ∷ [] in
-    let band : Band = record { key = key; members = members_in parts; width = 0 } in
+    let band : Band = record { key = key; members = members_in parts; dual = 0 } in
     let sizes = λ (ks : List Band). length ks in
     let at = λ (F : List Band → ℕ) (add : Adds F). ap (λ (v : NestValue). F (bands v)) flat in
     subst (λ (ks : List BranchValue). Expands key root old ks was now) (sym f)
-    (subst (λ (cs : List CoupleValue). Expands key root old (mid ++ later) was cs) (sym e)
+    (subst (λ (cs : List MatchValue). Expands key root old (mid ++ later) was cs) (sym e)
     (subst (λ (ks : List BranchValue). Expands key root ks (mid ++ later) was (was ++ cs)) (sym s.is) (record {
       grown = grown-append root.members mid later l.grown (grown_more (outer_members root.members tree)
           (outer_members root.members mid) later
@@ -204,7 +206,7 @@ expanded key root old bs b later mid new parts ring was cs now s is made g l e f
       rest = refl;
       joined = λ j. each-append IsJoined was cs j l.joined;
       places = λ x. omega (arith, members-append, members_push, l.places x, g.places x, inside x);
-      ring = members_in parts;
+      blossom = members_in parts;
       sums = λ F add. omega (
         arith,
         bands-append F add,
@@ -228,14 +230,14 @@ expanded key root old bs b later mid new parts ring was cs now s is made g l e f
           let sound = subst (λ (v : NestValue). IsSound d h v) flat k.inner in
           let r = l.firm d h (each-left (IsFirm d h) bs (b ∷ []) front) k.up k.pair
           (g.firm d h sy (parts_firm d h key b.inner.near parts is (λ x. omega (arith, inside x, s.once x)) sound)) k.outer in
-          (each-append (IsFirm d h) mid later r.0 (each-right (IsFirm d h) tree later t), each-append (IsFirmCouple d h) was cs c r.1);
+          (each-append (IsFirm d h) mid later r.0 (each-right (IsFirm d h) tree later t), each-append (IsFirmMatch d h) was cs c r.1);
     })))
 
 pub grows_at : (root : NestValue) (old kept bs : List BranchValue) (b : BranchValue) (later mid new : List BranchValue)
-    (ring : List PartValue)
-    (cs : List CoupleValue) (at : ℕ) → Expanding root old at → kept ≡ take (at + 1) old → later ≡ drop (at + 1) old → kept ≡ bs ++ b ∷ []
-    → Lays root bs ring b.up b.pair b.outer mid cs → new ≡ mid ++ later → GrowsAt at old new
-grows_at root old kept bs b later mid new ring cs at ex e f g l m =
+    (blossom : List PartValue)
+    (cs : List MatchValue) (at : ℕ) → Expanding root old at → kept ≡ take (at + 1) old → later ≡ drop (at + 1) old → kept ≡ bs ++ b ∷ []
+    → Lays root bs blossom b.up b.pair b.outer mid cs → new ≡ mid ++ later → GrowsAt at old new
+grows_at root old kept bs b later mid new blossom cs at ex e f g l m =
     let s = split_at root old kept bs b later at ex e f g in
     record {
       before = bs;

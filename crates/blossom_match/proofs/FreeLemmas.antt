@@ -5,25 +5,25 @@ use Rattle.blossom_match.proofs.RowLemmas.{single_near}
 use Rattle.blossom_match.specs.Rows.{single_row}
 use Rattle.blossom_match.specs.Lists.{Each}
 use Rattle.blossom_match.specs.Bands.{Band, NestValue, apart, bands, count, height, hit, load}
-use Rattle.blossom_match.specs.Rings.{single_of}
-use Rattle.blossom_match.specs.Couples.{couple_bands}
+use Rattle.blossom_match.specs.Blossoms.{single_of}
+use Rattle.blossom_match.specs.Matches.{match_bands}
 use Rattle.blossom_match.specs.Sound.{IsFirm, IsSound}
 use Rattle.blossom_match.specs.Trees.{branch_bands, inner_members, outer_members, Augments, IsGrown}
 use Rattle.blossom_match.specs.Searches.{height_at, height_of, outers, Ends, IsSearch, IsStanding, CanStepAt}
 use Rattle.blossom_match.specs.TableValue.{TableValue}
 use Rattle.blossom_match.specs.Tables.{entry, IsTable}
 use Rattle.blossom_match.specs.declared.nest.Link.{Link}
-use Rattle.blossom_match.specs.Values.{BranchValue, CoupleValue, SearchValue, StandingValue}
+use Rattle.blossom_match.specs.Values.{BranchValue, MatchValue, SearchValue, StandingValue}
 use Rattle.blossom_match.specs.declared.search.Step.TheVariants.{Meet}
 use Rattle.blossom_match.proofs.SumLemmas.{count-append, height-append, hit_is, hit_same, load-append, load-comm, load_alone, low, none_hold}
-use Rattle.blossom_match.proofs.RingLemmas.{made_kept}
-use Rattle.blossom_match.proofs.SearchLemmas.{is_one, low_branches, low_couples, none_branches, none_couples, place_in}
+use Rattle.blossom_match.proofs.BlossomLemmas.{made_kept}
+use Rattle.blossom_match.proofs.SearchLemmas.{is_one, low_branches, low_matches, none_branches, none_matches, place_in}
 use Rattle.blossom_match.proofs.TableLemmas.{entry-comm}
 use Rattle.blossom_match.proofs.TreeLemmas.{base_in}
 
--- all widths between two places
+-- all duals between two places
 abbrev pub load_of : SearchValue → ℕ → ℕ → ℕ
-load_of s a b = load a b (bands s.root) + load a b (branch_bands s.tree) + load a b (couple_bands s.rest)
+load_of s a b = load a b (bands s.root) + load a b (branch_bands s.tree) + load a b (match_bands s.rest)
 
 pub load_of-comm : (s : SearchValue) (a b : ℕ) → load_of s a b ≡ load_of s b a
 load_of-comm s a b = omega (
@@ -31,7 +31,7 @@ load_of-comm s a b = omega (
   load-comm a b (bands s.root),
   load-comm a b (branch_bands s.tree),
   load-comm a b
-      (couple_bands s.rest),
+      (match_bands s.rest),
 )
 
 -- to a free place the load is the height
@@ -44,7 +44,7 @@ load_free t h s x f i hf =
       load_alone x f (bands s.root) (none_hold f s.root i.root.kept (omega (arith, base_in f s.root.members s.tree, o))),
       load_alone x f (branch_bands s.tree) (none_branches t h f s.root.members s.tree i.tree o
           (omega (arith, i.places f, one, hf))),
-      load_alone x f (couple_bands s.rest) (none_couples t h f s.rest i.rest (omega (arith, i.places f, one, hf))),
+      load_alone x f (match_bands s.rest) (none_matches t h f s.rest i.rest (omega (arith, i.places f, one, hf))),
     )
 
 -- a free place is in no set
@@ -56,7 +56,7 @@ low_free t h s x i some =
       low x s.root i.root.kept (omega (arith, i.places x, one, base_in x s.root.members s.tree, some)),
       low_branches t h x s.root.members s.tree i.tree (omega (arith, i.places x, one, some))
           (omega (arith, i.places x, one, some)),
-      low_couples t h x s.rest i.rest (omega (arith, i.places x, one, some)),
+      low_matches t h x s.rest i.rest (omega (arith, i.places x, one, some)),
     )
 
 under_case : (n : ℕ) (t : TableValue) (h : ℕ → ℕ) (s : SearchValue) (x : ℕ) → IsSearch t h s → count x s.free ≡ n → height_of s x ≤ h x
@@ -111,16 +111,16 @@ single_tall : (key : ℕ) (t : TableValue) (x f w top old left was : ℕ) → le
     → top ≡ old + height x (bands (single_of key t f w))
 single_tall key t x f w top old left was n none tall same = omega (arith, tall_case (eqb x f) x f w top old left was refl n none tall same)
 
--- a free place and any other have room in a search
-load_room : (t : TableValue) (h : ℕ → ℕ) (s : SearchValue) (x f : ℕ) → IsSearch t h s → x < t.places → 1 ≤ count f s.free → x ≢ f
+-- in a search the slack between a free place and any other isn't negative
+load_slack : (t : TableValue) (h : ℕ → ℕ) (s : SearchValue) (x f : ℕ) → IsSearch t h s → x < t.places → 1 ≤ count f s.free → x ≢ f
     → load_of s x f + h f ≤ 2 * entry t x f
-load_room t h s x f i lx hf ne = omega (arith, load_free t h s x f i hf, under t h s x i, i.room x f lx hf ne)
+load_slack t h s x f i lx hf ne = omega (arith, load_free t h s x f i hf, under t h s x i, i.slack x f lx hf ne)
 
 met_standing : (t : TableValue) (h : ℕ → ℕ) (link : Link) (s : SearchValue) (r : StandingValue) (m : NestValue)
-    → Augments s.root m link s.tree s.rest r.couples → IsTable t → m ≡ single_of m.key t link.to (h link.to) →
+    → Augments s.root m link s.tree s.rest r.matches → IsTable t → m ≡ single_of m.key t link.to (h link.to) →
     ((x : ℕ) → count x r.free + hit x link.to ≡ count x s.free) → IsSearch t h s → 1 ≤ count link.to s.free
     → 2 * entry t link.from link.to ≡ h link.from + h link.to →
-    IsStanding t h r.couples r.free
+    IsStanding t h r.matches r.free
 met_standing t h link s r m aug is e counts i here tight =
     let f = link.to in
     let at = λ (F : List Band → ℕ). ap (λ (v : NestValue). F (bands v)) e in
@@ -132,7 +132,7 @@ met_standing t h link s r m aug is e counts i here tight =
         aug.sums (height x) (height-append x),
         at (height x),
       );
-      room = λ a g la hg ne. i.room a g la (omega (arith, hg, counts g)) ne;
+      slack = λ a g la hg ne. i.slack a g la (omega (arith, hg, counts g)) ne;
       places = λ x. omega (arith, i.places x, aug.places x, ap (λ (v : NestValue). count x v.members) e, counts x);
       joined = aug.joined i.joined;
       firm = aug.firm t h tight i.root (subst (λ (v : NestValue). IsSound t h v) (sym e)
@@ -145,16 +145,16 @@ met_standing t h link s r m aug is e counts i here tight =
               arith,
               load_of-comm s a b,
               entry-comm t a b,
-              subst (λ (z : ℕ). load_of s b z + h f ≤ 2 * entry t b z) (sym g) (load_room t h s b f i lb here (λ k. ne (g ∙ sym k))),
+              subst (λ (z : ℕ). load_of s b z + h f ≤ 2 * entry t b z) (sym g) (load_slack t h s b f i lb here (λ k. ne (g ∙ sym k))),
             ))
-            (λ g. subst (λ (z : ℕ). load_of s a z + h f ≤ 2 * entry t a z) (sym g) (load_room t h s a f i la here (λ k. ne (k ∙ sym g)))),
+            (λ g. subst (λ (z : ℕ). load_of s a z + h f ≤ 2 * entry t a z) (sym g) (load_slack t h s a f i la here (λ k. ne (k ∙ sym g)))),
         aug.sums (load a b) (load-append a b),
         at (load a b),
       );
     }
 
 pub met : (t : TableValue) (link : Link) (s : SearchValue) (r : StandingValue) (m : NestValue) → CanStepAt t s (Meet link)
-    → Augments s.root m link s.tree s.rest r.couples → IsTable t → m ≡ single_of m.key t link.to (height_at s link.to) →
+    → Augments s.root m link s.tree s.rest r.matches → IsTable t → m ≡ single_of m.key t link.to (height_at s link.to) →
     ((x : ℕ) → count x r.free + hit x link.to ≡ count x s.free) → length r.free + 1 ≡ length s.free
     → r.heights ≡ s.heights → Ends t s (Meet link) r
 met t link s r m can aug is e counts fewer same = record {
@@ -163,24 +163,24 @@ met t link s r m can aug is e counts fewer same = record {
   heights = same;
 }
 
-low_standing : (t : TableValue) (h : ℕ → ℕ) (cs : List CoupleValue) (free : List ℕ) (x : ℕ) → IsStanding t h cs free → 1 ≤ count x free
-    → height x (couple_bands cs) ≡ 0
-low_standing t h cs free x i some = low_couples t h x cs i.firm (omega (arith, i.places x, is_one t x, some))
+low_standing : (t : TableValue) (h : ℕ → ℕ) (cs : List MatchValue) (free : List ℕ) (x : ℕ) → IsStanding t h cs free → 1 ≤ count x free
+    → height x (match_bands cs) ≡ 0
+low_standing t h cs free x i some = low_matches t h x cs i.firm (omega (arith, i.places x, is_one t x, some))
 
-lower_case : (n : ℕ) (t : TableValue) (h : ℕ → ℕ) (cs : List CoupleValue) (free : List ℕ) (x : ℕ) → IsStanding t h cs free → count x free
+lower_case : (n : ℕ) (t : TableValue) (h : ℕ → ℕ) (cs : List MatchValue) (free : List ℕ) (x : ℕ) → IsStanding t h cs free → count x free
     ≡ n
-    → height x (couple_bands cs) ≤ h x
+    → height x (match_bands cs) ≤ h x
 lower_case zero t h cs free x i e = omega (arith, i.tall x e)
 lower_case (suc n) t h cs free x i e = omega (arith, low_standing t h cs free x i (omega (arith, e)))
 
-standing_room : (t : TableValue) (h : ℕ → ℕ) (cs : List CoupleValue) (free : List ℕ) (x f : ℕ) → IsStanding t h cs free → x < t.places
-    → 1 ≤ count f free → x ≢ f → load x f (couple_bands cs) + h f ≤ 2 * entry t x f
-standing_room t h cs free x f i lx hf ne =
+standing_slack : (t : TableValue) (h : ℕ → ℕ) (cs : List MatchValue) (free : List ℕ) (x f : ℕ) → IsStanding t h cs free → x < t.places
+    → 1 ≤ count f free → x ≢ f → load x f (match_bands cs) + h f ≤ 2 * entry t x f
+standing_slack t h cs free x f i lx hf ne =
     omega (
       arith,
-      load_alone x f (couple_bands cs) (none_couples t h f cs i.firm (omega (arith, i.places f, is_one t f, hf))),
+      load_alone x f (match_bands cs) (none_matches t h f cs i.firm (omega (arith, i.places f, is_one t f, hf))),
       lower_case (count x free) t h cs free x i refl,
-      i.room x f lx hf ne,
+      i.slack x f lx hf ne,
     )
 
 -- a search from a free place
@@ -195,13 +195,13 @@ begun t h place s is i e f =
     record {
       tall = λ x none. omega (
         arith,
-        single_tall s.root.key t x place (h place) (h x) (height x (couple_bands cs)) (count x s.free) (count x (s.free ++ place ∷ []))
+        single_tall s.root.key t x place (h place) (h x) (height x (match_bands cs)) (count x s.free) (count x (s.free ++ place ∷ []))
             (omega (arith, at x)) none (i.tall x)
-            (λ g. (ap h g, ap (λ (z : ℕ). height z (couple_bands cs)) g ∙ low_standing t h cs (s.free ++ place ∷ []) place i here)),
+            (λ g. (ap h g, ap (λ (z : ℕ). height z (match_bands cs)) g ∙ low_standing t h cs (s.free ++ place ∷ []) place i here)),
         sums (height x),
         none_hung (height x),
       );
-      room = λ a g la hg ne. i.room a g la (omega (arith, hg, at g)) ne;
+      slack = λ a g la hg ne. i.slack a g la (omega (arith, hg, at g)) ne;
       places = λ x. omega (
         arith,
         i.places x,
@@ -219,16 +219,16 @@ begun t h place s is i e f =
       rest = i.firm;
       loads = λ a b la lb ne. omega (
         arith,
-        single_load s.root.key t a b place (h place) (load a b (couple_bands cs)) (2 * entry t a b) ne (i.loads a b la lb ne)
+        single_load s.root.key t a b place (h place) (load a b (match_bands cs)) (2 * entry t a b) ne (i.loads a b la lb ne)
             (λ g. omega (
               arith,
-              load-comm a b (couple_bands cs),
+              load-comm a b (match_bands cs),
               entry-comm t a b,
-              subst (λ (z : ℕ). load b z (couple_bands cs) + h place ≤ 2 * entry t b z) (sym g)
-                  (standing_room t h cs (s.free ++ place ∷ []) b place i lb here (λ k. ne (g ∙ sym k))),
+              subst (λ (z : ℕ). load b z (match_bands cs) + h place ≤ 2 * entry t b z) (sym g)
+                  (standing_slack t h cs (s.free ++ place ∷ []) b place i lb here (λ k. ne (g ∙ sym k))),
             ))
-            (λ g. subst (λ (z : ℕ). load a z (couple_bands cs) + h place ≤ 2 * entry t a z) (sym g)
-            (standing_room t h cs (s.free ++ place ∷ []) a place i la here (λ k. ne (k ∙ sym g)))),
+            (λ g. subst (λ (z : ℕ). load a z (match_bands cs) + h place ≤ 2 * entry t a z) (sym g)
+            (standing_slack t h cs (s.free ++ place ∷ []) a place i la here (λ k. ne (k ∙ sym g)))),
         sums (load a b),
         none_hung (load a b),
       );

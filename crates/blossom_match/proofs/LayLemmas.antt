@@ -3,29 +3,29 @@ use Rattle.std.proofs.Common.{◌≡◌, ℕ, ◌%◌, ◌≤◌, inl, inr, List
 use Rattle.blossom_match.specs.TableValue.{TableValue}
 use Rattle.blossom_match.specs.Lists.{Each}
 use Rattle.blossom_match.specs.Bands.{Band, NestValue, bands, count}
-use Rattle.blossom_match.specs.Rings.{bands_in, Linked}
-use Rattle.blossom_match.specs.Couples.{couples_along, IsJoined}
-use Rattle.blossom_match.specs.Sound.{IsFirm, IsFirmCouple, IsFirmPart}
+use Rattle.blossom_match.specs.Blossoms.{bands_in, Linked}
+use Rattle.blossom_match.specs.Matches.{matches_along, IsJoined}
+use Rattle.blossom_match.specs.Sound.{IsFirm, IsFirmMatch, IsFirmPart}
 use Rattle.blossom_match.specs.Lays.{EvenlyHolds, WayInto, CanLay, Lays}
 use Rattle.blossom_match.specs.declared.nest.Link.{Link}
-use Rattle.blossom_match.specs.Values.{BranchValue, CoupleValue, PartValue}
+use Rattle.blossom_match.specs.Values.{BranchValue, MatchValue, PartValue}
 use Rattle.blossom_match.proofs.ListLemmas.{each-push}
 use Rattle.blossom_match.proofs.SumLemmas.{bands_push, count-append, members_push, size-append}
-use Rattle.blossom_match.proofs.OpenLemmas.{members_coupled, bands_coupled}
+use Rattle.blossom_match.proofs.OpenLemmas.{members_matched, bands_matched}
 use Rattle.blossom_match.proofs.TreeLemmas.{grown_push}
 
-pub record Laying (root : NestValue) (old : List BranchValue) (ring : List PartValue) (up pair : Link) (outer : NestValue)
+pub record Laying (root : NestValue) (old : List BranchValue) (blossom : List PartValue) (up pair : Link) (outer : NestValue)
     (now : List BranchValue)
     (left : List PartValue) (way : Link) : Type 0 where
   pub can : CanLay root now left way pair outer
-  pub does : (new : List BranchValue) (cs : List CoupleValue) → Lays root now left way pair outer new cs → Lays root old ring up pair
+  pub does : (new : List BranchValue) (cs : List MatchValue) → Lays root now left way pair outer new cs → Lays root old blossom up pair
       outer new cs
 
-pub laying_start : (root : NestValue) (old : List BranchValue) (ring left : List PartValue) (up pair : Link) (outer : NestValue)
-    → CanLay root old ring up pair outer → left ≡ ring →
-    Laying root old ring up pair outer old left up
-laying_start root old ring left up pair outer can e =
-    subst (λ (ps : List PartValue). Laying root old ring up pair outer old ps up) (sym e) (record { can = can; does = λ new cs l. l })
+pub laying_start : (root : NestValue) (old : List BranchValue) (blossom left : List PartValue) (up pair : Link) (outer : NestValue)
+    → CanLay root old blossom up pair outer → left ≡ blossom →
+    Laying root old blossom up pair outer old left up
+laying_start root old blossom left up pair outer can e =
+    subst (λ (ps : List PartValue). Laying root old blossom up pair outer old ps up) (sym e) (record { can = can; does = λ new cs l. l })
 
 not_here : (x : ℕ) (p q : PartValue) (ps : List PartValue) → EvenlyHolds x (p ∷ q ∷ ps) → count x p.nest.members ≡ 0 → EvenlyHolds x ps
 not_here x p q ps (inl h) none = absurd (omega arith)
@@ -67,7 +67,7 @@ can_more root now p q ps way pair outer c none =
 
 does_more : (root : NestValue) (now : List BranchValue) (p q : PartValue) (ps : List PartValue) (way pair : Link) (outer : NestValue)
     (new : List BranchValue)
-    (cs : List CoupleValue) →
+    (cs : List MatchValue) →
     Lays root (now ++ branch_of way p.nest p.next q.nest ∷ []) ps q.next pair outer new cs
     → Lays root now (p ∷ q ∷ ps) way pair outer new cs
 does_more root now p q ps way pair outer new cs l =
@@ -95,69 +95,70 @@ does_more root now p q ps way pair outer new cs l =
           parts.1.0.next a parts.1.1 o;
     }
 
-pub laying_more : (root : NestValue) (old : List BranchValue) (ring : List PartValue) (up pair : Link) (outer : NestValue)
+pub laying_more : (root : NestValue) (old : List BranchValue) (blossom : List PartValue) (up pair : Link) (outer : NestValue)
     (now : List BranchValue)
     (left after rest : List PartValue) (p q : PartValue) (way : Link) (next : List BranchValue) →
-    Laying root old ring up pair outer now left way → left ≡ p ∷ after → after ≡ q ∷ rest → count pair.from p.nest.members ≡ 0 →
-    next ≡ now ++ branch_of way p.nest p.next q.nest ∷ [] → Laying root old ring up pair outer next rest q.next
-laying_more root old ring up pair outer now left after rest p q way next l e f none g =
+    Laying root old blossom up pair outer now left way → left ≡ p ∷ after → after ≡ q ∷ rest → count pair.from p.nest.members ≡ 0 →
+    next ≡ now ++ branch_of way p.nest p.next q.nest ∷ [] → Laying root old blossom up pair outer next rest q.next
+laying_more root old blossom up pair outer now left after rest p q way next l e f none g =
     let is : left ≡ p ∷ q ∷ rest = e ∙ ap (λ (ps : List PartValue). p ∷ ps) f in
-    let m = subst (λ (ps : List PartValue). Laying root old ring up pair outer now ps way) is l in
-    subst (λ (bs : List BranchValue). Laying root old ring up pair outer bs rest q.next) (sym g) (record {
+    let m = subst (λ (ps : List PartValue). Laying root old blossom up pair outer now ps way) is l in
+    subst (λ (bs : List BranchValue). Laying root old blossom up pair outer bs rest q.next) (sym g) (record {
       can = can_more root now p q rest way pair outer m.can none;
       does = λ new cs k. m.does new cs (does_more root now p q rest way pair outer new cs k);
     })
 
-coupled_joined : (p : PartValue) (ps : List PartValue) → length ps % 2 ≡ 0 → Linked p ps → Each IsJoined (couples_along ps)
-coupled_joined p [] even l = tt
-coupled_joined p (q ∷ []) even l = absurd (omega arith)
-coupled_joined p (q ∷ r ∷ ps) even l =
+matched_joined : (p : PartValue) (ps : List PartValue) → length ps % 2 ≡ 0 → Linked p ps → Each IsJoined (matches_along ps)
+matched_joined p [] even l = tt
+matched_joined p (q ∷ []) even l = absurd (omega arith)
+matched_joined p (q ∷ r ∷ ps) even l =
     let less : length ps % 2 ≡ 0 = omega arith in
-    (record { from = l.1.0.0; to = l.1.0.1 }, coupled_joined r ps less l.1.1)
+    (record { from = l.1.0.0; to = l.1.0.1 }, matched_joined r ps less l.1.1)
 
-coupled_firm : (d : TableValue) (h : ℕ → ℕ) (ps : List PartValue) → Each (IsFirmPart d h) ps → Each (IsFirmCouple d h) (couples_along ps)
-coupled_firm d h [] t = tt
-coupled_firm d h (q ∷ []) t = tt
-coupled_firm d h (q ∷ r ∷ ps) t = (record { link = t.0.next; first = t.0.nest; second = t.1.0.nest }, coupled_firm d h ps t.1.1)
+matched_firm : (d : TableValue) (h : ℕ → ℕ) (ps : List PartValue) → Each (IsFirmPart d h) ps → Each (IsFirmMatch d h) (matches_along ps)
+matched_firm d h [] t = tt
+matched_firm d h (q ∷ []) t = tt
+matched_firm d h (q ∷ r ∷ ps) t = (record { link = t.0.next; first = t.0.nest; second = t.1.0.nest }, matched_firm d h ps t.1.1)
 
 lays_last : (root : NestValue) (now : List BranchValue) (p : PartValue) (ps : List PartValue) (way pair : Link) (outer : NestValue)
     → CanLay root now (p ∷ ps) way pair outer →
     1 ≤ count pair.from p.nest.members → Lays root now (p ∷ ps) way pair outer (now ++ branch_of way p.nest pair outer ∷ [])
-    (couples_along ps)
+    (matches_along ps)
 lays_last root now p ps way pair outer c here =
     let b = branch_of way p.nest pair outer in
     let even : length ps % 2 ≡ 0 = omega (arith, c.odd) in
     let one : count pair.from p.nest.members ≡ 1 = omega (arith, c.once pair.from, count-append) in
     record {
       grown = grown_push root.members now b c.grown c.from c.into.0 one c.to;
-      joined = coupled_joined p ps even c.into.1;
-      places = λ x. omega (arith, members_push, members_coupled x ps even, count-append);
+      joined = matched_joined p ps even c.into.1;
+      places = λ x. omega (arith, members_push, members_matched x ps even, count-append);
       more = λ x. omega (arith, members_push);
       added = [];
       last = b;
       is = refl;
       same = refl;
-      sums = λ F add. omega (arith, bands_push F add, bands_coupled F add ps even, add);
+      sums = λ F add. omega (arith, bands_push F add, bands_matched F add ps even, add);
       fewer = omega (
         arith,
         bands_push (λ (ks : List Band). length ks) size-append,
-        bands_coupled
+        bands_matched
             (λ (ks : List Band). length ks) size-append ps even,
         size-append (bands p.nest) (bands_in ps),
       );
       firm = λ d h t w a parts o. (
         each-push (IsFirm d h) now b t
             (record { up = w; pair = a; inner = parts.0.nest; outer = o }),
-        coupled_firm d h ps parts.1,
+        matched_firm d h ps parts.1,
       );
     }
 
-pub laid : (root : NestValue) (old : List BranchValue) (ring : List PartValue) (up pair : Link) (outer : NestValue) (now : List BranchValue)
-    (left rest : List PartValue) (p : PartValue) (way : Link) (new : List BranchValue) (cs : List CoupleValue) →
-    Laying root old ring up pair outer now left way → left ≡ p ∷ rest → 1 ≤ count pair.from p.nest.members →
-    new ≡ now ++ branch_of way p.nest pair outer ∷ [] → cs ≡ couples_along rest → Lays root old ring up pair outer new cs
-laid root old ring up pair outer now left rest p way new cs l e here f g =
-    let m = subst (λ (ps : List PartValue). Laying root old ring up pair outer now ps way) e l in
+pub laid : (root : NestValue) (old : List BranchValue) (blossom : List PartValue) (up pair : Link) (outer : NestValue) (now : List
+    BranchValue)
+    (left rest : List PartValue) (p : PartValue) (way : Link) (new : List BranchValue) (cs : List MatchValue) →
+    Laying root old blossom up pair outer now left way → left ≡ p ∷ rest → 1 ≤ count pair.from p.nest.members →
+    new ≡ now ++ branch_of way p.nest pair outer ∷ [] → cs ≡ matches_along rest → Lays root old blossom up pair outer new cs
+laid root old blossom up pair outer now left rest p way new cs l e here f g =
+    let m = subst (λ (ps : List PartValue). Laying root old blossom up pair outer now ps way) e l in
     let done = m.does _ _ (lays_last root now p rest way pair outer m.can here) in
-    let moved = subst (λ (bs : List BranchValue). Lays root old ring up pair outer bs (couples_along rest)) (sym f) done in
-    subst (λ (ks : List CoupleValue). Lays root old ring up pair outer new ks) (sym g) moved
+    let moved = subst (λ (bs : List BranchValue). Lays root old blossom up pair outer bs (matches_along rest)) (sym f) done in
+    subst (λ (ks : List MatchValue). Lays root old blossom up pair outer new ks) (sym g) moved

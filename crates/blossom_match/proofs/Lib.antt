@@ -1,6 +1,6 @@
 pub mod ListLemmas
 pub mod SumLemmas
-pub mod RingLemmas
+pub mod BlossomLemmas
 pub mod MatchingFacts
 pub mod TableLemmas
 pub mod OpenLemmas
@@ -14,7 +14,7 @@ pub mod TreeLemmas
 pub mod AugmentLemmas
 pub mod SeatLemmas
 pub mod SlotLemmas
-pub mod CoupleLemmas
+pub mod MatchLemmas
 pub mod ClosingLemmas
 pub mod ChainLemmas
 pub mod ShrinkLemmas
@@ -33,8 +33,8 @@ pub mod ReachLemmas
 pub mod AimLemmas
 pub mod MaskLemmas
 pub mod BoundLemmas
-pub mod WidthLemmas
+pub mod DualLemmas
 pub mod LoweredLemmas
 pub mod EndLemmas
-pub mod WideningLemmas
+pub mod AdjustmentLemmas
 pub mod PriceLemmas

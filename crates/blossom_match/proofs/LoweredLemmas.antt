@@ -1,4 +1,4 @@
--- What the outer places leave after a change of widths.
+-- What the outer places leave after a change of duals.
 use Rattle.std.proofs.Common.{◌≡◌, ℕ, ◌+◌, ◌-◌, ◌*◌, ◌≤◌, ◌<◌, ◌⊎◌, inl, inr, List, [], ◌∷◌, length, get_or, arith, sym, ap, subst, ◌∙◌, take, drop}
 use Rattle.blossom_match.proofs.ReachLemmas.{reaches_apart}
 use Rattle.blossom_match.specs.Bands.{NestValue, count}
@@ -7,7 +7,7 @@ use Rattle.blossom_match.specs.Sound.{IsFirm}
 use Rattle.blossom_match.specs.Trees.{around, both, inner_members, outer_members}
 use Rattle.blossom_match.specs.Searches.{height_at, outers, Advances, CanStep, CanStepAt, ComesApart, HangsOn, IsSearch}
 use Rattle.blossom_match.specs.Bounds.{holding}
-use Rattle.blossom_match.specs.Widths.{Changes}
+use Rattle.blossom_match.specs.Duals.{Changes}
 use Rattle.blossom_match.specs.Rows.{lowered}
 use Rattle.blossom_match.specs.Reaches.{left_by, CanTakeAll, IsReachable, IsReached, Reaches, ReachesOn, ReachesOuters, SearchReaches}
 use Rattle.blossom_match.specs.TableValue.{TableValue}
@@ -19,7 +19,7 @@ use Rattle.blossom_match.specs.declared.search.Step.TheVariants.{Expand}
 use Rattle.blossom_match.proofs.ListLemmas.{each-right}
 use Rattle.blossom_match.proofs.ExpandLemmas.{drop_past}
 use Rattle.blossom_match.proofs.SearchLemmas.{is_one, place_in}
-use Rattle.blossom_match.proofs.WidthLemmas.{around_same_all, outer_same}
+use Rattle.blossom_match.proofs.DualLemmas.{around_same_all, outer_same}
 use Rattle.blossom_match.proofs.RowLemmas.{far_is, lowered_far, lowered_less, lowered_near}
 
 -- the same places, the same sets, and heights that rise
@@ -90,7 +90,7 @@ is_lower t by s r x old new k lx is (inr l) = inr (record {
   );
 })
 
--- all rooms are less by the change
+-- all slacks are less by the change
 pub still_reaches : (t : TableValue) (by : ℕ) (s r : SearchValue) (old new : List ℕ) → IsTable t → IsSearch t (height_at s) s
     → Changes by s r → SearchReaches t s old → length new ≡ length old
     → ((x : ℕ) → x < length new → get_or new x 0 ≡ lowered by (get_or old x 0)) → SearchReaches t r new

@@ -1,60 +1,60 @@
--- Masks that show the places of couples.
+-- Masks that show the places of matches.
 use Rattle.std.proofs.Common.{◌≡◌, ℕ, ◌+◌, ◌≤◌, ◌<◌, ◌⊎◌, inl, inr, suc, zero, List, [], ◌∷◌, ◌++◌, length, take, drop, map, get_or, min, arith, refl, sym, ap, subst, ◌∙◌}
 use Rattle.std.proofs.lemmas.Bool.{cases_lt}
 use Rattle.std.proofs.lemmas.List.{take-append-drop}
 use Rattle.std.proofs.Math.Seq.{drop-append_seam}
 use Rattle.blossom_match.specs.Bands.{NestValue, count}
-use Rattle.blossom_match.specs.Couples.{couple_members}
+use Rattle.blossom_match.specs.Matches.{match_members}
 use Rattle.blossom_match.specs.Trees.{inner_members, outer_members}
 use Rattle.blossom_match.specs.Searches.{height_at, Advances, CanStepAt, ComesApart, HangsOn, IsSearch}
 use Rattle.blossom_match.specs.Rows.{Puts}
 use Rattle.blossom_match.specs.Masks.{branch_members, shown, IsShown, Masks, SearchMasks}
 use Rattle.blossom_match.specs.TableValue.{TableValue}
-use Rattle.blossom_match.specs.Values.{BranchValue, CoupleValue, SearchValue}
+use Rattle.blossom_match.specs.Values.{BranchValue, MatchValue, SearchValue}
 use Rattle.blossom_match.specs.declared.search.Step.{Step}
 use Rattle.blossom_match.specs.declared.table.TheConstants.{FAR}
 use Rattle.blossom_match.proofs.ListLemmas.{mapped_at, take_here}
 use Rattle.blossom_match.proofs.SumLemmas.{count-append, members-append, members_push}
-use Rattle.blossom_match.proofs.CoupleLemmas.{couple_here}
+use Rattle.blossom_match.proofs.MatchLemmas.{match_here}
 use Rattle.blossom_match.proofs.SearchLemmas.{is_one, place_in}
 
 -- cells of two lists, one after the other
-join_case : (n : ℕ) (room : ℕ) (xs ys old mid new : List ℕ) (x : ℕ) → count x ys ≡ n → 1 ≤ count x xs + n → Puts room xs old mid
-    → Puts room ys mid new → get_or new x 0 ≡ room
-join_case zero room xs ys old mid new x e here one two = two.off x e ∙ one.on x (omega (arith, here))
-join_case (suc n) room xs ys old mid new x e here one two = two.on x (omega (arith, e))
+join_case : (n : ℕ) (left : ℕ) (xs ys old mid new : List ℕ) (x : ℕ) → count x ys ≡ n → 1 ≤ count x xs + n → Puts left xs old mid
+    → Puts left ys mid new → get_or new x 0 ≡ left
+join_case zero left xs ys old mid new x e here one two = two.off x e ∙ one.on x (omega (arith, here))
+join_case (suc n) left xs ys old mid new x e here one two = two.on x (omega (arith, e))
 
-pub puts_join : (room : ℕ) (xs ys zs old mid new : List ℕ) → ((x : ℕ) → count x zs ≡ count x xs + count x ys) → Puts room xs old mid
-    → Puts room ys mid new → Puts room zs old new
-puts_join room xs ys zs old mid new all one two = record {
-  on = λ x here. join_case (count x ys) room xs ys old mid new x refl (omega (arith, here, all x)) one two;
+pub puts_join : (left : ℕ) (xs ys zs old mid new : List ℕ) → ((x : ℕ) → count x zs ≡ count x xs + count x ys) → Puts left xs old mid
+    → Puts left ys mid new → Puts left zs old new
+puts_join left xs ys zs old mid new all one two = record {
+  on = λ x here. join_case (count x ys) left xs ys old mid new x refl (omega (arith, here, all x)) one two;
   off = λ x none. two.off x (omega (arith, none, all x)) ∙ one.off x (omega (arith, none, all x));
 }
 
--- one couple more
-pub puts_couple : (room : ℕ) (cs : List CoupleValue) (i : ℕ) (c : CoupleValue) (old now mid new : List ℕ) → i < length cs
-    → c ≡ get_or cs i c → Puts room (couple_members (take i cs)) old now → Puts room c.first.members now mid
-    → Puts room c.second.members mid new → Puts room (couple_members (take (i + 1) cs)) old new
-puts_couple room cs i c old now mid new low is one two three =
+-- one match more
+pub puts_match : (left : ℕ) (cs : List MatchValue) (i : ℕ) (c : MatchValue) (old now mid new : List ℕ) → i < length cs
+    → c ≡ get_or cs i c → Puts left (match_members (take i cs)) old now → Puts left c.first.members now mid
+    → Puts left c.second.members mid new → Puts left (match_members (take (i + 1) cs)) old new
+puts_match left cs i c old now mid new low is one two three =
     let both = c.first.members ++ c.second.members in
     let at = λ (x : ℕ). count-append x c.first.members c.second.members in
-    puts_join room (couple_members (take i cs)) both (couple_members (take (i + 1) cs)) old now new
+    puts_join left (match_members (take i cs)) both (match_members (take (i + 1) cs)) old now new
     (λ x. omega (
       arith,
       at x,
       members_push,
-      ap (λ (ks : List CoupleValue). count x (couple_members ks)) (take_here cs i c low is),
-    )) one (puts_join room c.first.members c.second.members both now mid new at two three)
+      ap (λ (ks : List MatchValue). count x (match_members ks)) (take_here cs i c low is),
+    )) one (puts_join left c.first.members c.second.members both now mid new at two three)
 
--- a couple's places are coupled
-pub couple_within : (x : ℕ) (cs : List CoupleValue) (i : ℕ) (c : CoupleValue) → i < length cs → c ≡ get_or cs i c
-    → count x c.first.members + count x c.second.members ≤ count x (couple_members cs)
-couple_within x cs i c low is =
+-- a match's places are matched
+pub match_within : (x : ℕ) (cs : List MatchValue) (i : ℕ) (c : MatchValue) → i < length cs → c ≡ get_or cs i c
+    → count x c.first.members + count x c.second.members ≤ count x (match_members cs)
+match_within x cs i c low is =
     omega (
       arith,
       members-append,
-      ap (λ (ks : List CoupleValue). count x (couple_members ks)) (take-append-drop i cs),
-      ap (λ (ks : List CoupleValue). count x (couple_members ks)) (couple_here cs i c low is),
+      ap (λ (ks : List MatchValue). count x (match_members ks)) (take-append-drop i cs),
+      ap (λ (ks : List MatchValue). count x (match_members ks)) (match_here cs i c low is),
       count-append,
     )
 
@@ -96,24 +96,24 @@ masks_less places gone all old new sum once size m k = record {
       less_case (count x gone) places gone old new x refl (omega (arith, sum x, none)) (omega (arith, low, size)) m k;
 }
 
--- the couples stay
+-- the matches stay
 pub masks_same : (t : TableValue) (s r : SearchValue) (mask : List ℕ) → r.rest ≡ s.rest → SearchMasks t s mask → SearchMasks t r mask
 masks_same t s r mask e m = record {
   size = m.size;
-  masks = subst (λ (cs : List CoupleValue). Masks (couple_members cs) mask) (sym e) m.masks;
+  masks = subst (λ (cs : List MatchValue). Masks (match_members cs) mask) (sym e) m.masks;
 }
 
-dropped_in : (x n : ℕ) (cs : List CoupleValue) → count x (couple_members (drop n cs)) ≤ count x (couple_members cs)
+dropped_in : (x n : ℕ) (cs : List MatchValue) → count x (match_members (drop n cs)) ≤ count x (match_members cs)
 dropped_in x n cs =
     omega (
       arith,
       members-append,
-      ap (λ (ks : List CoupleValue). count x (couple_members ks)) (take-append-drop n cs),
+      ap (λ (ks : List MatchValue). count x (match_members ks)) (take-append-drop n cs),
     )
 
--- the places of a search's couples have cells
+-- the places of a search's matches have cells
 pub have_cells : (t : TableValue) (h : ℕ → ℕ) (s : SearchValue) (n : ℕ) (mask : List ℕ) → IsSearch t h s → length mask ≡ t.places → (x : ℕ)
-    → 1 ≤ count x (couple_members (drop n s.rest)) → x < length mask
+    → 1 ≤ count x (match_members (drop n s.rest)) → x < length mask
 have_cells t h s n mask i size x here =
     let low = place_in t x (omega (arith, i.places x, here, dropped_in x n s.rest)) in
     omega (arith, low, size)
@@ -125,9 +125,9 @@ next_search t s r st now e k adv =
     let on = subst (λ (st : Step). CanStepAt t s st) e k in
     adv.search t (height_at s) on.search on.ready
 
--- the couples of before are those after it and the branch
+-- the matches of before are those after it and the branch
 hung_out : (t : TableValue) (h : ℕ → ℕ) (s r : SearchValue) → IsSearch t h s → IsSearch t h r → (hangs : HangsOn s r) → r.free ≡ s.free
-    → (x : ℕ) → count x (couple_members s.rest) ≡ count x (couple_members r.rest) + count x (branch_members hangs.branch)
+    → (x : ℕ) → count x (match_members s.rest) ≡ count x (match_members r.rest) + count x (branch_members hangs.branch)
 hung_out t h s r i j hangs free x =
     let b = hangs.branch in
     omega (
@@ -153,7 +153,7 @@ newest_is {X} {Y} f xs i x ys y is e at =
     mapped_at f xs i x is ∙ ap (λ (zs : List Y). get_or zs i (f x)) e
     ∙ subst (λ (n : ℕ). get_or (ys ++ y ∷ []) n (f x) ≡ y) (sym at) (last_here ys y (f x))
 
--- a couple that hangs in the tree was shown
+-- a match that hangs in the tree was shown
 pub hides_there : (t : TableValue) (s r : SearchValue) (st now : Step) (b : BranchValue) (mask : List ℕ) → st ≡ now → CanStepAt t s st
     → Advances s now r → (hangs : HangsOn s r) → b ≡ hangs.branch → SearchMasks t s mask → (x : ℕ) → 1 ≤ count x (branch_members b)
     → x < length mask
@@ -173,24 +173,24 @@ masks_hung t s r st now b old new e k adv hangs is m size puts =
     let out = hung_out t (height_at s) s r k.search (next_search t s r st now e k adv) hangs adv.free in
     record {
       size = size ∙ m.size;
-      masks = masks_less (couple_members s.rest) (branch_members hangs.branch) (couple_members r.rest) old new out
+      masks = masks_less (match_members s.rest) (branch_members hangs.branch) (match_members r.rest) old new out
           (λ x. omega (arith, k.search.places x, is_one t x)) size m.masks
           (subst (λ (c : BranchValue). Puts FAR (branch_members c) old new) is puts);
     }
 
--- couples more are shown
+-- matches more are shown
 pub masks_apart : (t : TableValue) (h : ℕ → ℕ) (s r : SearchValue) (at n : ℕ) (old new : List ℕ) → IsSearch t h r
     → (apart : ComesApart at s r) → n ≡ length s.rest → SearchMasks t s old → length new ≡ length old
-    → Puts 0 (couple_members (drop n r.rest)) old new → SearchMasks t r new
+    → Puts 0 (match_members (drop n r.rest)) old new → SearchMasks t r new
 masks_apart t h s r at n old new j apart e m size puts =
-    let more : drop n r.rest ≡ apart.more = ap (λ (cs : List CoupleValue). drop n cs) apart.rest
+    let more : drop n r.rest ≡ apart.more = ap (λ (cs : List MatchValue). drop n cs) apart.rest
     ∙ subst (λ (i : ℕ). drop i (s.rest ++ apart.more) ≡ apart.more) (sym e) (drop-append_seam s.rest apart.more) in
     record {
       size = size ∙ m.size;
-      masks = masks_more (couple_members s.rest) (couple_members apart.more) (couple_members r.rest) old new
-          (λ x. omega (arith, members-append, ap (λ (cs : List CoupleValue). count x (couple_members cs)) apart.rest))
+      masks = masks_more (match_members s.rest) (match_members apart.more) (match_members r.rest) old new
+          (λ x. omega (arith, members-append, ap (λ (cs : List MatchValue). count x (match_members cs)) apart.rest))
           (have_cells t h r 0 new j (size ∙ m.size)) size m.masks
-          (subst (λ (cs : List CoupleValue). Puts 0 (couple_members cs) old new) more puts);
+          (subst (λ (cs : List MatchValue). Puts 0 (match_members cs) old new) more puts);
     }
 
 shown_case : (hs reach mask : List ℕ) (i old new : ℕ) → new ≡ min (shown hs reach mask i) old → i < length reach

@@ -1,11 +1,11 @@
--- Rings told the other way round, and the parity of their parts.
+-- Blossoms told the other way round, and the parity of their parts.
 use Rattle.std.proofs.Common.{◌≡◌, ℕ, ◌+◌, ◌%◌, ◌≤◌, ◌<◌, inl, inr, List, [], ◌∷◌, ◌++◌, length, take, drop, arith, refl, sym, ap, subst, ◌∙◌, append_assoc, length-append}
 use Rattle.std.proofs.lemmas.List.{length-take, take-append-drop}
 use Rattle.std.specs.List.{flat_map}
 use Rattle.blossom_match.specs.TableValue.{TableValue}
 use Rattle.blossom_match.specs.Lists.{Each, sum_over}
 use Rattle.blossom_match.specs.Bands.{Adds, Band, NestValue, bands, count}
-use Rattle.blossom_match.specs.Rings.{back_of, members_in, bands_in, part_sets, AllKept, FirstHolds, HoldsAt, IsLinkedRing, IsRing, IsTurned, Linked}
+use Rattle.blossom_match.specs.Blossoms.{back_of, members_in, bands_in, part_sets, AllKept, FirstHolds, HoldsAt, IsLinkedBlossom, IsBlossom, IsTurned, Linked}
 use Rattle.blossom_match.specs.Sound.{IsFirmPart, IsSymmetric, IsTight}
 use Rattle.blossom_match.specs.Lays.{EvenlyHolds, GoesEvenly, last_link, mirror_of, told_back}
 use Rattle.blossom_match.specs.declared.nest.Link.{Link}
@@ -13,8 +13,8 @@ use Rattle.blossom_match.specs.Shrinks.{part_of as with_link}
 use Rattle.blossom_match.specs.Values.{PartValue}
 use Rattle.blossom_match.proofs.ListLemmas.{each-turned}
 use Rattle.blossom_match.proofs.SumLemmas.{bands_each, members_each}
-use Rattle.blossom_match.proofs.RingLemmas.{members_turned}
-use Rattle.blossom_match.proofs.OpenLemmas.{bands_turned, turned_is_ring}
+use Rattle.blossom_match.proofs.BlossomLemmas.{members_turned}
+use Rattle.blossom_match.proofs.OpenLemmas.{bands_turned, turned_is_blossom}
 use Rattle.blossom_match.proofs.ChainLemmas.{tight_back}
 
 -- the last part of a chain that begins with p
@@ -81,7 +81,7 @@ closes_at : (p : PartValue) (x : ℕ) (zs : List PartValue) → count p.next.fro
 closes_at p x [] from to l = absurd l
 closes_at p x (z ∷ zs) from to l = ((from, subst (λ (y : ℕ). count y z.nest.members ≡ 1) (sym to) l.1), l.0)
 
-mirror_linked : (p q : PartValue) (qs : List PartValue) → IsLinkedRing (p ∷ q ∷ qs) → IsLinkedRing (mirror_of (p ∷ q ∷ qs))
+mirror_linked : (p q : PartValue) (qs : List PartValue) → IsLinkedBlossom (p ∷ q ∷ qs) → IsLinkedBlossom (mirror_of (p ∷ q ∷ qs))
 mirror_linked p q qs l =
     let end = last_joins p (q ∷ qs) p l in
     let top = part_of p (back_of (last_link p.next (q ∷ qs))) in
@@ -93,10 +93,10 @@ mirror_size : (ps : List PartValue) → length (mirror_of ps) ≡ length ps
 mirror_size [] = refl
 mirror_size (p ∷ ps) = omega (arith, told_size p.next ps [])
 
-mirror_is_ring : (ps : List PartValue) → IsRing ps → IsRing (mirror_of ps)
-mirror_is_ring [] r = r
-mirror_is_ring (p ∷ []) r = absurd (omega (arith, r.three))
-mirror_is_ring (p ∷ q ∷ qs) r = record {
+mirror_is_blossom : (ps : List PartValue) → IsBlossom ps → IsBlossom (mirror_of ps)
+mirror_is_blossom [] r = r
+mirror_is_blossom (p ∷ []) r = absurd (omega (arith, r.three))
+mirror_is_blossom (p ∷ q ∷ qs) r = record {
   odd = omega (arith, mirror_size (p ∷ q ∷ qs), r.odd);
   three = omega (arith, mirror_size (p ∷ q ∷ qs), r.three);
   linked = mirror_linked p q qs r.linked;
@@ -185,21 +185,22 @@ mirror_held x (a ∷ before) p after odd all here =
     subst (λ (qs : List PartValue). EvenlyHolds x (top ∷ qs)) (sym t.is)
     (evenly x (top ∷ told_back p.next after []) (part_of p t.link) t.rest (omega (arith, told_size p.next after [])) here)
 
--- a ring with an odd way to the part is told so that the way is even
+-- a blossom with an odd way to the part is told so that the way is even
 mirror_evenly : (x : ℕ) (ps : List PartValue) (i : ℕ) → length ps % 2 ≡ 1 → i % 2 ≡ 1 → HeldAt x ps i → EvenlyHolds x (mirror_of ps)
 mirror_evenly x ps i odd way h = subst (λ (qs : List PartValue). EvenlyHolds x (mirror_of qs)) (sym h.is)
     (mirror_held x h.before h.part h.after (omega (arith, h.size))
     (omega (arith, odd, ap (λ (qs : List PartValue). length qs) h.is, length-append h.before (h.part ∷ h.after))) h.here)
 
--- a ring told from the part that is entered, an even way from that which is left
-pub goes_on : (entry exit : ℕ) (old ring : List PartValue) (i : ℕ) → IsRing old → IsTurned old ring → FirstHolds entry ring → i < length
-    ring
-    → HoldsAt exit ring i → i % 2 ≡ 0 →
-    GoesEvenly entry exit old ring
-goes_on entry exit old ring i is turned first low holds even =
-    let h = held_at exit ring i low holds in
+-- a blossom told from the part that is entered, an even way from that which is left
+pub goes_on : (entry exit : ℕ) (old blossom : List PartValue) (i : ℕ) → IsBlossom old → IsTurned old blossom → FirstHolds entry blossom
+    → i < length
+    blossom
+    → HoldsAt exit blossom i → i % 2 ≡ 0 →
+    GoesEvenly entry exit old blossom
+goes_on entry exit old blossom i is turned first low holds even =
+    let h = held_at exit blossom i low holds in
     record {
-      ring = subst IsRing (sym turned.is) (turned_is_ring old turned.at is);
+      blossom = subst IsBlossom (sym turned.is) (turned_is_blossom old turned.at is);
       first = first;
       last = subst (λ (qs : List PartValue). EvenlyHolds exit qs) (sym h.is)
           (evenly exit h.before h.part h.after (omega (arith, h.size, even)) h.here);
@@ -214,23 +215,26 @@ first_mirrored x [] h = h
 first_mirrored x (p ∷ ps) h = h
 
 -- and the other way round where that way is odd
-pub goes_back : (entry exit : ℕ) (old ring back : List PartValue) (i : ℕ) → IsRing old → IsTurned old ring → FirstHolds entry ring
-    → i < length ring → HoldsAt exit ring i → i % 2 ≡ 1 →
-    back ≡ mirror_of ring → GoesEvenly entry exit old back
-goes_back entry exit old ring back i is turned first low holds odd e =
-    let r : IsRing ring = subst IsRing (sym turned.is) (turned_is_ring old turned.at is) in
+pub goes_back : (entry exit : ℕ) (old blossom back : List PartValue) (i : ℕ) → IsBlossom old → IsTurned old blossom
+    → FirstHolds entry blossom
+    → i < length blossom → HoldsAt exit blossom i → i % 2 ≡ 1 →
+    back ≡ mirror_of blossom → GoesEvenly entry exit old back
+goes_back entry exit old blossom back i is turned first low holds odd e =
+    let r : IsBlossom blossom = subst IsBlossom (sym turned.is) (turned_is_blossom old turned.at is) in
     subst (λ (qs : List PartValue). GoesEvenly entry exit old qs) (sym e) (record {
-      ring = mirror_is_ring ring r;
-      first = first_mirrored entry ring first;
-      last = mirror_evenly exit ring i r.odd odd (held_at exit ring i low holds);
-      places = λ x. mirror_places x ring ∙ ap (λ (qs : List PartValue). count x (members_in qs)) turned.is ∙ members_turned x turned.at old;
-      sums = λ F add. mirror_bands F add ring ∙ ap (λ (qs : List PartValue). F (bands_in qs)) turned.is ∙ bands_turned F add turned.at old;
-      firm = λ d h sy f. mirror_firm d h sy ring (subst (λ (qs : List PartValue). Each (IsFirmPart d h) qs) (sym turned.is)
+      blossom = mirror_is_blossom blossom r;
+      first = first_mirrored entry blossom first;
+      last = mirror_evenly exit blossom i r.odd odd (held_at exit blossom i low holds);
+      places = λ x. mirror_places x blossom ∙ ap (λ (qs : List PartValue). count x (members_in qs)) turned.is
+          ∙ members_turned x turned.at old;
+      sums = λ F add. mirror_bands F add blossom ∙ ap (λ (qs : List PartValue). F (bands_in qs)) turned.is
+          ∙ bands_turned F add turned.at old;
+      firm = λ d h sy f. mirror_firm d h sy blossom (subst (λ (qs : List PartValue). Each (IsFirmPart d h) qs) (sym turned.is)
           (each-turned (IsFirmPart d h) turned.at old f));
     })
 
-pub turned_places : (x : ℕ) (old ring : List PartValue) → IsTurned old ring → count x (members_in ring) ≡ count x (members_in old)
-turned_places x old ring turned = ap (λ (qs : List PartValue). count x (members_in qs)) turned.is ∙ members_turned x turned.at old
+pub turned_places : (x : ℕ) (old blossom : List PartValue) → IsTurned old blossom → count x (members_in blossom) ≡ count x (members_in old)
+turned_places x old blossom turned = ap (λ (qs : List PartValue). count x (members_in qs)) turned.is ∙ members_turned x turned.at old
 
 -- nothing is left, and the first part goes before what is told
 pub told_whole : (link : Link) (v : NestValue) (left told all : List PartValue) → length left ≡ 0

@@ -6,39 +6,39 @@ use Rattle.std.specs.List.{flat_map}
 use Rattle.blossom_match.specs.TableValue.{TableValue}
 use Rattle.blossom_match.specs.Lists.{Each}
 use Rattle.blossom_match.specs.Bands.{Adds, Band, NestValue, bands, bands_of, count, height, hit, members_onto, IsPaid, Kept, TollIsPaid}
-use Rattle.blossom_match.specs.Rings.{members_in, bands_in, part_sets, tolls_in, tolls_along, Linked, ring_tolls, IsLinkedRing, AllKept, IsRing, IsTurned, FirstHolds, IsMade, nest_of}
-use Rattle.blossom_match.specs.Couples.{couples_along, couple_members, couple_bands, couple_sets, IsJoined, IsSettled}
+use Rattle.blossom_match.specs.Blossoms.{members_in, bands_in, part_sets, tolls_in, tolls_along, Linked, blossom_tolls, IsLinkedBlossom, AllKept, IsBlossom, IsTurned, FirstHolds, IsMade, nest_of}
+use Rattle.blossom_match.specs.Matches.{matches_along, match_members, match_bands, match_sets, IsJoined, IsSettled}
 use Rattle.blossom_match.specs.Opens.{OpensAt}
-use Rattle.blossom_match.specs.Values.{CoupleValue, PartValue}
+use Rattle.blossom_match.specs.Values.{MatchValue, PartValue}
 use Rattle.blossom_match.proofs.ListLemmas.{each-apart, each-flat_map, each-left, each-right, each-turned}
 use Rattle.blossom_match.proofs.SumLemmas.{adds_none, bands-append, count-append, height-append, some_member, none_tall}
-use Rattle.blossom_match.proofs.RingLemmas.{members_turned, none_in, ring_turned, sum_turned, paid_turned, made_kept}
+use Rattle.blossom_match.proofs.BlossomLemmas.{members_turned, none_in, blossom_turned, sum_turned, paid_turned, made_kept}
 
 pub bands_turned : (F : List Band → ℕ) → Adds F → (i : ℕ) (ps : List PartValue) → F (bands_in (drop i ps ++ take i ps)) ≡ F (bands_in ps)
 bands_turned F add i ps = sum_turned (λ (qs : List PartValue). F (bands_in qs)) (bands-append F add PartValue part_sets) i ps
 
--- an even number of parts and their couples have the same sets
-sets_coupled : (ps : List PartValue) → length ps % 2 ≡ 0 → flat_map part_sets ps ≡ flat_map couple_sets (couples_along ps)
-sets_coupled [] even = refl
-sets_coupled (p ∷ []) even = absurd (omega arith)
-sets_coupled (p ∷ q ∷ ps) even = ap (λ (ss : List NestValue). p.nest ∷ q.nest ∷ ss) (sets_coupled ps (omega arith))
+-- an even number of parts and their matches have the same sets
+sets_matched : (ps : List PartValue) → length ps % 2 ≡ 0 → flat_map part_sets ps ≡ flat_map match_sets (matches_along ps)
+sets_matched [] even = refl
+sets_matched (p ∷ []) even = absurd (omega arith)
+sets_matched (p ∷ q ∷ ps) even = ap (λ (ss : List NestValue). p.nest ∷ q.nest ∷ ss) (sets_matched ps (omega arith))
 
-pub bands_coupled : (F : List Band → ℕ) → Adds F → (ps : List PartValue) → length ps % 2 ≡ 0 → F (bands_in ps)
-    ≡ F (couple_bands (couples_along ps))
-bands_coupled F add ps even = ap (λ (ss : List NestValue). F (bands_of ss)) (sets_coupled ps even)
+pub bands_matched : (F : List Band → ℕ) → Adds F → (ps : List PartValue) → length ps % 2 ≡ 0 → F (bands_in ps)
+    ≡ F (match_bands (matches_along ps))
+bands_matched F add ps even = ap (λ (ss : List NestValue). F (bands_of ss)) (sets_matched ps even)
 
-pub members_coupled : (x : ℕ) (ps : List PartValue) → length ps % 2 ≡ 0 → count x (members_in ps) ≡ count x
-    (couple_members (couples_along ps))
-members_coupled x ps even = ap (λ (ss : List NestValue). count x (members_onto [] ss)) (sets_coupled ps even)
+pub members_matched : (x : ℕ) (ps : List PartValue) → length ps % 2 ≡ 0 → count x (members_in ps) ≡ count x
+    (match_members (matches_along ps))
+members_matched x ps even = ap (λ (ss : List NestValue). count x (members_onto [] ss)) (sets_matched ps even)
 
--- the links inside the parts are paid from whichever part the ring is told
+-- the links inside the parts are paid from whichever part the blossom is told
 tolls_turned : (d : TableValue) (i : ℕ) (ps : List PartValue) → IsPaid d (tolls_in ps) → IsPaid d (tolls_in (drop i ps ++ take i ps))
 tolls_turned d i ps paid =
     let tolls = λ (p : PartValue). p.nest.tolls in
     each-flat_map (TollIsPaid d) tolls (drop i ps ++ take i ps)
     (each-turned (λ (p : PartValue). IsPaid d p.nest.tolls) i ps (each-apart (TollIsPaid d) tolls ps paid))
 
-pub joined_along : (p e : PartValue) (ps : List PartValue) → length ps % 2 ≡ 0 → Linked p (ps ++ e ∷ []) → Each IsJoined (couples_along ps)
+pub joined_along : (p e : PartValue) (ps : List PartValue) → length ps % 2 ≡ 0 → Linked p (ps ++ e ∷ []) → Each IsJoined (matches_along ps)
 joined_along p e [] even l = tt
 joined_along p e (q ∷ []) even l = absurd (omega arith)
 joined_along p e (q ∷ r ∷ ps) even l =
@@ -47,7 +47,7 @@ joined_along p e (q ∷ r ∷ ps) even l =
 
 paid_along : (d : TableValue) (p e : PartValue) (ps : List PartValue) → length ps % 2 ≡ 0 → IsPaid d (tolls_along p (ps ++ e ∷ []))
     → IsPaid d (tolls_in ps) →
-    Each (IsSettled d) (couples_along ps)
+    Each (IsSettled d) (matches_along ps)
 paid_along d p e [] even l all = tt
 paid_along d p e (q ∷ []) even l all = absurd (omega arith)
 paid_along d p e (q ∷ r ∷ ps) even l all =
@@ -87,62 +87,62 @@ opens_single left key w ms near one there = record {
 pub length_turned : (i : ℕ) (old : List PartValue) → length (drop i old ++ take i old) ≡ length old
 length_turned i old = sum_turned (λ (qs : List PartValue). length qs) length-append i old
 
--- what adds up over the sets of a ring adds up over its first part and the couples behind it
+-- what adds up over the sets of a blossom adds up over its first part and the matches behind it
 sums_turned : (F : List Band → ℕ) → Adds F → (old : List PartValue) (p : PartValue) (ps : List PartValue) (i : ℕ) → p ∷ ps ≡ drop i old ++
     take i old →
-    length ps % 2 ≡ 0 → F (bands_in old) ≡ F (bands p.nest) + F (couple_bands (couples_along ps))
+    length ps % 2 ≡ 0 → F (bands_in old) ≡ F (bands p.nest) + F (match_bands (matches_along ps))
 sums_turned F add old p ps i e even =
-    omega (arith, bands_turned F add i old, ap (λ (qs : List PartValue). F (bands_in qs)) e, add, bands_coupled F add ps even)
+    omega (arith, bands_turned F add i old, ap (λ (qs : List PartValue). F (bands_in qs)) e, add, bands_matched F add ps even)
 
 places_turned : (x : ℕ) (old : List PartValue) (p : PartValue) (ps : List PartValue) (i : ℕ) → p ∷ ps ≡ drop i old ++ take i old →
-    length ps % 2 ≡ 0 → count x (members_in old) ≡ count x p.nest.members + count x (couple_members (couples_along ps))
+    length ps % 2 ≡ 0 → count x (members_in old) ≡ count x p.nest.members + count x (match_members (matches_along ps))
 places_turned x old p ps i e even =
-    omega (arith, members_turned x i old, ap (λ (qs : List PartValue). count x (members_in qs)) e, count-append, members_coupled x ps even)
+    omega (arith, members_turned x i old, ap (λ (qs : List PartValue). count x (members_in qs)) e, count-append, members_matched x ps even)
 
 paid_turned_all : (d : TableValue) (old : List PartValue) (p : PartValue) (ps : List PartValue) (i : ℕ) → p ∷ ps ≡ drop i old ++ take i
     old →
-    length ps % 2 ≡ 0 → IsPaid d (ring_tolls old ++ tolls_in old) → IsPaid d p.nest.tolls × Each (IsSettled d) (couples_along ps)
+    length ps % 2 ≡ 0 → IsPaid d (blossom_tolls old ++ tolls_in old) → IsPaid d p.nest.tolls × Each (IsSettled d) (matches_along ps)
 paid_turned_all d old p ps i e even all =
-    let around : IsPaid d (ring_tolls (take i old ++ drop i old)) =
-    subst (λ (qs : List PartValue). IsPaid d (ring_tolls qs)) (sym (take-append-drop i old))
-    (each-left (TollIsPaid d) (ring_tolls old) (tolls_in old) all)
+    let around : IsPaid d (blossom_tolls (take i old ++ drop i old)) =
+    subst (λ (qs : List PartValue). IsPaid d (blossom_tolls qs)) (sym (take-append-drop i old))
+    (each-left (TollIsPaid d) (blossom_tolls old) (tolls_in old) all)
     in
-    let ring : IsPaid d (ring_tolls (p ∷ ps)) = subst (λ (qs : List PartValue). IsPaid d (ring_tolls qs)) (sym e)
+    let blossom : IsPaid d (blossom_tolls (p ∷ ps)) = subst (λ (qs : List PartValue). IsPaid d (blossom_tolls qs)) (sym e)
     (paid_turned d (take i old) (drop i old) around) in
-    let inside : IsPaid d (tolls_in old) = each-right (TollIsPaid d) (ring_tolls old) (tolls_in old) all in
+    let inside : IsPaid d (tolls_in old) = each-right (TollIsPaid d) (blossom_tolls old) (tolls_in old) all in
     let parts : IsPaid d (tolls_in (p ∷ ps)) = subst (λ (qs : List PartValue). IsPaid d (tolls_in qs)) (sym e)
     (tolls_turned d i old inside) in (
       each-left (TollIsPaid d) p.nest.tolls (tolls_in ps) parts,
-      paid_along d p p ps even ring (each-right (TollIsPaid d) p.nest.tolls (tolls_in ps) parts),
+      paid_along d p p ps even blossom (each-right (TollIsPaid d) p.nest.tolls (tolls_in ps) parts),
     )
 
--- the ring told from another part is a ring
-pub turned_is_ring : (old : List PartValue) (i : ℕ) → IsRing old → IsRing (drop i old ++ take i old)
-turned_is_ring old i r = record {
+-- the blossom told from another part is a blossom
+pub turned_is_blossom : (old : List PartValue) (i : ℕ) → IsBlossom old → IsBlossom (drop i old ++ take i old)
+turned_is_blossom old i r = record {
   odd = omega (arith, length_turned i old, r.odd);
   three = omega (arith, length_turned i old, r.three);
-  linked = ring_turned (take i old) (drop i old) (subst IsLinkedRing (sym (take-append-drop i old)) r.linked);
+  linked = blossom_turned (take i old) (drop i old) (subst IsLinkedBlossom (sym (take-append-drop i old)) r.linked);
   kept = each-turned (λ (p : PartValue). Kept p.nest) i old r.kept;
 }
 
--- the couples behind the first part hold some place
-coupled_some : (ps : List PartValue) → 2 ≤ length ps → AllKept ps → (x : ℕ) × (1 ≤ count x (couple_members (couples_along ps)))
-coupled_some [] two kept = absurd (omega arith)
-coupled_some (p ∷ []) two kept = absurd (omega arith)
-coupled_some (p ∷ q ∷ ps) two kept =
+-- the matches behind the first part hold some place
+matched_some : (ps : List PartValue) → 2 ≤ length ps → AllKept ps → (x : ℕ) × (1 ≤ count x (match_members (matches_along ps)))
+matched_some [] two kept = absurd (omega arith)
+matched_some (p ∷ []) two kept = absurd (omega arith)
+matched_some (p ∷ q ∷ ps) two kept =
     let some = some_member p.nest.members (omega (arith, kept.0.odd)) in
     (some.0, omega (arith, some.1, count-append))
 
 opens_turned : (left key w : ℕ) (ms near : List ℕ) (old : List PartValue) (p : PartValue) (ps : List PartValue) (i : ℕ) → p ∷ ps ≡ drop i
     old ++ take i old →
-    ms ≡ members_in old → IsRing old → Kept (nest_of key ms w near old) → count left ms ≡ 1 → 1 ≤ count left p.nest.members →
-    OpensAt left (nest_of key ms w near old) (Some p.nest) (couples_along ps)
-opens_turned left key w ms near old p ps i e same ring kept there first =
-    let turned : IsRing (p ∷ ps) = subst IsRing (sym e) (turned_is_ring old i ring) in
+    ms ≡ members_in old → IsBlossom old → Kept (nest_of key ms w near old) → count left ms ≡ 1 → 1 ≤ count left p.nest.members →
+    OpensAt left (nest_of key ms w near old) (Some p.nest) (matches_along ps)
+opens_turned left key w ms near old p ps i e same blossom kept there first =
+    let turned : IsBlossom (p ∷ ps) = subst IsBlossom (sym e) (turned_is_blossom old i blossom) in
     let even : length ps % 2 ≡ 0 = omega (arith, turned.odd) in
     let at = λ (x : ℕ). ap (λ (xs : List ℕ). count x xs) same in
     let here : count left (members_in ps) ≡ 0 =
-    omega (arith, at left, places_turned left old p ps i e even, members_coupled left ps even) in
+    omega (arith, at left, places_turned left old p ps i e even, members_matched left ps even) in
     let none : height left (bands_in ps) ≡ 0 = none_tall left (bands_in ps) (none_in left ps turned.kept.1 here) in
     record {
       odd = kept.odd;
@@ -156,37 +156,37 @@ opens_turned left key w ms near old p ps i e same ring kept there first =
         none,
       );
       places = λ x. at x ∙ places_turned x old p ps i e even;
-      holds = (omega (arith, at left, places_turned left old p ps i e even), coupled_some ps (omega (arith, turned.three)) turned.kept.1);
+      holds = (omega (arith, at left, places_turned left old p ps i e even), matched_some ps (omega (arith, turned.three)) turned.kept.1);
       joined = joined_along p p ps even turned.linked;
       paid = λ d all. paid_turned_all d old p ps i e even all;
     }
 
-pub made_ring : (ms : List ℕ) (ps : List PartValue) → 0 < length ps → IsMade ms ps → (ms ≡ members_in ps) × IsRing ps
-made_ring ms [] some made = absurd (omega arith)
-made_ring ms (p ∷ ps) some made = made
+pub made_blossom : (ms : List ℕ) (ps : List PartValue) → 0 < length ps → IsMade ms ps → (ms ≡ members_in ps) × IsBlossom ps
+made_blossom ms [] some made = absurd (omega arith)
+made_blossom ms (p ∷ ps) some made = made
 
-pub opens_ring : (left key w : ℕ) (s : NestValue) (ms near : List ℕ) (old ring : List PartValue) (p : PartValue) (ps : List PartValue)
-    (cs : List CoupleValue) →
-    s ≡ nest_of key ms w near old → IsMade ms old → count left s.members ≡ 1 → IsTurned old ring → FirstHolds left ring →
-    ring ≡ p ∷ ps → cs ≡ couples_along ps → OpensAt left s (Some p.nest) cs
-opens_ring left key w s ms near old ring p ps cs is made there turned first e f =
-    let all = made_ring ms old (omega (arith, turned.within)) made in
+pub opens_blossom : (left key w : ℕ) (s : NestValue) (ms near : List ℕ) (old blossom : List PartValue) (p : PartValue) (ps : List PartValue)
+    (cs : List MatchValue) →
+    s ≡ nest_of key ms w near old → IsMade ms old → count left s.members ≡ 1 → IsTurned old blossom → FirstHolds left blossom →
+    blossom ≡ p ∷ ps → cs ≡ matches_along ps → OpensAt left s (Some p.nest) cs
+opens_blossom left key w s ms near old blossom p ps cs is made there turned first e f =
+    let all = made_blossom ms old (omega (arith, turned.within)) made in
     let here : count left ms ≡ 1 = subst (λ (u : NestValue). count left u.members ≡ 1) is there in
     let done = opens_turned left key w ms near old p ps turned.at (sym e ∙ turned.is) all.0 all.1 (made_kept key ms w near old made) here
     (subst (FirstHolds left) e first) in
-    let moved = subst (λ (u : NestValue). OpensAt left u (Some p.nest) (couples_along ps)) (sym is) done in
-    subst (λ (ks : List CoupleValue). OpensAt left s (Some p.nest) ks) (sym f) moved
+    let moved = subst (λ (u : NestValue). OpensAt left u (Some p.nest) (matches_along ps)) (sym is) done in
+    subst (λ (ks : List MatchValue). OpensAt left s (Some p.nest) ks) (sym f) moved
 
 none_of : (left key w : ℕ) (ms near : List ℕ) (ps : List PartValue) → length ps ≡ 0 → IsMade ms ps → count left ms ≡ 1
     → OpensAt left (nest_of key ms w near ps) None []
 none_of left key w ms near [] none made there = opens_single left key w ms near made there
 none_of left key w ms near (p ∷ ps) none made there = absurd (omega arith)
 
-pub opens_place : (left key w : ℕ) (s : NestValue) (ms near : List ℕ) (ps : List PartValue) (cs : List CoupleValue)
+pub opens_place : (left key w : ℕ) (s : NestValue) (ms near : List ℕ) (ps : List PartValue) (cs : List MatchValue)
     → s ≡ nest_of key ms w near ps → IsMade ms ps
     → count left s.members ≡ 1 →
     length ps ≡ 0 → cs ≡ [] → OpensAt left s None cs
 opens_place left key w s ms near ps cs is made there none f =
     let here : count left ms ≡ 1 = subst (λ (u : NestValue). count left u.members ≡ 1) is there in
     let moved = subst (λ (u : NestValue). OpensAt left u None []) (sym is) (none_of left key w ms near ps none made here) in
-    subst (λ (ks : List CoupleValue). OpensAt left s None ks) (sym f) moved
+    subst (λ (ks : List MatchValue). OpensAt left s None ks) (sym f) moved

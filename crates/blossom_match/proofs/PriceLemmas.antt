@@ -7,15 +7,15 @@ use Rattle.blossom_match.specs.Bands.{count, hit}
 use Rattle.blossom_match.specs.Trees.{outer_members}
 use Rattle.blossom_match.specs.Searches.{height_at, is_place, Ends, IsReady, IsSearch, IsStanding, CanStepAt}
 use Rattle.blossom_match.specs.Phases.{Begins, Stands}
-use Rattle.blossom_match.specs.Prices.{AreHalves, CanPair, FindsTight, LeavesRoom, Lies, Pairs}
+use Rattle.blossom_match.specs.Prices.{AreHalves, CanPair, FindsTight, LeavesSlack, Lies, Pairs}
 use Rattle.blossom_match.specs.TableValue.{TableValue}
 use Rattle.blossom_match.specs.Tables.{entry}
-use Rattle.blossom_match.specs.Values.{BranchValue, CoupleValue, SearchValue, StandingValue}
+use Rattle.blossom_match.specs.Values.{BranchValue, MatchValue, SearchValue, StandingValue}
 use Rattle.blossom_match.specs.Bands.{NestValue}
 use Rattle.blossom_match.specs.declared.search.Step.TheVariants.{Meet}
 use Rattle.blossom_match.proofs.SumLemmas.{count-append, hit_same}
 use Rattle.blossom_match.proofs.SearchLemmas.{is_one, place_in}
-use Rattle.blossom_match.proofs.WidthLemmas.{couples_same}
+use Rattle.blossom_match.proofs.DualLemmas.{matches_same}
 use Rattle.blossom_match.proofs.EndLemmas.{begins}
 use Rattle.blossom_match.proofs.TableLemmas.{entry-comm}
 
@@ -27,14 +27,14 @@ no_place : (t : TableValue) (x : ℕ) → is_place t x ≡ 0 → t.places ≤ x
 no_place t x none = place_case (ltb x t.places) x t.places refl (omega (arith, none))
 
 -- all places free at half of their least distances
-pub half_free : (t : TableValue) (couples : List CoupleValue) (free heights : List ℕ) → couples ≡ [] →
+pub half_free : (t : TableValue) (matches : List MatchValue) (free heights : List ℕ) → matches ≡ [] →
     ((x : ℕ) → count x free ≡ is_place t x)
     → AreHalves t heights → length heights ≡ t.places →
-    Stands t couples free heights
-half_free t couples free heights e places half size = record {
-  standing = subst (λ (cs : List CoupleValue). IsStanding t (λ (x : ℕ). get_or heights x 0) cs free) (sym e) (record {
+    Stands t matches free heights
+half_free t matches free heights e places half size = record {
+  standing = subst (λ (cs : List MatchValue). IsStanding t (λ (x : ℕ). get_or heights x 0) cs free) (sym e) (record {
     tall = λ x none. get_or-eq_default heights 0 (omega (arith, size, no_place t x (omega (arith, places x, none))));
-    room = λ a f la hf ne.
+    slack = λ a f la hf ne.
         let lf = place_in t f (omega (arith, hf, places f)) in
         omega (arith, half a f la lf ne, half f a lf la (λ g. ne (sym g)), entry-comm t a f);
     places = λ x. omega (arith, places x);
@@ -45,47 +45,47 @@ half_free t couples free heights e places half size = record {
   size = size;
 }
 
--- a free place has room for its price, and lower heights
-pub free_lies : (t : TableValue) (couples : List CoupleValue) (free heights : List ℕ) (place : ℕ) → Stands t couples free heights
+-- at its price a free place has no negative slack to others
+pub free_lies : (t : TableValue) (matches : List MatchValue) (free heights : List ℕ) (place : ℕ) → Stands t matches free heights
     → 1 ≤ count place free → Lies t heights free place
-free_lies t couples free heights place st here =
+free_lies t matches free heights place st here =
     let i = st.standing in
     let low = place_in t place (omega (arith, here, i.places place)) in
     record {
       within = low;
       others = λ b hb. place_in t b (omega (arith, hb, i.places b));
-      room = λ b lb ne. omega (arith, i.room b place lb here (λ g. ne (sym g)), entry-comm t place b);
+      slack = λ b lb ne. omega (arith, i.slack b place lb here (λ g. ne (sym g)), entry-comm t place b);
     }
 
-pub low_enough : (t : TableValue) (heights : List ℕ) (place price : ℕ) → LeavesRoom t heights place price → LeavesRoom t heights place 0
-low_enough t heights place price room b lb ne = omega (arith, room b lb ne)
+pub low_enough : (t : TableValue) (heights : List ℕ) (place price : ℕ) → LeavesSlack t heights place price → LeavesSlack t heights place 0
+low_enough t heights place price slack b lb ne = omega (arith, slack b lb ne)
 
-room_case : (p q : Bool) (t : TableValue) (hs : List ℕ) (place price a f : ℕ) → eqb a place ≡ p → eqb f place ≡ q → place < length hs
-    → a < t.places → f < t.places → a ≢ f → LeavesRoom t hs place price →
+slack_case : (p q : Bool) (t : TableValue) (hs : List ℕ) (place price a f : ℕ) → eqb a place ≡ p → eqb f place ≡ q → place < length hs
+    → a < t.places → f < t.places → a ≢ f → LeavesSlack t hs place price →
     get_or hs a 0 + get_or hs f 0 ≤ 2 * entry t a f → get_or (set hs place price) a 0 + get_or (set hs place price) f 0 ≤ 2 * entry t a f
-room_case true true t hs place price a f e g low la lf ne room old = absurd (ne (eqb-true a place e ∙ sym (eqb-true f place g)))
-room_case true false t hs place price a f e g low la lf ne room old =
+slack_case true true t hs place price a f e g low la lf ne slack old = absurd (ne (eqb-true a place e ∙ sym (eqb-true f place g)))
+slack_case true false t hs place price a f e g low la lf ne slack old =
     let at = eqb-true a place e in
     let s : get_or (set hs place price) place 0 ≡ price = get_or-set_same hs place price 0 low in
     let o : get_or (set hs place price) f 0 ≡ get_or hs f 0 = get_or-set_other hs place f price 0 (eqb-false f place g) in
     subst (λ (x : ℕ). get_or (set hs place price) x 0 + get_or (set hs place price) f 0 ≤ 2 * entry t x f) (sym at)
-    (omega (arith, s, o, room f lf (λ k. eqb-false f place g (sym k))))
-room_case false true t hs place price a f e g low la lf ne room old =
+    (omega (arith, s, o, slack f lf (λ k. eqb-false f place g (sym k))))
+slack_case false true t hs place price a f e g low la lf ne slack old =
     let at = eqb-true f place g in
     let s : get_or (set hs place price) place 0 ≡ price = get_or-set_same hs place price 0 low in
     let o : get_or (set hs place price) a 0 ≡ get_or hs a 0 = get_or-set_other hs place a price 0 (eqb-false a place e) in
     subst (λ (x : ℕ). get_or (set hs place price) a 0 + get_or (set hs place price) x 0 ≤ 2 * entry t a x) (sym at)
-    (omega (arith, s, o, entry-comm t a place, room a la (λ k. eqb-false a place e (sym k))))
-room_case false false t hs place price a f e g low la lf ne room old =
+    (omega (arith, s, o, entry-comm t a place, slack a la (λ k. eqb-false a place e (sym k))))
+slack_case false false t hs place price a f e g low la lf ne slack old =
     let o : get_or (set hs place price) a 0 ≡ get_or hs a 0 = get_or-set_other hs place a price 0 (eqb-false a place e) in
     let u : get_or (set hs place price) f 0 ≡ get_or hs f 0 = get_or-set_other hs place f price 0 (eqb-false f place g) in
     omega (arith, o, u, old)
 
--- a free place may have any price that leaves room
-pub risen : (t : TableValue) (couples : List CoupleValue) (free heights new : List ℕ) (place price : ℕ) → Stands t couples free heights
-    → 1 ≤ count place free → LeavesRoom t heights place price → new ≡ set heights place price →
-    length new ≡ length heights → Stands t couples free new
-risen t couples free heights new place price st here room e size =
+-- a free place may have any price that leaves no slack negative
+pub risen : (t : TableValue) (matches : List MatchValue) (free heights new : List ℕ) (place price : ℕ) → Stands t matches free heights
+    → 1 ≤ count place free → LeavesSlack t heights place price → new ≡ set heights place price →
+    length new ≡ length heights → Stands t matches free new
+risen t matches free heights new place price st here slack e size =
     let i = st.standing in
     let h = λ (x : ℕ). get_or heights x 0 in
     let low : place < length heights = omega (arith, st.size, place_in t place (omega (arith, here, i.places place))) in
@@ -96,12 +96,12 @@ risen t couples free heights new place price st here room e size =
     record {
       standing = record {
         tall = λ x none. kept x none ∙ i.tall x none;
-        room = λ a f la hf ne. subst (λ (hs : List ℕ). get_or hs a 0 + get_or hs f 0 ≤ 2 * entry t a f) (sym e)
-            (room_case (eqb a place) (eqb f place) t heights place price a f refl refl low la
-            (place_in t f (omega (arith, hf, i.places f))) ne room (i.room a f la hf ne));
+        slack = λ a f la hf ne. subst (λ (hs : List ℕ). get_or hs a 0 + get_or hs f 0 ≤ 2 * entry t a f) (sym e)
+            (slack_case (eqb a place) (eqb f place) t heights place price a f refl refl low la
+            (place_in t f (omega (arith, hf, i.places f))) ne slack (i.slack a f la hf ne));
         places = i.places;
         joined = i.joined;
-        firm = couples_same t h (λ (x : ℕ). get_or new x 0) couples i.joined i.firm
+        firm = matches_same t h (λ (x : ℕ). get_or new x 0) matches i.joined i.firm
             (λ x some. kept x (omega (arith, i.places x, is_one t x, some)));
         loads = i.loads;
       };
@@ -109,14 +109,14 @@ risen t couples free heights new place price st here room e size =
     }
 
 -- the free places in another order
-reordered : (t : TableValue) (couples : List CoupleValue) (free other heights : List ℕ) → ((x : ℕ) → count x other ≡ count x free)
-    → Stands t couples free heights → Stands t couples other heights
-reordered t couples free other heights same st =
+reordered : (t : TableValue) (matches : List MatchValue) (free other heights : List ℕ) → ((x : ℕ) → count x other ≡ count x free)
+    → Stands t matches free heights → Stands t matches other heights
+reordered t matches free other heights same st =
     let i = st.standing in
     record {
       standing = record {
         tall = λ x none. i.tall x (omega (arith, none, same x));
-        room = λ a f la hf ne. i.room a f la (omega (arith, hf, same f)) ne;
+        slack = λ a f la hf ne. i.slack a f la (omega (arith, hf, same f)) ne;
         places = λ x. omega (arith, i.places x, same x);
         joined = i.joined;
         firm = i.firm;
@@ -142,13 +142,13 @@ record CanMeet (t : TableValue) (place other : ℕ) (s : SearchValue) : Type 0 w
   ready : IsReady t (height_at s) s (Meet (record { from = place; to = other }))
   size : length s.heights ≡ t.places
 
-can_meet : (t : TableValue) (place other : ℕ) (couples : List CoupleValue) (free left heights : List ℕ) (s : SearchValue)
+can_meet : (t : TableValue) (place other : ℕ) (matches : List MatchValue) (free left heights : List ℕ) (s : SearchValue)
     → ((x : ℕ) → count x left + hit x place ≡ count x free) →
-    Stands t couples free heights → FindsTight t heights free place other → Begins t place couples left heights s → CanMeet t place other s
-can_meet t place other couples free left heights s counts st f b =
+    Stands t matches free heights → FindsTight t heights free place other → Begins t place matches left heights s → CanMeet t place other s
+can_meet t place other matches free left heights s counts st f b =
     let here : 1 ≤ count other left = omega (arith, counts other, f.here, no_hit other place (λ g. f.pair.differ (sym g))) in
-    let at = reordered t couples free (left ++ place ∷ []) heights (λ x. omega (arith, counts x, count-append)) st in
-    let can = begins t place couples left heights s at (some_left other left here) b in
+    let at = reordered t matches free (left ++ place ∷ []) heights (λ x. omega (arith, counts x, count-append)) st in
+    let can = begins t place matches left heights s at (some_left other left here) b in
     record {
       search = can.search;
       ready = (
@@ -167,22 +167,22 @@ can_meet t place other couples free left heights s counts st f b =
 
 pub pair_step : (t : TableValue) (place other : ℕ) (from : StandingValue) (left : List ℕ) (s : SearchValue) → CanPair t place other from
     → ((x : ℕ) → count x left + hit x place ≡ count x from.free) →
-    Begins t place from.couples left from.heights s → CanStepAt t s (Meet (record { from = place; to = other }))
+    Begins t place from.matches left from.heights s → CanStepAt t s (Meet (record { from = place; to = other }))
 pair_step t place other from left s can counts b =
-    let m = can_meet t place other from.couples from.free left from.heights s counts can.stands can.found b in
+    let m = can_meet t place other from.matches from.free left from.heights s counts can.stands can.found b in
     record { search = m.search; ready = m.ready; size = m.size }
 
 pub paired : (t : TableValue) (place other : ℕ) (from : StandingValue) (left : List ℕ) (s : SearchValue) (r : StandingValue) → CanPair t
     place other from
     → ((x : ℕ) → count x left + hit x place ≡ count x from.free) → length left + 1 ≡ length from.free →
-    Begins t place from.couples left from.heights s → Ends t s (Meet (record { from = place; to = other })) r
+    Begins t place from.matches left from.heights s → Ends t s (Meet (record { from = place; to = other })) r
     → Pairs t from r
 paired t place other from left s r k counts fewer b e = record {
   stands =
-      let can = can_meet t place other from.couples from.free left from.heights s counts k.stands k.found b in
+      let can = can_meet t place other from.matches from.free left from.heights s counts k.stands k.found b in
       let same : r.heights ≡ s.heights = e.heights in
       record {
-        standing = subst (λ (hs : List ℕ). IsStanding t (λ (x : ℕ). get_or hs x 0) r.couples r.free) (sym same)
+        standing = subst (λ (hs : List ℕ). IsStanding t (λ (x : ℕ). get_or hs x 0) r.matches r.free) (sym same)
             e.standing;
         size = ap (λ (hs : List ℕ). length hs) same ∙ can.size;
       };

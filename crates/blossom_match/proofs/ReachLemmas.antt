@@ -22,9 +22,9 @@ use Rattle.blossom_match.proofs.ChainLemmas.{around_append}
 use Rattle.blossom_match.proofs.TreeLemmas.{base_in}
 
 -- the place that leaves so much is one of those after
-pub left_more : (t : TableValue) (hs xs : List ℕ) (i x room : ℕ) → i < length xs → left_by t hs (get_or xs i 0) x ≢ room
-    → IsLeft t hs (drop i xs) x room → IsLeft t hs (drop (i + 1) xs) x room
-left_more t hs xs i x room low differs l =
+pub left_more : (t : TableValue) (hs xs : List ℕ) (i x left : ℕ) → i < length xs → left_by t hs (get_or xs i 0) x ≢ left
+    → IsLeft t hs (drop i xs) x left → IsLeft t hs (drop (i + 1) xs) x left
+left_more t hs xs i x left low differs l =
     let none : hit l.a (get_or xs i 0) ≤ 0 = not_hit l.a (get_or xs i 0) (λ e. differs (sym (l.exact ∙ ap (λ (a : ℕ). left_by t hs a x)
     e))) in
     record { a = l.a; here = omega (arith, l.here, at_drop l.a i (get_or xs i 0) xs low refl, none); exact = l.exact }
@@ -139,7 +139,7 @@ pub reaches_next : (t : TableValue) (hs : List ℕ) (root : NestValue) (before t
     (reach new : List ℕ)
     → ((x : ℕ) → count x (outer_members root.members (before ++ tree)) ≤ 1) → Each (IsFirm t (λ (a : ℕ). get_or hs a 0)) tree
     → i < length tree → b ≡ get_or tree i b → Reaches t hs root (before ++ take i tree) reach → length new ≡ length reach
-    → Merges b.outer.near b.outer.width reach new → Reaches t hs root (before ++ take (i + 1) tree) new
+    → Merges b.outer.near b.outer.dual reach new → Reaches t hs root (before ++ take (i + 1) tree) new
 reaches_next t hs root before tree i b reach new once firm low is r size merged =
     let base = root.members in
     let few : (y : ℕ) → count y (outer_members base (before ++ take i tree)) + count y b.outer.members ≤ 1 = λ y. omega (
@@ -156,12 +156,12 @@ reaches_next t hs root before tree i b reach new once firm low is r size merged 
     (takes_near t hs b.outer reach new (each_here (IsFirm t (λ (a : ℕ). get_or hs a 0)) tree i b firm low is).outer
     (λ y. omega (arith, few y)) size r.short merged))
 
-same_case : (t : TableValue) (hs : List ℕ) (root : NestValue) (xs ys : List BranchValue) (x room : ℕ)
+same_case : (t : TableValue) (hs : List ℕ) (root : NestValue) (xs ys : List BranchValue) (x left : ℕ)
     → ((y : ℕ) → count y (outer_members root.members ys) ≡ count y (outer_members root.members xs))
-    → ((a x : ℕ) → around a x ys ≡ around a x xs) → (room ≡ FAR) ⊎ IsReached t hs root xs x room
-    → (room ≡ FAR) ⊎ IsReached t hs root ys x room
-same_case t hs root xs ys x room outs holds (inl far) = inl far
-same_case t hs root xs ys x room outs holds (inr l) =
+    → ((a x : ℕ) → around a x ys ≡ around a x xs) → (left ≡ FAR) ⊎ IsReached t hs root xs x left
+    → (left ≡ FAR) ⊎ IsReached t hs root ys x left
+same_case t hs root xs ys x left outs holds (inl far) = inl far
+same_case t hs root xs ys x left outs holds (inr l) =
     inr (record { a = l.a; here = omega (arith, outs l.a, l.here); apart = omega (arith, holds l.a x, l.apart); exact = l.exact })
 
 -- the order of the outer sets is nothing to what they leave
@@ -252,7 +252,7 @@ reaches_apart t hs root at more old new reach next g size can r on =
 -- the root alone
 pub reaches_root : (t : TableValue) (hs : List ℕ) (root : NestValue) (tree : List BranchValue) (reach new : List ℕ) → CanTake t hs root tree
     → length reach ≡ t.places → length new ≡ length reach → ((x : ℕ) → x < length reach → get_or reach x 0 ≡ FAR)
-    → Merges root.near root.width reach new → Reaches t hs root [] new
+    → Merges root.near root.dual reach new → Reaches t hs root [] new
 reaches_root t hs root tree reach new can size same far merged =
     root_reached t hs root reach new size far
     (takes_near t hs root reach new can.sound (λ y. omega (arith, can.once y, base_in y root.members tree)) same

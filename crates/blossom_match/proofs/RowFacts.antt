@@ -1,8 +1,8 @@
 -- Worked rows.
 use Rattle.std.proofs.Common.{◌≡◌, ℕ, [], ◌∷◌, map, refl}
 use Rattle.blossom_match.specs.Masks.{shown}
-use Rattle.blossom_match.specs.Rings.{single_of}
-use Rattle.blossom_match.specs.RingRows.{ring_row}
+use Rattle.blossom_match.specs.Blossoms.{single_of}
+use Rattle.blossom_match.specs.BlossomRows.{blossom_row}
 use Rattle.blossom_match.specs.Rows.{single_row}
 use Rattle.blossom_match.specs.TableValue.{TableValue}
 use Rattle.blossom_match.specs.Values.{PartValue}
@@ -12,15 +12,15 @@ abbrev four : TableValue
 four = record { places = 4; cells = 0 ∷ 2 ∷ 2 ∷ 5 ∷ 0 ∷ 0 ∷ 2 ∷ 4 ∷ 0 ∷ 0 ∷ 0 ∷ 6 ∷ 0 ∷ 0 ∷ 0 ∷ 0 ∷ [] }
 
 abbrev part : ℕ → ℕ → ℕ → PartValue
-part place width to = record { nest = single_of place four place width; next = record { from = place; to = to } }
+part place dual to = record { nest = single_of place four place dual; next = record { from = place; to = to } }
 
 -- twice the distances, both ways
 pub known_single : single_row four 1 ≡ 4 ∷ 400001 ∷ 4 ∷ 8 ∷ []
 known_single = refl
 
 -- of 10 less 1, 8 less 2 and 12 less 5 the second is least
-pub known_ring : ring_row (part 0 1 1 ∷ part 1 2 2 ∷ part 2 5 0 ∷ []) ≡ 400001 ∷ 400001 ∷ 400001 ∷ 6 ∷ []
-known_ring = refl
+pub known_blossom : blossom_row (part 0 1 1 ∷ part 1 2 2 ∷ part 2 5 0 ∷ []) ≡ 400001 ∷ 400001 ∷ 400001 ∷ 6 ∷ []
+known_blossom = refl
 
 -- 0 and 1 are shown, 1 higher than what is left for it; nothing is left for 2, and 3 isn't shown
 pub known_shown : map (shown (3 ∷ 9 ∷ 2 ∷ 1 ∷ []) (10 ∷ 7 ∷ 400001 ∷ 8 ∷ []) (0 ∷ 0 ∷ 0 ∷ 400001 ∷ [])) (0 ∷ 1 ∷ 2 ∷ 3 ∷ [])

@@ -8,8 +8,8 @@ use Rattle.blossom_match.proofs.ListLemmas.{number_here, take_here}
 use Rattle.blossom_match.specs.Lists.{Each}
 use Rattle.blossom_match.specs.Bands.{NestValue, count, height, hit}
 use Rattle.blossom_match.specs.Rows.{lowered, single_cell, single_row, IsNear, Merges}
-use Rattle.blossom_match.specs.Rings.{bands_in, members_in}
-use Rattle.blossom_match.specs.RingRows.{least_of, ring_cell, ring_row, row_for}
+use Rattle.blossom_match.specs.Blossoms.{bands_in, members_in}
+use Rattle.blossom_match.specs.BlossomRows.{least_of, blossom_cell, blossom_row, row_for}
 use Rattle.blossom_match.specs.Sound.{IsFirmPart, IsSound}
 use Rattle.blossom_match.specs.Reaches.{IsLeft, TakesSet}
 use Rattle.blossom_match.specs.TableValue.{TableValue}
@@ -59,26 +59,26 @@ put_others members cells first i v low others x none =
     let ne : x ≢ m = λ e. omega (arith, none, counts_next members i x low, hit_same x, ap (λ (y : ℕ). hit x y) e) in
     rw get_or-set_other (others x (omega (arith, none, counts_next members i x low)))
 
-near_case : (p : Bool) (by room : ℕ) → ltb room FAR ≡ p → room < FAR → cond p (room - by) room ≡ room - by
-near_case true by room e near = refl
-near_case false by room e near = absurd (omega (arith, ltb-false room FAR e, near))
+near_case : (p : Bool) (by left : ℕ) → ltb left FAR ≡ p → left < FAR → cond p (left - by) left ≡ left - by
+near_case true by left e near = refl
+near_case false by left e near = absurd (omega (arith, ltb-false left FAR e, near))
 
-pub lowered_near : (by room : ℕ) → room < FAR → lowered by room ≡ room - by
-lowered_near by room near = near_case (ltb room FAR) by room refl near
+pub lowered_near : (by left : ℕ) → left < FAR → lowered by left ≡ left - by
+lowered_near by left near = near_case (ltb left FAR) by left refl near
 
-far_case : (p : Bool) (by room : ℕ) → ltb room FAR ≡ p → room ≡ FAR → cond p (room - by) room ≡ FAR
-far_case true by room e far = absurd (omega (arith, ltb-true room FAR e, far))
-far_case false by room e far = far
+far_case : (p : Bool) (by left : ℕ) → ltb left FAR ≡ p → left ≡ FAR → cond p (left - by) left ≡ FAR
+far_case true by left e far = absurd (omega (arith, ltb-true left FAR e, far))
+far_case false by left e far = far
 
-pub lowered_far : (by room : ℕ) → room ≡ FAR → lowered by room ≡ FAR
-lowered_far by room far = far_case (ltb room FAR) by room refl far
+pub lowered_far : (by left : ℕ) → left ≡ FAR → lowered by left ≡ FAR
+lowered_far by left far = far_case (ltb left FAR) by left refl far
 
-less_case : (p : Bool) (by room : ℕ) → cond p (room - by) room ≤ room
-less_case true by room = omega arith
-less_case false by room = omega arith
+less_case : (p : Bool) (by left : ℕ) → cond p (left - by) left ≤ left
+less_case true by left = omega arith
+less_case false by left = omega arith
 
-pub lowered_less : (by room : ℕ) → lowered by room ≤ room
-lowered_less by room = less_case (ltb room FAR) by room
+pub lowered_less : (by left : ℕ) → lowered by left ≤ left
+lowered_less by left = less_case (ltb left FAR) by left
 
 -- a cell of a row that is made cell by cell
 at_row : (f : ℕ → ℕ) (n x : ℕ) → x < n → get_or (map f (range_with_len 0 n)) x 0 ≡ f x
@@ -108,33 +108,33 @@ single_near t place is low =
       is = λ x none lx. record { a = place; here = omega (arith, hit_same place); exact = omega (arith, other x none lx) };
     }
 
--- one of the places has so much room for x over its height
-record IsRoom (t : TableValue) (h : ℕ → ℕ) (xs : List ℕ) (x room : ℕ) : Type 0 where
+-- one of the places leaves so much for x over its height
+record IsLeftAt (t : TableValue) (h : ℕ → ℕ) (xs : List ℕ) (x left : ℕ) : Type 0 where
   a : ℕ
   here : 1 ≤ count a xs
-  exact : room ≡ 2 * entry t a x - h a
+  exact : left ≡ 2 * entry t a x - h a
 
 times_one : (by n : ℕ) → n ≡ 1 → by * n ≡ by
 times_one by n e = omega (arith, ap (λ (k : ℕ). by * k) e)
 
--- the height of a member is the width and the heights inside
-over : (t : TableValue) (h : ℕ → ℕ) (s : NestValue) (a : ℕ) → IsSound t h s → count a s.members ≡ 1 → s.width + height a s.below ≡ h a
-over t h s a k one = omega (arith, k.local a (omega (arith, one)), times_one s.width (count a s.members) one)
+-- the height of a member is the dual and the heights inside
+over : (t : TableValue) (h : ℕ → ℕ) (s : NestValue) (a : ℕ) → IsSound t h s → count a s.members ≡ 1 → s.dual + height a s.below ≡ h a
+over t h s a k one = omega (arith, k.local a (omega (arith, one)), times_one s.dual (count a s.members) one)
 
--- over its width a set leaves no more for x than a member does
+-- over its dual a set leaves no more for x than a member does
 pub near_least : (t : TableValue) (h : ℕ → ℕ) (s : NestValue) (a x : ℕ) → IsSound t h s → count a s.members ≡ 1
-    → count x s.members ≡ 0 → x < t.places → lowered s.width (get_or s.near x 0) ≤ 2 * entry t a x - h a
+    → count x s.members ≡ 0 → x < t.places → lowered s.dual (get_or s.near x 0) ≤ 2 * entry t a x - h a
 near_least t h s a x k one none lx =
     omega (
       arith,
-      lowered_near s.width (get_or s.near x 0) (k.near.0.short x none lx),
+      lowered_near s.dual (get_or s.near x 0) (k.near.0.short x none lx),
       k.near.0.least a x (omega (arith, one)) none lx,
       over t h s a k one,
     )
 
 -- and some member leaves so much
 near_is : (t : TableValue) (h : ℕ → ℕ) (s : NestValue) (x : ℕ) → IsSound t h s → ((y : ℕ) → count y s.members ≤ 1)
-    → count x s.members ≡ 0 → x < t.places → IsRoom t h s.members x (lowered s.width (get_or s.near x 0))
+    → count x s.members ≡ 0 → x < t.places → IsLeftAt t h s.members x (lowered s.dual (get_or s.near x 0))
 near_is t h s x k once none lx =
     let r = k.near.0.is x none lx in
     record {
@@ -142,7 +142,7 @@ near_is t h s x k once none lx =
       here = r.here;
       exact = omega (
         arith,
-        lowered_near s.width (get_or s.near x 0) (k.near.0.short x none lx),
+        lowered_near s.dual (get_or s.near x 0) (k.near.0.short x none lx),
         r.exact,
         over t h s r.a k (omega (arith, r.here, once r.a)),
       );
@@ -150,7 +150,7 @@ near_is t h s x k once none lx =
 
 least_case : (n : ℕ) (t : TableValue) (h : ℕ → ℕ) (p : PartValue) (rest a x : ℕ) → count a p.nest.members ≡ n → n ≤ 1
     → IsSound t h p.nest → count x p.nest.members ≡ 0 → x < t.places → (n ≡ 0 → rest ≤ 2 * entry t a x - h a)
-    → min (lowered p.nest.width (get_or p.nest.near x 0)) rest ≤ 2 * entry t a x - h a
+    → min (lowered p.nest.dual (get_or p.nest.near x 0)) rest ≤ 2 * entry t a x - h a
 least_case zero t h p rest a x e few k none lx later = omega (arith, later refl)
 least_case (suc n) t h p rest a x e few k none lx later = omega (arith, near_least t h p.nest a x k (omega (arith, e, few)) none lx)
 
@@ -164,8 +164,8 @@ least_low t h (p ∷ ps) a x f once here none lx =
     least_case (count a p.nest.members) t h p (least_of ps x) a x refl (omega (arith, once, ca)) f.0.nest (omega (arith, none, cx)) lx
     (λ e. least_low t h ps a x f.1 (omega (arith, once, ca)) (omega (arith, here, ca, e)) (omega (arith, none, cx)) lx)
 
-min_case : (t : TableValue) (h : ℕ → ℕ) (xs ys : List ℕ) (x one rest : ℕ) → IsRoom t h xs x one
-    → (rest ≡ FAR) ⊎ IsRoom t h ys x rest → one < FAR → (one < rest) ⊎ (rest ≤ one) → IsRoom t h (xs ++ ys) x (min one rest)
+min_case : (t : TableValue) (h : ℕ → ℕ) (xs ys : List ℕ) (x one rest : ℕ) → IsLeftAt t h xs x one
+    → (rest ≡ FAR) ⊎ IsLeftAt t h ys x rest → one < FAR → (one < rest) ⊎ (rest ≤ one) → IsLeftAt t h (xs ++ ys) x (min one rest)
 min_case t h xs ys x one rest k later near (inl less) =
     record { a = k.a; here = omega (arith, k.here, count-append); exact = omega (arith, k.exact, less) }
 min_case t h xs ys x one rest k (inl far) near (inr more) = absurd (omega (arith, far, more, near))
@@ -174,19 +174,19 @@ min_case t h xs ys x one rest k (inr l) near (inr more) =
 
 least_with : (t : TableValue) (h : ℕ → ℕ) (p : PartValue) (ps : List PartValue) (x : ℕ) → IsSound t h p.nest
     → ((y : ℕ) → count y (members_in (p ∷ ps)) ≤ 1) → count x (members_in (p ∷ ps)) ≡ 0 → x < t.places
-    → (least_of ps x ≡ FAR) ⊎ IsRoom t h (members_in ps) x (least_of ps x)
-    → IsRoom t h (members_in (p ∷ ps)) x (least_of (p ∷ ps) x)
+    → (least_of ps x ≡ FAR) ⊎ IsLeftAt t h (members_in ps) x (least_of ps x)
+    → IsLeftAt t h (members_in (p ∷ ps)) x (least_of (p ∷ ps) x)
 least_with t h p ps x k once none lx later =
     let c = λ (y : ℕ). count-append y p.nest.members (members_in ps) in
     let out : count x p.nest.members ≡ 0 = omega (arith, none, c x) in
-    let one = lowered p.nest.width (get_or p.nest.near x 0) in
+    let one = lowered p.nest.dual (get_or p.nest.near x 0) in
     min_case t h p.nest.members (members_in ps) x one (least_of ps x)
     (near_is t h p.nest x k (λ y. omega (arith, once y, c y)) out lx) later
-    (omega (arith, lowered_less p.nest.width (get_or p.nest.near x 0), k.near.0.short x out lx)) (cases_lt one (least_of ps x))
+    (omega (arith, lowered_less p.nest.dual (get_or p.nest.near x 0), k.near.0.short x out lx)) (cases_lt one (least_of ps x))
 
 least_rest : (t : TableValue) (h : ℕ → ℕ) (ps : List PartValue) (x : ℕ) → Each (IsFirmPart t h) ps
     → ((y : ℕ) → count y (members_in ps) ≤ 1) → count x (members_in ps) ≡ 0 → x < t.places
-    → (least_of ps x ≡ FAR) ⊎ IsRoom t h (members_in ps) x (least_of ps x)
+    → (least_of ps x ≡ FAR) ⊎ IsLeftAt t h (members_in ps) x (least_of ps x)
 least_rest t h [] x f once none lx = inl refl
 least_rest t h (p ∷ ps) x f once none lx =
     let c = λ (y : ℕ). count-append y p.nest.members (members_in ps) in
@@ -196,7 +196,7 @@ least_rest t h (p ∷ ps) x f once none lx =
 -- some member leaves so much
 least_is : (t : TableValue) (h : ℕ → ℕ) (p : PartValue) (ps : List PartValue) (x : ℕ) → Each (IsFirmPart t h) (p ∷ ps)
     → ((y : ℕ) → count y (members_in (p ∷ ps)) ≤ 1) → count x (members_in (p ∷ ps)) ≡ 0 → x < t.places
-    → IsRoom t h (members_in (p ∷ ps)) x (least_of (p ∷ ps) x)
+    → IsLeftAt t h (members_in (p ∷ ps)) x (least_of (p ∷ ps) x)
 least_is t h p ps x f once none lx =
     let c = λ (y : ℕ). count-append y p.nest.members (members_in ps) in
     least_with t h p ps x f.0.nest once none lx
@@ -210,29 +210,29 @@ out_case : (b : Bool) (n v : ℕ) → ltb 0 n ≡ b → n ≡ 0 → cond b FAR v
 out_case true n v e none = absurd (omega (arith, ltb-true 0 n e, none))
 out_case false n v e none = refl
 
--- a ring's cell at a member, and at any other place
-ring_own : (ps : List PartValue) (x : ℕ) → 1 ≤ count x (members_in ps) → ring_cell ps x ≡ FAR
-ring_own ps x here = in_case (ltb 0 (count x (members_in ps))) (count x (members_in ps)) (least_of ps x) refl here
+-- a blossom's cell at a member, and at any other place
+blossom_own : (ps : List PartValue) (x : ℕ) → 1 ≤ count x (members_in ps) → blossom_cell ps x ≡ FAR
+blossom_own ps x here = in_case (ltb 0 (count x (members_in ps))) (count x (members_in ps)) (least_of ps x) refl here
 
-ring_other : (ps : List PartValue) (x : ℕ) → count x (members_in ps) ≡ 0 → ring_cell ps x ≡ least_of ps x
-ring_other ps x none = out_case (ltb 0 (count x (members_in ps))) (count x (members_in ps)) (least_of ps x) refl none
+blossom_other : (ps : List PartValue) (x : ℕ) → count x (members_in ps) ≡ 0 → blossom_cell ps x ≡ least_of ps x
+blossom_other ps x none = out_case (ltb 0 (count x (members_in ps))) (count x (members_in ps)) (least_of ps x) refl none
 
 least_short : (p : PartValue) (ps : List PartValue) (x : ℕ) → get_or p.nest.near x 0 < FAR → least_of (p ∷ ps) x < FAR
-least_short p ps x near = omega (arith, lowered_less p.nest.width (get_or p.nest.near x 0), near)
+least_short p ps x near = omega (arith, lowered_less p.nest.dual (get_or p.nest.near x 0), near)
 
--- the row of a ring of firm parts
-pub ring_near : (t : TableValue) (h : ℕ → ℕ) (p : PartValue) (ps : List PartValue) → Each (IsFirmPart t h) (p ∷ ps)
+-- the row of a blossom of firm parts
+pub blossom_near : (t : TableValue) (h : ℕ → ℕ) (p : PartValue) (ps : List PartValue) → Each (IsFirmPart t h) (p ∷ ps)
     → ((x : ℕ) → count x (members_in (p ∷ ps)) ≤ 1)
     → ((x : ℕ) → 1 ≤ count x (members_in (p ∷ ps)) → height x (bands_in (p ∷ ps)) ≡ h x)
-    → IsNear t (record { members = members_in (p ∷ ps); below = bands_in (p ∷ ps); cells = ring_row (p ∷ ps) })
-ring_near t h p ps f once local =
+    → IsNear t (record { members = members_in (p ∷ ps); below = bands_in (p ∷ ps); cells = blossom_row (p ∷ ps) })
+blossom_near t h p ps f once local =
     let n = length p.nest.near in
     let size : n ≡ t.places = f.0.nest.near.0.size in
-    let at = λ (x : ℕ) (lx : x < t.places). at_row (ring_cell (p ∷ ps)) n x (omega (arith, lx, size)) in
-    let other = λ (x : ℕ) (none : count x (members_in (p ∷ ps)) ≡ 0) (lx : x < t.places). at x lx ∙ ring_other (p ∷ ps) x none in
+    let at = λ (x : ℕ) (lx : x < t.places). at_row (blossom_cell (p ∷ ps)) n x (omega (arith, lx, size)) in
+    let other = λ (x : ℕ) (none : count x (members_in (p ∷ ps)) ≡ 0) (lx : x < t.places). at x lx ∙ blossom_other (p ∷ ps) x none in
     record {
-      size = length-map-range_with_len (ring_cell (p ∷ ps)) 0 n ∙ size;
-      own = λ x here lx. at x lx ∙ ring_own (p ∷ ps) x here;
+      size = length-map-range_with_len (blossom_cell (p ∷ ps)) 0 n ∙ size;
+      own = λ x here lx. at x lx ∙ blossom_own (p ∷ ps) x here;
       short = λ x none lx. omega (
         arith,
         other x none lx,
@@ -247,21 +247,21 @@ ring_near t h p ps f once local =
 
 -- the parts so far and the next one
 pub least_push : (ps : List PartValue) (p : PartValue) (x : ℕ)
-    → least_of (ps ++ p ∷ []) x ≡ min (lowered p.nest.width (get_or p.nest.near x 0)) (least_of ps x)
+    → least_of (ps ++ p ∷ []) x ≡ min (lowered p.nest.dual (get_or p.nest.near x 0)) (least_of ps x)
 least_push [] p x = refl
 least_push (q ∷ ps) p x = omega (arith, least_push ps p x)
 
 -- so it is with the merged cells
-pub merge_next : (n : ℕ) (parts : List PartValue) (i : ℕ) (p : PartValue) (near : List ℕ) (width : ℕ) (cells new : List ℕ) → i < length
+pub merge_next : (n : ℕ) (parts : List PartValue) (i : ℕ) (p : PartValue) (near : List ℕ) (dual : ℕ) (cells new : List ℕ) → i < length
     parts
-    → p ≡ get_or parts i p → near ≡ p.nest.near → width ≡ p.nest.width → Merges near width cells new → length near ≡ n
+    → p ≡ get_or parts i p → near ≡ p.nest.near → dual ≡ p.nest.dual → Merges near dual cells new → length near ≡ n
     → ((x : ℕ) → x < n → get_or cells x 0 ≡ least_of (take i parts) x) → (x : ℕ) → x < n
     → get_or new x 0 ≡ least_of (take (i + 1) parts) x
-merge_next n parts i p near width cells new low is e f merged size so_far x lx =
+merge_next n parts i p near dual cells new low is e f merged size so_far x lx =
     omega (
       arith,
       merged x (omega (arith, lx, size)),
-      ap (λ (k : List ℕ). lowered width (get_or k x 0)) e,
+      ap (λ (k : List ℕ). lowered dual (get_or k x 0)) e,
       ap (λ (w : ℕ). lowered w (get_or p.nest.near x 0)) f,
       so_far x lx,
       least_push (take i parts) p x,
@@ -269,24 +269,24 @@ merge_next n parts i p near width cells new low is e f merged size so_far x lx =
     )
 
 row_case : (n : ℕ) (ps : List PartValue) (x v w : ℕ) → count x (members_in ps) ≡ n → v ≡ least_of ps x → (1 ≤ n → w ≡ FAR)
-    → (n ≡ 0 → w ≡ v) → w ≡ ring_cell ps x
-row_case zero ps x v w e is on off = off refl ∙ is ∙ sym (ring_other ps x e)
-row_case (suc n) ps x v w e is on off = on (omega arith) ∙ sym (ring_own ps x (omega (arith, e)))
+    → (n ≡ 0 → w ≡ v) → w ≡ blossom_cell ps x
+row_case zero ps x v w e is on off = off refl ∙ is ∙ sym (blossom_other ps x e)
+row_case (suc n) ps x v w e is on off = on (omega arith) ∙ sym (blossom_own ps x (omega (arith, e)))
 
 -- merged cells that are cleared at the members are the row
 pub row_is : (n : ℕ) (ps : List PartValue) (members mid new : List ℕ) → members ≡ members_in ps → length new ≡ n
     → ((x : ℕ) → x < n → get_or mid x 0 ≡ least_of ps x) → ((x : ℕ) → 1 ≤ count x members → get_or new x 0 ≡ FAR)
     → ((x : ℕ) → count x members ≡ 0 → get_or new x 0 ≡ get_or mid x 0) → new ≡ row_for n ps
 row_is n ps members mid new e same merged on off =
-    let all = length-map-range_with_len (ring_cell ps) 0 n in
+    let all = length-map-range_with_len (blossom_cell ps) 0 n in
     let c = λ (x : ℕ). ap (λ (xs : List ℕ). count x xs) e in
     same_number_lists new (row_for n ps) (same ∙ sym all) (λ x lx.
     let low : x < n = omega (arith, lx, same) in
     row_case (count x (members_in ps)) ps x (get_or mid x 0) (get_or new x 0) refl (merged x low)
     (λ here. on x (omega (arith, here, c x))) (λ none. off x (omega (arith, none, c x)))
-    ∙ sym (at_row (ring_cell ps) n x low))
+    ∙ sym (at_row (blossom_cell ps) n x low))
 
-take_case : (t : TableValue) (hs xs : List ℕ) (x one old now : ℕ) → now ≡ min one old → IsRoom t (λ (a : ℕ). get_or hs a 0) xs x one
+take_case : (t : TableValue) (hs xs : List ℕ) (x one old now : ℕ) → now ≡ min one old → IsLeftAt t (λ (a : ℕ). get_or hs a 0) xs x one
     → (one < old) ⊎ (old ≤ one) → (now ≡ old) ⊎ IsLeft t hs xs x now
 take_case t hs xs x one old now is k (inl less) = inr (record { a = k.a; here = k.here; exact = omega (arith, is, less, k.exact) })
 take_case t hs xs x one old now is k (inr more) = inl (omega (arith, is, more))
@@ -294,16 +294,16 @@ take_case t hs xs x one old now is k (inr more) = inl (omega (arith, is, more))
 -- a merged row takes the set in
 pub takes_near : (t : TableValue) (hs : List ℕ) (s : NestValue) (old new : List ℕ) → IsSound t (λ (a : ℕ). get_or hs a 0) s
     → ((x : ℕ) → count x s.members ≤ 1) → length new ≡ length old → ((x : ℕ) → x < t.places → get_or old x 0 ≤ FAR)
-    → Merges s.near s.width old new → TakesSet t hs s.members old new
+    → Merges s.near s.dual old new → TakesSet t hs s.members old new
 takes_near t hs s old new k once size short merged =
     let h = λ (a : ℕ). get_or hs a 0 in
     let at = λ (x : ℕ) (lx : x < t.places). merged x (omega (arith, lx, k.near.0.size)) in
     record {
       size = size;
       kept = λ x lx here.
-          omega (arith, at x lx, lowered_far s.width (get_or s.near x 0) (k.near.0.own x here lx), short x lx);
+          omega (arith, at x lx, lowered_far s.dual (get_or s.near x 0) (k.near.0.own x here lx), short x lx);
       less = λ x lx. omega (arith, at x lx);
       least = λ a x ha lx none. omega (arith, at x lx, near_least t h s a x k (omega (arith, ha, once a)) none lx);
-      is = λ x lx none. take_case t hs s.members x (lowered s.width (get_or s.near x 0)) (get_or old x 0) (get_or new x 0) (at x lx)
-          (near_is t h s x k once none lx) (cases_lt (lowered s.width (get_or s.near x 0)) (get_or old x 0));
+      is = λ x lx none. take_case t hs s.members x (lowered s.dual (get_or s.near x 0)) (get_or old x 0) (get_or new x 0) (at x lx)
+          (near_is t h s x k once none lx) (cases_lt (lowered s.dual (get_or s.near x 0)) (get_or old x 0));
     }

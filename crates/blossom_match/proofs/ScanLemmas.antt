@@ -5,7 +5,7 @@ use Rattle.std.proofs.lemmas.List.{take-append-drop}
 use Rattle.blossom_match.specs.Lists.{Each}
 use Rattle.blossom_match.specs.Bands.{NestValue, count}
 use Rattle.blossom_match.specs.Trees.{around, outer_members}
-use Rattle.blossom_match.specs.Bounds.{holding, FirstIsDue, IsWidthOf, Narrows, NarrowsAt, RingIsDue, RingIsWide}
+use Rattle.blossom_match.specs.Bounds.{holding, FirstIsDue, IsDualOf, Narrows, NarrowsAt, BlossomIsDue, DualIsEnough}
 use Rattle.blossom_match.specs.Values.{BranchValue}
 use Rattle.blossom_match.specs.declared.least.Change.{Change}
 use Rattle.blossom_match.proofs.ListLemmas.{drop_here, each-map, each-push, take_here}
@@ -42,16 +42,16 @@ pub split_here : (tree : List BranchValue) (i : ℕ) (b : BranchValue) → i < l
     ≡ take i tree ++ b ∷ drop (i + 1) tree
 split_here tree i b low is = sym (take-append-drop i tree) ∙ ap (λ (ks : List BranchValue). take i tree ++ ks) (drop_here tree i b low is)
 
--- the rings so far
+-- the blossoms so far
 pub record Narrowing (tree : List BranchValue) (i : ℕ) (old new : Change) : Type 0 where
   pub less : new.by ≤ old.by
-  pub wide : Each (RingIsWide new.by) (take i tree)
-  pub is : (new ≡ old) ⊎ RingIsDue tree new
+  pub wide : Each (DualIsEnough new.by) (take i tree)
+  pub is : (new ≡ old) ⊎ BlossomIsDue tree new
 
 narrowing_is : (tree : List BranchValue) (i : ℕ) (b : BranchValue) (o m n : Change) → i < length tree → b ≡ get_or tree i b → (m ≡ o)
-    ⊎ RingIsDue tree m → (n ≡ m) ⊎ IsWidthOf b i n → (n ≡ o) ⊎ RingIsDue tree n
+    ⊎ BlossomIsDue tree m → (n ≡ m) ⊎ IsDualOf b i n → (n ≡ o) ⊎ BlossomIsDue tree n
 narrowing_is tree i b o m n low is (inl e) (inl f) = inl (f ∙ e)
-narrowing_is tree i b o m n low is (inr e) (inl f) = inr (subst (λ (k : Change). RingIsDue tree k) (sym f) e)
+narrowing_is tree i b o m n low is (inr e) (inl f) = inr (subst (λ (k : Change). BlossomIsDue tree k) (sym f) e)
 narrowing_is tree i b o m n low is e (inr f) = inr (record {
   at = i;
   step = f.step;
@@ -63,8 +63,8 @@ pub narrowing_more : (tree : List BranchValue) (i : ℕ) (b : BranchValue) (o m 
     → Narrowing tree i o m → NarrowsAt b i m n → Narrowing tree (i + 1) o n
 narrowing_more tree i b o m n low is one two = record {
   less = omega (arith, one.less, two.less);
-  wide = subst (λ (ks : List BranchValue). Each (RingIsWide n.by) ks) (sym (take_here tree i b low is))
-      (each-push (RingIsWide n.by) (take i tree) b (each-map (RingIsWide m.by) (RingIsWide n.by)
+  wide = subst (λ (ks : List BranchValue). Each (DualIsEnough n.by) ks) (sym (take_here tree i b low is))
+      (each-push (DualIsEnough n.by) (take i tree) b (each-map (DualIsEnough m.by) (DualIsEnough n.by)
       (λ k w some. omega (arith, w some, two.less)) (take i tree) one.wide) two.wide);
   is = narrowing_is tree i b o m n low is one.is two.is;
 }
@@ -75,7 +75,7 @@ narrowing_start tree o = record { less = omega arith; wide = tt; is = inl refl }
 pub narrowing_done : (tree : List BranchValue) (o n : Change) → Narrowing tree (length tree) o n → Narrows tree o n
 narrowing_done tree o n r = record {
   less = r.less;
-  wide = subst (λ (ks : List BranchValue). Each (RingIsWide n.by) ks)
+  wide = subst (λ (ks : List BranchValue). Each (DualIsEnough n.by) ks)
       (take-length tree) r.wide;
   is = r.is;
 }

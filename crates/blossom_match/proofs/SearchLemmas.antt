@@ -4,16 +4,16 @@ use Rattle.std.proofs.lemmas.Bool.{lt-ltb, ltb-true, ltb-false}
 use Rattle.std.proofs.lemmas.List.{take-append-drop}
 use Rattle.blossom_match.specs.Lists.{Each}
 use Rattle.blossom_match.specs.Bands.{Adds, Band, NestValue, bands, count, height, hit, load, Misses, NoneHold}
-use Rattle.blossom_match.specs.Rings.{back_of}
-use Rattle.blossom_match.specs.Couples.{couple_members, couple_bands, IsJoined}
-use Rattle.blossom_match.specs.Sound.{IsFirm, IsFirmCouple, IsSound, IsSymmetric, IsTight}
+use Rattle.blossom_match.specs.Blossoms.{back_of}
+use Rattle.blossom_match.specs.Matches.{match_members, match_bands, IsJoined}
+use Rattle.blossom_match.specs.Sound.{IsFirm, IsFirmMatch, IsSound, IsSymmetric, IsTight}
 use Rattle.blossom_match.specs.Trees.{branch_bands, branch_sets, hung_by, inner_bands, inner_members, inner_sets, outer_members, outer_sets, IsGrown, TakesOut}
 use Rattle.blossom_match.specs.Shrinks.{Shrinking, Shrinks}
 use Rattle.blossom_match.specs.Lays.{Expands}
-use Rattle.blossom_match.specs.Searches.{height_at, is_place, outers, Advances, CanStep, FreeHaveRoom}
+use Rattle.blossom_match.specs.Searches.{height_at, is_place, outers, Advances, CanStep, FreeHaveSlack}
 use Rattle.blossom_match.specs.TableValue.{TableValue}
 use Rattle.blossom_match.specs.declared.nest.Link.{Link}
-use Rattle.blossom_match.specs.Values.{BranchValue, CoupleValue, SearchValue}
+use Rattle.blossom_match.specs.Values.{BranchValue, MatchValue, SearchValue}
 use Rattle.blossom_match.specs.declared.search.Step.TheVariants.{Grow, Shrink, Expand}
 use Rattle.blossom_match.proofs.ListLemmas.{each-append, each-left, each-right, each-push}
 use Rattle.blossom_match.proofs.SumLemmas.{bands-append, bands_push, count-append, height-append, load-append, members-append, members_push, none_hold, none_tall, size-append}
@@ -35,31 +35,31 @@ shrunk key link s r sh e f g = record {
           i.tall x (free_none x f none),
           sh.sums (height x) (height-append x),
           ap
-              (λ (cs : List CoupleValue). height x (couple_bands cs)) e,
+              (λ (cs : List MatchValue). height x (match_bands cs)) e,
         );
-        room = subst (λ (xs : List ℕ). FreeHaveRoom t h xs) (sym f) i.room;
+        slack = subst (λ (xs : List ℕ). FreeHaveSlack t h xs) (sym f) i.slack;
         places = λ x. omega (
           arith,
           i.places x,
           sh.places x,
-          ap (λ (cs : List CoupleValue). count x (couple_members cs)) e,
+          ap (λ (cs : List MatchValue). count x (match_members cs)) e,
           ap
               (λ (xs : List ℕ). count x xs) f,
         );
         grown = sh.grown;
-        joined = subst (λ (cs : List CoupleValue). Each IsJoined cs) (sym e) i.joined;
+        joined = subst (λ (cs : List MatchValue). Each IsJoined cs) (sym e) i.joined;
         root = firm.0;
         tree = firm.1;
-        rest = subst (λ (cs : List CoupleValue). Each (IsFirmCouple t h) cs) (sym e) i.rest;
+        rest = subst (λ (cs : List MatchValue). Each (IsFirmMatch t h) cs) (sym e) i.rest;
         loads = λ a b la lb ne. omega (
           arith,
           i.loads a b la lb ne,
           sh.sums (load a b) (load-append a b),
           ap
-              (λ (cs : List CoupleValue). load a b (couple_bands cs)) e,
+              (λ (cs : List MatchValue). load a b (match_bands cs)) e,
         );
       };
-  fewer = omega (arith, sh.fewer, ap (λ (cs : List CoupleValue). length (couple_bands cs)) e);
+  fewer = omega (arith, sh.fewer, ap (λ (cs : List MatchValue). length (match_bands cs)) e);
   free = f;
   heights = g;
 }
@@ -77,7 +77,7 @@ came_apart key at s r ex e f g = record {
           ap
               (λ (v : NestValue). height x (bands v)) e,
         );
-        room = subst (λ (xs : List ℕ). FreeHaveRoom t h xs) (sym f) i.room;
+        slack = subst (λ (xs : List ℕ). FreeHaveSlack t h xs) (sym f) i.slack;
         places = λ x. omega (
           arith,
           i.places x,
@@ -104,17 +104,17 @@ came_apart key at s r ex e f g = record {
   heights = g;
 }
 
--- what a couple's sets are as a branch
-record IsHung (up : Link) (c : CoupleValue) (b : BranchValue) : Type 0 where
+-- what a match's sets are as a branch
+record IsHung (up : Link) (c : MatchValue) (b : BranchValue) : Type 0 where
   same : b.up ≡ up
   counts : (x : ℕ) → count x b.inner.members + count x b.outer.members ≡ count x c.first.members + count x c.second.members
   sums : (F : List Band → ℕ) → F (bands b.inner) + F (bands b.outer) ≡ F (bands c.first) + F (bands c.second)
   up_to : count up.to b.inner.members ≡ 1
   pair_from : count b.pair.from b.inner.members ≡ 1
   pair_to : count b.pair.to b.outer.members ≡ 1
-  firm : (d : TableValue) (h : ℕ → ℕ) → IsSymmetric d → IsTight d h up → IsFirmCouple d h c → IsFirm d h b
+  firm : (d : TableValue) (h : ℕ → ℕ) → IsSymmetric d → IsTight d h up → IsFirmMatch d h c → IsFirm d h b
 
-hung_case : (b : Bool) (up : Link) (c : CoupleValue) → ltb 0 (count up.to c.first.members) ≡ b
+hung_case : (b : Bool) (up : Link) (c : MatchValue) → ltb 0 (count up.to c.first.members) ≡ b
     → count up.to c.first.members + count up.to c.second.members ≡ 1 → IsJoined c
     → IsHung up c (cond b (record { up = up; inner = c.first; pair = c.link; outer = c.second })
     (record { up = up; inner = c.second; pair = back_of c.link; outer = c.first }))
@@ -141,22 +141,22 @@ hung_case false up c is one j =
       firm = λ d h sy t f. record { up = t; pair = tight_back d h c.link sy f.link; inner = f.second; outer = f.first };
     }
 
-hung_is : (up : Link) (c : CoupleValue) → count up.to c.first.members + count up.to c.second.members ≡ 1 → IsJoined c
+hung_is : (up : Link) (c : MatchValue) → count up.to c.first.members + count up.to c.second.members ≡ 1 → IsJoined c
     → IsHung up c (hung_by up c)
 hung_is up c one j = hung_case (ltb 0 (count up.to c.first.members)) up c refl one j
 
-members_split : (x : ℕ) (before after : List CoupleValue) (c : CoupleValue) →
-    count x (couple_members (before ++ c ∷ after)) ≡ count x (couple_members (before ++ after)) + count x c.first.members
+members_split : (x : ℕ) (before after : List MatchValue) (c : MatchValue) →
+    count x (match_members (before ++ c ∷ after)) ≡ count x (match_members (before ++ after)) + count x c.first.members
     + count x c.second.members
 members_split x before after c =
     omega (arith, members-append, count-append)
 
-bands_split : (F : List Band → ℕ) → Adds F → (before after : List CoupleValue) (c : CoupleValue) →
-    F (couple_bands (before ++ c ∷ after)) ≡ F (couple_bands (before ++ after)) + F (bands c.first) + F (bands c.second)
+bands_split : (F : List Band → ℕ) → Adds F → (before after : List MatchValue) (c : MatchValue) →
+    F (match_bands (before ++ c ∷ after)) ≡ F (match_bands (before ++ after)) + F (bands c.first) + F (bands c.second)
 bands_split F add before after c =
     omega (arith, bands-append F add, add)
 
-without : (P : CoupleValue → Type 0) (before after : List CoupleValue) (c : CoupleValue) → Each P (before ++ c ∷ after) → P c × Each P
+without : (P : MatchValue → Type 0) (before after : List MatchValue) (c : MatchValue) → Each P (before ++ c ∷ after) → P c × Each P
     (before ++ after)
 without P before after c all =
     let rest = each-right P before (c ∷ after) all in
@@ -180,27 +180,27 @@ place_in t x some = place_case (ltb x t.places) x t.places refl some
 pub in_place : (t : TableValue) (x : ℕ) → x < t.places → is_place t x ≡ 1
 in_place t x low = rw (lt-ltb x t.places low) refl
 
--- the inner set of a couple's branch is fewer sets than the couple
-abbrev InnerIsFewer : CoupleValue → BranchValue → Type 0
+-- the inner set of a match's branch is fewer sets than the match
+abbrev InnerIsFewer : MatchValue → BranchValue → Type 0
 InnerIsFewer c b = length (bands b.inner) < length (bands c.first) + length (bands c.second)
 
-hung_fewer : (p : Bool) (up : Link) (c : CoupleValue) →
+hung_fewer : (p : Bool) (up : Link) (c : MatchValue) →
     InnerIsFewer c (cond p (record { up = up; inner = c.first; pair = c.link; outer = c.second })
     (record { up = up; inner = c.second; pair = back_of c.link; outer = c.first }))
 hung_fewer true up c = omega arith
 hung_fewer false up c = omega arith
 
-pub hung : (link : Link) (s r : SearchValue) (c : CoupleValue) → TakesOut link.to s.rest r.rest c → r.tree
+pub hung : (link : Link) (s r : SearchValue) (c : MatchValue) → TakesOut link.to s.rest r.rest c → r.tree
     ≡ s.tree ++ hung_by link c ∷ [] → r.root ≡ s.root → r.free ≡ s.free →
     r.heights ≡ s.heights → Advances s (Grow link) r
 hung link s r c out g e f same =
     let b = hung_by link c in
     let sizes = λ (ks : List Band). length ks in
-    let was = λ (F : List Band → ℕ) (add : Adds F). ap (λ (cs : List CoupleValue). F (couple_bands cs)) out.was
+    let was = λ (F : List Band → ℕ) (add : Adds F). ap (λ (cs : List MatchValue). F (match_bands cs)) out.was
     ∙ bands_split F add out.before out.after c in
-    let now = λ (F : List Band → ℕ). ap (λ (cs : List CoupleValue). F (couple_bands cs)) out.now in
-    let held = λ (x : ℕ). ap (λ (cs : List CoupleValue). count x (couple_members cs)) out.was ∙ members_split x out.before out.after c in
-    let kept = λ (x : ℕ). ap (λ (cs : List CoupleValue). count x (couple_members cs)) out.now in
+    let now = λ (F : List Band → ℕ). ap (λ (cs : List MatchValue). F (match_bands cs)) out.now in
+    let held = λ (x : ℕ). ap (λ (cs : List MatchValue). count x (match_members cs)) out.was ∙ members_split x out.before out.after c in
+    let kept = λ (x : ℕ). ap (λ (cs : List MatchValue). count x (match_members cs)) out.now in
     let grew = λ (F : List Band → ℕ) (add : Adds F). ap (λ (ks : List BranchValue). F (branch_bands ks)) g
     ∙ bands_push F add BranchValue branch_sets s.tree b in
     let outside = λ (x : ℕ). ap (λ (v : NestValue). count x (outer_members v.members r.tree)) e
@@ -208,9 +208,9 @@ hung link s r c out g e f same =
     let inside = λ (x : ℕ). ap (λ (ks : List BranchValue). count x (inner_members ks)) g ∙ members_push inner_sets x [] s.tree b in
     record {
       search = λ t h i ready.
-          let joined = without IsJoined out.before out.after c (subst (λ (cs : List CoupleValue). Each IsJoined cs) out.was i.joined) in
-          let firm = without (IsFirmCouple t h) out.before out.after c
-          (subst (λ (cs : List CoupleValue). Each (IsFirmCouple t h) cs) out.was i.rest) in
+          let joined = without IsJoined out.before out.after c (subst (λ (cs : List MatchValue). Each IsJoined cs) out.was i.joined) in
+          let firm = without (IsFirmMatch t h) out.before out.after c
+          (subst (λ (cs : List MatchValue). Each (IsFirmMatch t h) cs) out.was i.rest) in
           let k = hung_is link c (omega (arith, out.here, held link.to, i.places link.to, is_one t link.to)) joined.0 in
           record {
             tall = λ x none. omega (
@@ -223,17 +223,17 @@ hung link s r c out g e f same =
               k.sums (height x),
               ap (λ (v : NestValue). height x (bands v)) e,
             );
-            room = subst (λ (xs : List ℕ). FreeHaveRoom t h xs) (sym f) i.room;
+            slack = subst (λ (xs : List ℕ). FreeHaveSlack t h xs) (sym f) i.slack;
             places = λ x. omega (arith, i.places x, held x, kept x, outside x, inside x, k.counts x, ap (λ (xs : List ℕ). count x xs) f);
             grown = subst (λ (v : NestValue). IsGrown v.members r.tree) (sym e)
                 (subst (λ (ks : List BranchValue). IsGrown s.root.members ks) (sym g)
                 (grown_push s.root.members s.tree b i.grown (subst (λ (l : Link). 1 ≤ count l.from (outers s)) (sym k.same) ready.0)
                 (subst (λ (l : Link). count l.to b.inner.members ≡ 1) (sym k.same) k.up_to) k.pair_from k.pair_to));
-            joined = subst (λ (cs : List CoupleValue). Each IsJoined cs) (sym out.now) joined.1;
+            joined = subst (λ (cs : List MatchValue). Each IsJoined cs) (sym out.now) joined.1;
             root = subst (λ (v : NestValue). IsSound t h v) (sym e) i.root;
             tree = subst (λ (ks : List BranchValue). Each (IsFirm t h) ks) (sym g)
                 (each-push (IsFirm t h) s.tree b i.tree (k.firm t h (entry-comm t) ready.2 firm.0));
-            rest = subst (λ (cs : List CoupleValue). Each (IsFirmCouple t h) cs) (sym out.now) firm.1;
+            rest = subst (λ (cs : List MatchValue). Each (IsFirmMatch t h) cs) (sym out.now) firm.1;
             loads = λ x y lx ly ne. omega (
               arith,
               i.loads x y lx ly ne,
@@ -266,14 +266,14 @@ none_branches d h x base (b ∷ bs) f none empty =
     (each-append (Misses x) (bands b.outer) (branch_bands bs) (none_hold x b.outer f.0.outer.kept (omega (arith, count-append, none)))
     (none_branches d h x base bs f.1 (omega (arith, count-append, none)) (omega (arith, count-append, empty))))
 
-pub none_couples : (d : TableValue) (h : ℕ → ℕ) (x : ℕ) (cs : List CoupleValue) → Each (IsFirmCouple d h) cs
-    → count x (couple_members cs) ≡ 0 → NoneHold x (couple_bands cs)
-none_couples d h x [] f none = tt
-none_couples d h x (c ∷ cs) f none =
-    each-append (Misses x) (bands c.first) (bands c.second ++ couple_bands cs)
+pub none_matches : (d : TableValue) (h : ℕ → ℕ) (x : ℕ) (cs : List MatchValue) → Each (IsFirmMatch d h) cs
+    → count x (match_members cs) ≡ 0 → NoneHold x (match_bands cs)
+none_matches d h x [] f none = tt
+none_matches d h x (c ∷ cs) f none =
+    each-append (Misses x) (bands c.first) (bands c.second ++ match_bands cs)
     (none_hold x c.first f.0.first.kept (omega (arith, count-append, none)))
-    (each-append (Misses x) (bands c.second) (couple_bands cs) (none_hold x c.second f.0.second.kept (omega (arith, count-append, none)))
-    (none_couples d h x cs f.1 (omega (arith, count-append, none))))
+    (each-append (Misses x) (bands c.second) (match_bands cs) (none_hold x c.second f.0.second.kept (omega (arith, count-append, none)))
+    (none_matches d h x cs f.1 (omega (arith, count-append, none))))
 
 -- and has height 0
 pub low_branches : (d : TableValue) (h : ℕ → ℕ) (x : ℕ) (base : List ℕ) (tree : List BranchValue) → Each (IsFirm d h) tree
@@ -281,10 +281,10 @@ pub low_branches : (d : TableValue) (h : ℕ → ℕ) (x : ℕ) (base : List ℕ
     height x (branch_bands tree) ≡ 0
 low_branches d h x base tree f none empty = none_tall x (branch_bands tree) (none_branches d h x base tree f none empty)
 
-pub low_couples : (d : TableValue) (h : ℕ → ℕ) (x : ℕ) (cs : List CoupleValue) → Each (IsFirmCouple d h) cs → count x (couple_members cs)
+pub low_matches : (d : TableValue) (h : ℕ → ℕ) (x : ℕ) (cs : List MatchValue) → Each (IsFirmMatch d h) cs → count x (match_members cs)
     ≡ 0
-    → height x (couple_bands cs) ≡ 0
-low_couples d h x cs f none = none_tall x (couple_bands cs) (none_couples d h x cs f none)
+    → height x (match_bands cs) ≡ 0
+low_matches d h x cs f none = none_tall x (match_bands cs) (none_matches d h x cs f none)
 
 -- a place is taken from the free ones
 pub taken_place : (x : ℕ) (xs new : List ℕ) (i place : ℕ) → i < length xs → get_or xs i 0 ≡ place → new ≡ take i xs ++ drop (suc i) xs
@@ -300,7 +300,7 @@ taken_place x xs new i place low is e =
       ap (λ (ys : List ℕ). count x ys) here,
     )
 
--- the link closes a ring
+-- the link closes a blossom
 pub can_shrink : (link : Link) (s : SearchValue) → CanStep s (Shrink link) → Shrinking link s.root s.tree
 can_shrink link s k =
     let i = k.can.search in

@@ -1,25 +1,25 @@
--- The ring that the loop closes.
+-- The blossom that the loop closes.
 use Rattle.std.proofs.Common.{◌≡◌, ℕ, ◌+◌, ◌%◌, ◌≤◌, List, [], ◌∷◌, ◌++◌, length, reverse, arith, refl, sym, ap, subst, ◌∙◌, ◌<◌}
 use Rattle.std.proofs.lemmas.List.{append-nil}
 use Rattle.blossom_match.specs.TableValue.{TableValue}
 use Rattle.blossom_match.specs.Lists.{Each}
 use Rattle.blossom_match.specs.Bands.{Adds, Band, NestValue, Kept, bands, count}
-use Rattle.blossom_match.specs.Rings.{members_in, bands_in, IsRing}
-use Rattle.blossom_match.specs.RingRows.{HaveRows}
+use Rattle.blossom_match.specs.Blossoms.{members_in, bands_in, IsBlossom}
+use Rattle.blossom_match.specs.BlossomRows.{HaveRows}
 use Rattle.blossom_match.specs.Sound.{IsFirm, IsSound, IsFirmPart}
 use Rattle.blossom_match.specs.Trees.{both, outer_members, inner_members, outer_sets, IsGrown}
-use Rattle.blossom_match.specs.Shrinks.{part_of, ring_value, Closable, Shrinking, Shrinks, Chaining}
+use Rattle.blossom_match.specs.Shrinks.{part_of, blossom_value, Closable, Shrinking, Shrinks, Chaining}
 use Rattle.blossom_match.specs.declared.nest.Link.{Link}
 use Rattle.blossom_match.specs.Values.{BranchValue, PartValue}
 use Rattle.blossom_match.proofs.ListLemmas.{each-append, each-left, each-last, each-map}
 use Rattle.blossom_match.proofs.SumLemmas.{adds_none, bands-append, bands_push, count-append, members-append, members_push, size-append, some_member}
-use Rattle.blossom_match.proofs.ClosingLemmas.{chain_closes, ring_sound, tree_even}
+use Rattle.blossom_match.proofs.ClosingLemmas.{chain_closes, blossom_sound, tree_even}
 use Rattle.blossom_match.proofs.TreeLemmas.{last_of, grown_more, grown-append}
 use Rattle.blossom_match.proofs.ChainLemmas.{around_append}
 
-pub ring_from : (top : NestValue) (way : Link) (chain : List PartValue) (to : ℕ) → Closable top way chain to → Kept top
-    → IsRing (part_of top way ∷ chain)
-ring_from top way chain to c kt = record {
+pub blossom_from : (top : NestValue) (way : Link) (chain : List PartValue) (to : ℕ) → Closable top way chain to → Kept top
+    → IsBlossom (part_of top way ∷ chain)
+blossom_from top way chain to c kt = record {
   odd = omega (arith, c.even);
   three = omega (arith, c.even, c.some);
   linked = chain_closes (part_of top way) chain to c.leads c.from c.back;
@@ -95,18 +95,19 @@ closable_root link root tree (b ∷ bs) chain aside way to sh c none = absurd (o
 abbrev with_outer : BranchValue → NestValue → BranchValue
 with_outer b s = record { up = b.up; inner = b.inner; pair = b.pair; outer = s }
 
-ring_sums : (F : List Band → ℕ) → Adds F → (key : ℕ) (top : NestValue) (way : Link) (chain : List PartValue) (ring : NestValue) → ring
-    ≡ ring_value key top way chain →
-    F (bands ring) ≡ F (bands top) + F (bands_in chain) + F (record {
+blossom_sums : (F : List Band → ℕ) → Adds F → (key : ℕ) (top : NestValue) (way : Link) (chain : List PartValue) (blossom : NestValue)
+    → blossom
+    ≡ blossom_value key top way chain →
+    F (bands blossom) ≡ F (bands top) + F (bands_in chain) + F (record {
       key = key;
       members = members_in (part_of top way ∷ chain);
-      width = 0;
+      dual = 0;
     } ∷ [])
-ring_sums F add key top way chain ring e =
+blossom_sums F add key top way chain blossom e =
     omega (
       arith,
       ap (λ (s : NestValue). F (bands s)) e,
-      add (record { key = key; members = members_in (part_of top way ∷ chain); width = 0 } ∷ [])
+      add (record { key = key; members = members_in (part_of top way ∷ chain); dual = 0 } ∷ [])
           (bands_in (part_of top way ∷ chain)),
       add,
     )
@@ -122,19 +123,19 @@ two_even d h root tree g s f x y hx hy =
     tree g f (λ k here. s.even r.0 k r.1 here) z hz in
     omega (arith, at x hx, at y hy)
 
-pub closed_inside : (key : ℕ) (link : Link) (root ring : NestValue) (tree left bs mid new : List BranchValue) (b : BranchValue)
+pub closed_inside : (key : ℕ) (link : Link) (root blossom : NestValue) (tree left bs mid new : List BranchValue) (b : BranchValue)
     (chain : List PartValue)
     (aside : List BranchValue) (way : Link) (to : ℕ) →
     Shrinking link root tree → Chaining link root tree left chain aside way to → left ≡ bs ++ b ∷ [] → Closable b.outer way chain to
-    → Kept b.outer → ring ≡ ring_value key b.outer way chain →
-    mid ≡ bs ++ with_outer b ring ∷ [] → new ≡ mid ++ reverse aside → Shrinks key link root root tree new
-closed_inside key link root ring tree left bs mid new b chain aside way to sh c e cl kb closes m n =
+    → Kept b.outer → blossom ≡ blossom_value key b.outer way chain →
+    mid ≡ bs ++ with_outer b blossom ∷ [] → new ≡ mid ++ reverse aside → Shrinks key link root root tree new
+closed_inside key link root blossom tree left bs mid new b chain aside way to sh c e cl kb closes m n =
     let c = subst (λ (ks : List BranchValue). Chaining link root tree ks chain aside way to) e c in
     let l = last_of root.members bs b c.grown in
     let parts = part_of b.outer way ∷ chain in
     let q = λ (x : ℕ). count-append x b.outer.members (members_in chain) in
     let r = λ (x : ℕ). ap (λ (s : NestValue). count x s.members) closes ∙ q x in
-    let b2 = with_outer b ring in
+    let b2 = with_outer b blossom in
     let sizes = λ (ks : List Band). length ks in
     let made : IsGrown root.members (bs ++ b2 ∷ []) = grown-append root.members bs (b2 ∷ []) l.grown
     (l.above, l.up_to, l.pair_from, omega (arith, l.pair_to, r b.pair.to, members_push, c.once b.pair.to, c.places b.pair.to), tt) in
@@ -145,11 +146,18 @@ closed_inside key link root ring tree left bs mid new b chain aside way to sh c 
     subst (λ (ks : List BranchValue). Shrinks key link root root tree ks) (sym is) (record {
       grown = grown-append root.members (bs ++ b2 ∷ []) (reverse aside) made hung;
       places = λ x. omega (arith, members-append, members_push, r x, c.places x);
-      ring = members_in parts;
-      sums = λ F add. omega (arith, bands-append F add, bands_push F add, c.sums F add, ring_sums F add key b.outer way chain ring closes);
+      blossom = members_in parts;
+      sums = λ F add. omega (
+        arith,
+        bands-append F add,
+        bands_push F add,
+        c.sums F add,
+        blossom_sums F add key b.outer way chain blossom
+            closes,
+      );
       fewer = omega (arith, bands-append sizes size-append, bands_push sizes size-append, c.fewer, cl.some);
       firm = λ d h sy w s t. let u = c.firm d h sy w t in let f = each-last (IsFirm d h) bs b u.0 in
-          let sound = ring_sound d h key (part_of b.outer way) chain (ring_from b.outer way chain to cl kb)
+          let sound = blossom_sound d h key (part_of b.outer way) chain (blossom_from b.outer way chain to cl kb)
           (λ x. omega (arith, q x, members_push, c.once x, c.places x))
           (record { next = u.3; nest = f.outer }, u.2)
           (λ x y hx hy. two_even d h root tree sh.grown s t x y (omega (arith, hx, q x, members_push, c.places x))
@@ -163,24 +171,24 @@ closed_inside key link root ring tree left bs mid new b chain aside way to sh c 
           );
     })
 
-at_the_root : (key : ℕ) (link : Link) (root ring : NestValue) (tree new : List BranchValue) (chain : List PartValue)
+at_the_root : (key : ℕ) (link : Link) (root blossom : NestValue) (tree new : List BranchValue) (chain : List PartValue)
     (aside : List BranchValue) (way : Link) (to : ℕ)
     →
-    Shrinking link root tree → Chaining link root tree [] chain aside way to → Closable root way chain to → Kept root → ring
-    ≡ ring_value key root way chain →
-    new ≡ reverse aside → Shrinks key link root ring tree new
-at_the_root key link root ring tree new chain aside way to sh c cl kr closes n =
+    Shrinking link root tree → Chaining link root tree [] chain aside way to → Closable root way chain to → Kept root → blossom
+    ≡ blossom_value key root way chain →
+    new ≡ reverse aside → Shrinks key link root blossom tree new
+at_the_root key link root blossom tree new chain aside way to sh c cl kr closes n =
     let q = λ (x : ℕ). count-append x root.members (members_in chain) in
     let r = λ (x : ℕ). ap (λ (s : NestValue). count x s.members) closes ∙ q x in
-    subst (λ (ks : List BranchValue). Shrinks key link root ring tree ks) (sym n) (record {
-      grown = grown_more (members_in chain ++ root.members) ring.members (reverse aside)
+    subst (λ (ks : List BranchValue). Shrinks key link root blossom tree ks) (sym n) (record {
+      grown = grown_more (members_in chain ++ root.members) blossom.members (reverse aside)
           (λ x. omega (arith, r x, count-append)) c.hung;
-      places = λ x. omega (arith, members-append outer_sets x ring.members [] (reverse aside), r x, c.places x);
-      ring = members_in (part_of root way ∷ chain);
-      sums = λ F add. omega (arith, c.sums F add, adds_none F add, ring_sums F add key root way chain ring closes);
+      places = λ x. omega (arith, members-append outer_sets x blossom.members [] (reverse aside), r x, c.places x);
+      blossom = members_in (part_of root way ∷ chain);
+      sums = λ F add. omega (arith, c.sums F add, adds_none F add, blossom_sums F add key root way chain blossom closes);
       fewer = omega (arith, c.fewer, cl.some);
       firm = λ d h sy w s t. let u = c.firm d h sy w t in
-          let sound = ring_sound d h key (part_of root way) chain (ring_from root way chain to cl kr)
+          let sound = blossom_sound d h key (part_of root way) chain (blossom_from root way chain to cl kr)
           (λ x. omega (arith, q x, c.once x, c.places x))
           (record { next = u.3; nest = s }, u.2)
           (λ x y hx hy. two_even d h root tree sh.grown s t x y (omega (arith, hx, q x, c.places x)) (omega (arith, hy, q y, c.places y)))
@@ -192,14 +200,15 @@ empty_left : (left rest : List BranchValue) (none : List BranchValue) → length
 empty_left left [] none zero_left e = refl
 empty_left left (b ∷ bs) none zero_left e = absurd (omega (arith, ap (λ (ks : List BranchValue). length ks) e))
 
-pub closed_root : (key : ℕ) (link : Link) (root ring : NestValue) (tree left rest none : List BranchValue) (new : List BranchValue)
+pub closed_root : (key : ℕ) (link : Link) (root blossom : NestValue) (tree left rest none : List BranchValue) (new : List BranchValue)
     (chain : List PartValue)
     (aside : List BranchValue) (way : Link) (to : ℕ) (top : NestValue) → top ≡ root →
-    Shrinking link root tree → Chaining link root tree left chain aside way to → length left ≡ 0 → ring ≡ ring_value key top way chain →
-    left ≡ rest ++ none → new ≡ rest ++ reverse aside → Shrinks key link root ring tree new
-closed_root key link root ring tree [] rest none new chain aside way to top e sh c zero_left closes m n =
-    at_the_root key link root ring tree new chain aside way to sh c
+    Shrinking link root tree → Chaining link root tree left chain aside way to → length left ≡ 0
+    → blossom ≡ blossom_value key top way chain →
+    left ≡ rest ++ none → new ≡ rest ++ reverse aside → Shrinks key link root blossom tree new
+closed_root key link root blossom tree [] rest none new chain aside way to top e sh c zero_left closes m n =
+    at_the_root key link root blossom tree new chain aside way to sh c
     (closable_root link root tree [] chain aside way to sh c zero_left) sh.sound.kept
-    (closes ∙ ap (λ (s : NestValue). ring_value key s way chain) e)
+    (closes ∙ ap (λ (s : NestValue). blossom_value key s way chain) e)
     (n ∙ ap (λ (ks : List BranchValue). ks ++ reverse aside) (empty_left [] rest none zero_left m))
-closed_root key link root ring tree (b ∷ bs) rest none new chain aside way to top e sh c zero_left closes m n = absurd (omega arith)
+closed_root key link root blossom tree (b ∷ bs) rest none new chain aside way to top e sh c zero_left closes m n = absurd (omega arith)

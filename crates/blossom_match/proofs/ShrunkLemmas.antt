@@ -1,15 +1,15 @@
--- The slot of a ring that closes.
+-- The slot of a blossom that closes.
 use Rattle.std.proofs.Common.{◌≡◌, ℕ, ◌+◌, List, [], ◌∷◌, ◌++◌, length, reverse, arith, length-append, refl, sym, ap, subst, ◌∙◌}
 use Rattle.std.proofs.lemmas.List.{length-map, map-append}
 use Rattle.blossom_match.specs.Lists.{Each}
 use Rattle.blossom_match.specs.Bands.{NestValue, Kept, bands, uses}
-use Rattle.blossom_match.specs.Couples.{couple_bands}
-use Rattle.blossom_match.specs.Rings.{bands_in}
-use Rattle.blossom_match.specs.Shrinks.{branch_of, part_of, ring_value, Chaining, Closable, Shrinking, Shrinks}
+use Rattle.blossom_match.specs.Matches.{match_bands}
+use Rattle.blossom_match.specs.Blossoms.{bands_in}
+use Rattle.blossom_match.specs.Shrinks.{branch_of, part_of, blossom_value, Chaining, Closable, Shrinking, Shrinks}
 use Rattle.blossom_match.specs.Slots.{branch_in, branches_in, parts_in, set_in, AreSets, Inserts, Slots}
 use Rattle.blossom_match.specs.Sound.{IsFirm}
 use Rattle.blossom_match.specs.Trees.{all_bands, branch_bands, branch_sets}
-use Rattle.blossom_match.specs.Values.{BranchValue, CoupleValue, PartValue}
+use Rattle.blossom_match.specs.Values.{BranchValue, MatchValue, PartValue}
 use Rattle.blossom_match.specs.declared.nest.Link.{Link}
 use Rattle.blossom_match.specs.declared.nest.Seat.{Seat}
 use Rattle.blossom_match.specs.declared.nest.Part.{Part}
@@ -20,13 +20,13 @@ use Rattle.blossom_match.proofs.SlotLemmas.{inserted_keeps, keep_branches, keep_
 use Rattle.blossom_match.proofs.ShrinkLemmas.{closed_inside, closed_root}
 
 -- a key in the sets of a search
-pub all_uses : (k : ℕ) (root : NestValue) (tree : List BranchValue) (rest : List CoupleValue) → uses k (all_bands root tree rest)
-    ≡ uses k (bands root) + uses k (branch_bands tree) + uses k (couple_bands rest)
+pub all_uses : (k : ℕ) (root : NestValue) (tree : List BranchValue) (rest : List MatchValue) → uses k (all_bands root tree rest)
+    ≡ uses k (bands root) + uses k (branch_bands tree) + uses k (match_bands rest)
 all_uses k root tree rest =
     omega (
       arith,
-      uses-append k (bands root) (branch_bands tree ++ couple_bands rest),
-      uses-append k (branch_bands tree) (couple_bands rest),
+      uses-append k (bands root) (branch_bands tree ++ match_bands rest),
+      uses-append k (branch_bands tree) (match_bands rest),
     )
 
 -- what the sets of the last branch keep
@@ -38,11 +38,11 @@ last_kept link root tree left bs b chain aside way to sh c e =
     let last = each-last (IsFirm sh.t sh.h) bs b firm in
     (last.inner.kept, last.outer.kept)
 
--- the sets of a ring that closes
-pub ring_sets : (sets : Slots) (link : Link) (root : NestValue) (tree left bs : List BranchValue) (b : BranchValue)
+-- the sets of a blossom that closes
+pub blossom_sets : (sets : Slots) (link : Link) (root : NestValue) (tree left bs : List BranchValue) (b : BranchValue)
     (chain : List PartValue) (aside : List BranchValue) (way : Link) (to : ℕ) → Chaining link root tree left chain aside way to
     → left ≡ bs ++ b ∷ [] → AreSets sets (all_bands root tree []) → AreSets sets (bands_in (part_of b.outer way ∷ chain))
-ring_sets sets link root tree left bs b chain aside way to c e are =
+blossom_sets sets link root tree left bs b chain aside way to c e are =
     sets_fewer sets (all_bands root tree []) (bands_in (part_of b.outer way ∷ chain)) are (λ k. omega (
       arith,
       all_uses k root tree [],
@@ -64,33 +64,33 @@ root_sets sets link root tree left chain aside way to c are =
     ))
 
 module _ (old new : Slots) (link : Link) (root : Seat) (tree : List Branch) (left bs aside : List Branch)
-    (chain : List Part) (way : Link) (to : ℕ) (ring : Seat) where
+    (chain : List Part) (way : Link) (to : ℕ) (blossom : Seat) where
   abbrev Goes : Type 0
   Goes = Chaining link (set_in old root) (branches_in old tree) (branches_in old left) (parts_in old chain) (branches_in old aside) way to
 
-  -- the ring is the outer set of the branch
+  -- the blossom is the outer set of the branch
   pub shrunk_inside : (b : Branch) (mid now : List Branch) → Shrinking link (set_in old root) (branches_in old tree) → Goes
       → branches_in old left ≡ branches_in old bs ++ branch_in old b ∷ [] → Closable (set_in old b.outer) way (parts_in old chain) to
-      → AreSets old (all_bands (set_in old root) (branches_in old tree) []) → Inserts old new ring.key
-      → set_in new ring ≡ ring_value ring.key (set_in old b.outer) way (parts_in old chain)
-      → mid ≡ bs ++ (record { up = b.up; inner = b.inner; pair = b.pair; outer = ring }) ∷ [] → now ≡ mid ++ reverse aside
-      → Shrinks ring.key link (set_in old root) (set_in new root) (branches_in old tree) (branches_in new now)
+      → AreSets old (all_bands (set_in old root) (branches_in old tree) []) → Inserts old new blossom.key
+      → set_in new blossom ≡ blossom_value blossom.key (set_in old b.outer) way (parts_in old chain)
+      → mid ≡ bs ++ (record { up = b.up; inner = b.inner; pair = b.pair; outer = blossom }) ∷ [] → now ≡ mid ++ reverse aside
+      → Shrinks blossom.key link (set_in old root) (set_in new root) (branches_in old tree) (branches_in new now)
   shrunk_inside b mid now sh c e cl are ins is m n =
       let last = branch_in old b in
-      let hung : Branch = record { up = b.up; inner = b.inner; pair = b.pair; outer = ring } in
+      let hung : Branch = record { up = b.up; inner = b.inner; pair = b.pair; outer = blossom } in
       let back = reverse (branches_in old aside) in
       let turned = mapped_reverse (branch_in old) aside in
       let count = λ (k : ℕ). all_uses k (set_in old root) (branches_in old tree) [] in
       let sum = λ (k : ℕ). c.sums (uses k) (uses-append k) in
       let push = λ (k : ℕ). bands_push (uses k) (uses-append k) BranchValue branch_sets (branches_in old bs) last in
       let at = λ (k : ℕ). ap (λ (ks : List BranchValue). uses k (branch_bands ks)) e in
-      let r = keep_seat old new root (inserted_keeps old new ring.key (bands (set_in old root)) ins.fresh ins.others
+      let r = keep_seat old new root (inserted_keeps old new blossom.key (bands (set_in old root)) ins.fresh ins.others
       (λ k u. are.each k (omega (arith, u, count k)))) in
-      let i = keep_seat old new b.inner (inserted_keeps old new ring.key (bands (set_in old b.inner)) ins.fresh ins.others
+      let i = keep_seat old new b.inner (inserted_keeps old new blossom.key (bands (set_in old b.inner)) ins.fresh ins.others
       (λ k u. are.each k (omega (arith, u, count k, sum k, push k, at k)))) in
-      let s = keep_branches old new bs (inserted_keeps old new ring.key (branch_bands (branches_in old bs)) ins.fresh ins.others
+      let s = keep_branches old new bs (inserted_keeps old new blossom.key (branch_bands (branches_in old bs)) ins.fresh ins.others
       (λ k u. are.each k (omega (arith, u, count k, sum k, push k, at k)))) in
-      let a = keep_branches old new (reverse aside) (inserted_keeps old new ring.key (branch_bands (branches_in old (reverse aside)))
+      let a = keep_branches old new (reverse aside) (inserted_keeps old new blossom.key (branch_bands (branches_in old (reverse aside)))
       ins.fresh
       ins.others (λ k u. are.each k (omega (
         arith,
@@ -100,29 +100,30 @@ module _ (old new : Slots) (link : Link) (root : Seat) (tree : List Branch) (lef
         ap (λ (ks : List BranchValue). uses k (branch_bands ks)) turned,
       )))) in
       let values : branches_in new now
-      ≡ (branches_in old bs ++ branch_of b.up last.inner b.pair (set_in new ring) ∷ []) ++ back =
+      ≡ (branches_in old bs ++ branch_of b.up last.inner b.pair (set_in new blossom) ∷ []) ++ back =
       ap (λ (ks : List Branch). branches_in new ks) (n ∙ ap (λ (ks : List Branch). ks ++ reverse aside) m)
       ∙ map-append (branch_in new) (bs ++ hung ∷ []) (reverse aside)
       ∙ ap (λ (ks : List BranchValue). ks ++ branches_in new (reverse aside)) (map-append (branch_in new) bs (hung ∷ []))
       ∙ ap (λ (ks : List BranchValue). (ks ++ branch_in new hung ∷ []) ++ branches_in new (reverse aside)) s.same
-      ∙ ap (λ (v : NestValue). (branches_in old bs ++ branch_of b.up v b.pair (set_in new ring) ∷ []) ++ branches_in new (reverse aside))
+      ∙ ap (λ (v : NestValue). (branches_in old bs ++ branch_of b.up v b.pair (set_in new blossom) ∷ []) ++ branches_in new (reverse aside))
       i.same
-      ∙ ap (λ (ks : List BranchValue). (branches_in old bs ++ branch_of b.up last.inner b.pair (set_in new ring) ∷ []) ++ ks)
+      ∙ ap (λ (ks : List BranchValue). (branches_in old bs ++ branch_of b.up last.inner b.pair (set_in new blossom) ∷ []) ++ ks)
       (a.same ∙ turned) in
-      subst (λ (v : NestValue). Shrinks ring.key link (set_in old root) v (branches_in old tree) (branches_in new now)) (sym r.same)
-      (closed_inside ring.key link (set_in old root) (set_in new ring) (branches_in old tree) (branches_in old left) (branches_in old bs)
-      (branches_in old bs ++ branch_of b.up last.inner b.pair (set_in new ring) ∷ []) (branches_in new now) last (parts_in old chain)
+      subst (λ (v : NestValue). Shrinks blossom.key link (set_in old root) v (branches_in old tree) (branches_in new now)) (sym r.same)
+      (closed_inside blossom.key link (set_in old root) (set_in new blossom) (branches_in old tree) (branches_in old left) (branches_in old
+      bs)
+      (branches_in old bs ++ branch_of b.up last.inner b.pair (set_in new blossom) ∷ []) (branches_in new now) last (parts_in old chain)
       (branches_in old aside) way to sh c e cl
       (last_kept link (set_in old root) (branches_in old tree) (branches_in old left) (branches_in old bs) last (parts_in old chain)
       (branches_in old aside) way to sh c e).1 is refl values)
 
-  -- the ring is the root
+  -- the blossom is the root
   pub shrunk_root : (rest nothing now : List Branch) → Shrinking link (set_in old root) (branches_in old tree) → Goes
       → length (branches_in old left) ≡ 0
-      → AreSets old (all_bands (set_in old root) (branches_in old tree) []) → Inserts old new ring.key
-      → set_in new ring ≡ ring_value ring.key (set_in old root) way (parts_in old chain)
+      → AreSets old (all_bands (set_in old root) (branches_in old tree) []) → Inserts old new blossom.key
+      → set_in new blossom ≡ blossom_value blossom.key (set_in old root) way (parts_in old chain)
       → left ≡ rest ++ nothing → now ≡ rest ++ reverse aside
-      → Shrinks ring.key link (set_in old root) (set_in new ring) (branches_in old tree) (branches_in new now)
+      → Shrinks blossom.key link (set_in old root) (set_in new blossom) (branches_in old tree) (branches_in new now)
   shrunk_root rest nothing now sh c none are ins is m n =
       let turned = mapped_reverse (branch_in old) aside in
       let empty : rest ≡ [] = none_left rest (omega (
@@ -132,7 +133,7 @@ module _ (old new : Slots) (link : Link) (root : Seat) (tree : List Branch) (lef
         ap (λ (ks : List Branch). length ks) m,
         length-append rest nothing,
       )) in
-      let a = keep_branches old new (reverse aside) (inserted_keeps old new ring.key (branch_bands (branches_in old (reverse aside)))
+      let a = keep_branches old new (reverse aside) (inserted_keeps old new blossom.key (branch_bands (branches_in old (reverse aside)))
       ins.fresh
       ins.others (λ k u. are.each k (omega (
         arith,
@@ -143,6 +144,6 @@ module _ (old new : Slots) (link : Link) (root : Seat) (tree : List Branch) (lef
       )))) in
       let values : branches_in new now ≡ reverse (branches_in old aside) =
       ap (λ (ks : List Branch). branches_in new ks) (n ∙ ap (λ (ks : List Branch). ks ++ reverse aside) empty) ∙ a.same ∙ turned in
-      closed_root ring.key link (set_in old root) (set_in new ring) (branches_in old tree) (branches_in old left) [] []
+      closed_root blossom.key link (set_in old root) (set_in new blossom) (branches_in old tree) (branches_in old left) [] []
       (branches_in new now)
       (parts_in old chain) (branches_in old aside) way to (set_in old root) refl sh c none is (none_left (branches_in old left) none) values

@@ -4,18 +4,18 @@ use Rattle.std.proofs.lemmas.Bool.{lt-ltb}
 use Rattle.slab.specs.Slab.{get, ContainsKey, Updates}
 use Rattle.blossom_match.specs.Lists.{Each}
 use Rattle.blossom_match.specs.Bands.{Band, NestValue, bands, hit, uses}
-use Rattle.blossom_match.specs.Couples.{couple_bands}
-use Rattle.blossom_match.specs.Rings.{members_in, bands_in, nest_of, AllKept, IsMade, IsRing}
-use Rattle.blossom_match.specs.RingRows.{ring_of, ring_row}
+use Rattle.blossom_match.specs.Matches.{match_bands}
+use Rattle.blossom_match.specs.Blossoms.{members_in, bands_in, nest_of, AllKept, IsMade, IsBlossom}
+use Rattle.blossom_match.specs.BlossomRows.{blossom_of, blossom_row}
 use Rattle.blossom_match.specs.Shrinks.{branch_of, part_of}
 use Rattle.blossom_match.specs.Trees.{branch_bands}
-use Rattle.blossom_match.specs.Values.{BranchValue, CoupleValue, PartValue}
-use Rattle.blossom_match.specs.Slots.{branch_in, branches_in, couple_in, couples_in, members_at, members_of, near_at, near_of, part_in, part_to, parts_at, parts_in, parts_of, set_in, with_inside, AreSets, Inserts, IsRowOf, IsSet, IsSetTo, KeepOthers, Slots}
+use Rattle.blossom_match.specs.Values.{BranchValue, MatchValue, PartValue}
+use Rattle.blossom_match.specs.Slots.{branch_in, branches_in, match_in, matches_in, members_at, members_of, near_at, near_of, part_in, part_to, parts_at, parts_in, parts_of, set_in, with_inside, AreSets, Inserts, IsRowOf, IsSet, IsSetTo, KeepOthers, Slots}
 use Rattle.blossom_match.specs.declared.nest.Link.{Link}
 use Rattle.blossom_match.specs.declared.nest.Seat.{Seat}
 use Rattle.blossom_match.specs.declared.nest.Part.{Part}
 use Rattle.blossom_match.specs.declared.nest.Slot.{Slot}
-use Rattle.blossom_match.specs.declared.couples.Couple.{Couple}
+use Rattle.blossom_match.specs.declared.matches.Match.{Match}
 use Rattle.blossom_match.specs.declared.branches.Branch.{Branch}
 use Rattle.blossom_match.proofs.ListLemmas.{each-map, each-mapped}
 use Rattle.blossom_match.proofs.SumLemmas.{hit_is, hit_same, uses-append}
@@ -68,9 +68,9 @@ levels (suc a) m sets k is low =
     (sizes sets (members_at sets k) (parts_at sets k) m is.1 low)
 
 made_to : (a : ℕ) (sets : Slots) (s : Seat) → IsSetTo a sets s.key
-    → set_in sets s ≡ nest_of s.key (members_at sets s.key) s.width (near_at sets s.key) (parts_in sets (parts_at sets s.key))
+    → set_in sets s ≡ nest_of s.key (members_at sets s.key) s.dual (near_at sets s.key) (parts_in sets (parts_at sets s.key))
 made_to a sets s is =
-    ap (λ (ps : List PartValue). nest_of s.key (members_at sets s.key) s.width (near_at sets s.key) ps)
+    ap (λ (ps : List PartValue). nest_of s.key (members_at sets s.key) s.dual (near_at sets s.key) ps)
     (levels a (length (members_at sets s.key)) sets s.key is (omega arith))
 
 made_some : (ms : List ℕ) (ps : List PartValue) → IsMade ms ps → 1 ≤ length ms
@@ -103,7 +103,7 @@ levels_of sets k is = is.to (length (members_at sets k)) (omega arith)
 
 -- a set by its parts
 pub set_made : (sets : Slots) (s : Seat) → IsSet sets s.key
-    → set_in sets s ≡ nest_of s.key (members_at sets s.key) s.width (near_at sets s.key) (parts_in sets (parts_at sets s.key))
+    → set_in sets s ≡ nest_of s.key (members_at sets s.key) s.dual (near_at sets s.key) (parts_in sets (parts_at sets s.key))
 set_made sets s is = made_to (length (members_at sets s.key)) sets s (levels_of sets s.key is)
 
 made_at : (a : ℕ) (sets : Slots) (k : ℕ) → IsSetTo a sets k → IsMade (members_at sets k) (parts_in sets (parts_at sets k))
@@ -185,8 +185,8 @@ keeps_to (suc a) old new s is same =
     ) in (
       now,
       made_to (suc a) new s now
-          ∙ ap (λ (slot : Option Slot). nest_of k (members_of slot) s.width (near_of slot) (parts_in new (parts_of slot))) e
-          ∙ ap (λ (qs : List PartValue). nest_of k (members_at old k) s.width (near_at old k) qs) parts.1 ∙ sym made,
+          ∙ ap (λ (slot : Option Slot). nest_of k (members_of slot) s.dual (near_of slot) (parts_in new (parts_of slot))) e
+          ∙ ap (λ (qs : List PartValue). nest_of k (members_at old k) s.dual (near_at old k) qs) parts.1 ∙ sym made,
     )
 
 pub set_kept : (old new : Slots) (s : Seat) → IsSet old s.key → ((j : ℕ) → 1 ≤ uses j (bands (set_in old s)) → get new j ≡ get old j)
@@ -257,28 +257,28 @@ keep_parts old new (p ∷ ps) c =
       same = ap (λ (v : NestValue). part_of v p.next ∷ parts_in new ps) k.same ∙ ap (λ (qs : List PartValue). part_in old p ∷ qs) rest.same;
     }
 
-pub record CouplesKept (old new : Slots) (cs : List Couple) : Type 0 where
-  pub kept : AreKept old new (couple_bands (couples_in old cs))
-  pub same : couples_in new cs ≡ couples_in old cs
+pub record MatchesKept (old new : Slots) (cs : List Match) : Type 0 where
+  pub kept : AreKept old new (match_bands (matches_in old cs))
+  pub same : matches_in new cs ≡ matches_in old cs
 
-abbrev couple_of : NestValue → NestValue → Link → CoupleValue
-couple_of first second link = record { first = first; second = second; link = link }
+abbrev match_of : NestValue → NestValue → Link → MatchValue
+match_of first second link = record { first = first; second = second; link = link }
 
-pub keep_couples : (old new : Slots) (cs : List Couple) → CanKeep old new (couple_bands (couples_in old cs)) → CouplesKept old new cs
-keep_couples old new [] c = record { kept = record { sets = λ j u. absurd (omega arith) }; same = refl }
-keep_couples old new (k ∷ cs) c =
+pub keep_matches : (old new : Slots) (cs : List Match) → CanKeep old new (match_bands (matches_in old cs)) → MatchesKept old new cs
+keep_matches old new [] c = record { kept = record { sets = λ j u. absurd (omega arith) }; same = refl }
+keep_matches old new (k ∷ cs) c =
     let one = bands (set_in old k.first) in
     let two = bands (set_in old k.second) in
-    let later = couple_bands (couples_in old cs) in
+    let later = match_bands (matches_in old cs) in
     let after = can_right old new one (two ++ later) c in
     let a = keep_seat old new k.first (can_left old new one (two ++ later) c) in
     let b = keep_seat old new k.second (can_left old new two later after) in
-    let rest = keep_couples old new cs (can_right old new two later after) in
+    let rest = keep_matches old new cs (can_right old new two later after) in
     record {
       kept = kept_append old new one (two ++ later) a.kept (kept_append old new two later b.kept rest.kept);
-      same = ap (λ (v : NestValue). couple_of v (set_in new k.second) k.link ∷ couples_in new cs) a.same
-          ∙ ap (λ (v : NestValue). couple_of (set_in old k.first) v k.link ∷ couples_in new cs) b.same
-          ∙ ap (λ (ks : List CoupleValue). couple_in old k ∷ ks) rest.same;
+      same = ap (λ (v : NestValue). match_of v (set_in new k.second) k.link ∷ matches_in new cs) a.same
+          ∙ ap (λ (v : NestValue). match_of (set_in old k.first) v k.link ∷ matches_in new cs) b.same
+          ∙ ap (λ (ks : List MatchValue). match_in old k ∷ ks) rest.same;
     }
 
 pub record BranchesKept (old new : Slots) (bs : List Branch) : Type 0 where
@@ -338,29 +338,30 @@ each_set old new (p ∷ ps) sets =
       each_set old new ps (λ j u. sets j (omega (arith, u, sum j))),
     )
 
-ring_made : (ms : List ℕ) (ps : List PartValue) → ms ≡ members_in ps → IsRing ps → IsMade ms ps
-ring_made ms [] same ring = absurd (omega (arith, ring.three))
-ring_made ms (p ∷ ps) same ring = (same, ring)
+blossom_made : (ms : List ℕ) (ps : List PartValue) → ms ≡ members_in ps → IsBlossom ps → IsMade ms ps
+blossom_made ms [] same blossom = absurd (omega (arith, blossom.three))
+blossom_made ms (p ∷ ps) same blossom = (same, blossom)
 
-row_made : (near : List ℕ) (ps : List PartValue) → near ≡ ring_row ps → IsRowOf near ps
+row_made : (near : List ℕ) (ps : List PartValue) → near ≡ blossom_row ps → IsRowOf near ps
 row_made near [] same = tt
 row_made near (p ∷ ps) same = same
 
--- a ring's slot beside those of its parts
-pub record RingMore (old new : Slots) (key : ℕ) (parts : List Part) : Type 0 where
+-- a blossom's slot beside those of its parts
+pub record BlossomMore (old new : Slots) (key : ℕ) (parts : List Part) : Type 0 where
   pub inserts : Inserts old new key
-  pub same : set_in new (record { key = key; width = 0 }) ≡ ring_of key (parts_in old parts)
+  pub same : set_in new (record { key = key; dual = 0 }) ≡ blossom_of key (parts_in old parts)
 
-pub ring_more : (old new : Slots) (key : ℕ) (slot : Slot) → get old key ≡ None → Updates old new key (Some slot)
-    → AreSets old (bands_in (parts_in old slot.parts.items)) → IsRing (parts_in old slot.parts.items)
-    → slot.members.items ≡ members_in (parts_in old slot.parts.items) → slot.near.items ≡ ring_row (parts_in old slot.parts.items)
-    → RingMore old new key slot.parts.items
-ring_more old new key slot fresh up sets ring ms near =
+pub blossom_more : (old new : Slots) (key : ℕ) (slot : Slot) → get old key ≡ None → Updates old new key (Some slot)
+    → AreSets old (bands_in (parts_in old slot.parts.items)) → IsBlossom (parts_in old slot.parts.items)
+    → slot.members.items ≡ members_in (parts_in old slot.parts.items) → slot.near.items ≡ blossom_row (parts_in old slot.parts.items)
+    → BlossomMore old new key slot.parts.items
+blossom_more old new key slot fresh up sets blossom ms near =
     let ps = slot.parts.items in
-    let seat : Seat = record { key = key; width = 0 } in
+    let seat : Seat = record { key = key; dual = 0 } in
     let k = keep_parts old new ps (inserted_keeps old new key (bands_in (parts_in old ps)) fresh up.others sets.each) in
     let made : IsMade slot.members.items (parts_in new ps) =
-    subst (λ (qs : List PartValue). IsMade slot.members.items qs) (sym k.same) (ring_made slot.members.items (parts_in old ps) ms ring) in
+    subst (λ (qs : List PartValue). IsMade slot.members.items qs) (sym k.same) (blossom_made slot.members.items (parts_in old ps) ms
+    blossom) in
     let m = length slot.members.items in
     let each = each_both (λ (p : Part). IsSet new p.seat.key) (λ (p : Part). length (members_at new p.seat.key) < m)
     (λ (p : Part). IsSetTo m new p.seat.key) (λ p set less. set.to m (omega (arith, less))) ps
@@ -375,7 +376,7 @@ ring_more old new key slot fresh up sets ring ms near =
           ∙ ap (λ (o : Option Slot). nest_of key (members_of o) 0 (near_of o) (parts_in new (parts_of o))) up.changed
           ∙ ap (λ (xs : List ℕ). nest_of key xs 0 slot.near.items (parts_in new ps)) ms
           ∙ ap (λ (xs : List ℕ). nest_of key (members_in (parts_in old ps)) 0 xs (parts_in new ps)) near
-          ∙ ap (λ (qs : List PartValue). nest_of key (members_in (parts_in old ps)) 0 (ring_row (parts_in old ps)) qs) k.same;
+          ∙ ap (λ (qs : List PartValue). nest_of key (members_in (parts_in old ps)) 0 (blossom_row (parts_in old ps)) qs) k.same;
     }
 
 -- fewer sets
@@ -395,5 +396,5 @@ set_of sets s a = a.each s.key (omega (arith, hit_same s.key))
 -- a set stays one where there is a key more
 pub set_more : (old new : Slots) (key k : ℕ) → get old key ≡ None → KeepOthers old new key → IsSet old k → IsSet new k
 set_more old new key k fresh others is =
-    let s : Seat = record { key = k; width = 0 } in
+    let s : Seat = record { key = k; dual = 0 } in
     (set_kept old new s is (λ j u. others j (λ e. no_slot old j key (has_slot old j (inside old s j is u)) e fresh))).set

@@ -15,13 +15,13 @@ count-append x [] ys = omega arith
 count-append x (y ∷ xs) ys = omega (arith, count-append x xs ys)
 
 pub height-append : (x : ℕ) (xs ys : List Band) → height x (xs ++ ys) ≡ height x xs + height x ys
-height-append x xs ys = sum_over-append (λ (b : Band). b.width * count x b.members) xs ys
+height-append x xs ys = sum_over-append (λ (b : Band). b.dual * count x b.members) xs ys
 
 pub total-append : (xs ys : List Band) → total (xs ++ ys) ≡ total xs + total ys
-total-append xs ys = sum_over-append (λ (b : Band). b.width) xs ys
+total-append xs ys = sum_over-append (λ (b : Band). b.dual) xs ys
 
 pub load-append : (a b : ℕ) (xs ys : List Band) → load a b (xs ++ ys) ≡ load a b xs + load a b ys
-load-append a b xs ys = sum_over-append (λ (s : Band). s.width * apart (count a s.members) (count b s.members)) xs ys
+load-append a b xs ys = sum_over-append (λ (s : Band). s.dual * apart (count a s.members) (count b s.members)) xs ys
 
 pub uses-append : (k : ℕ) (xs ys : List Band) → uses k (xs ++ ys) ≡ uses k xs + uses k ys
 uses-append k xs ys = sum_over-append (λ (b : Band). hit k b.key) xs ys
@@ -46,16 +46,16 @@ pub load-comm : (a b : ℕ) (bs : List Band) → load a b bs ≡ load b a bs
 load-comm a b [] = refl
 load-comm a b (s ∷ bs) =
     let e : apart (count a s.members) (count b s.members) ≡ apart (count b s.members) (count a s.members) = omega arith in
-    omega (arith, load-comm a b bs, ap (λ (k : ℕ). s.width * k) e)
+    omega (arith, load-comm a b bs, ap (λ (k : ℕ). s.dual * k) e)
 
 -- where no set holds b, the load is the height of a
 pub load_alone : (a b : ℕ) (bs : List Band) → NoneHold b bs → load a b bs ≡ height a bs
 load_alone a b [] none = refl
-load_alone a b (s ∷ bs) none = rw none.0 (omega (arith, load_alone a b bs none.1, one_side s.width (count a s.members)))
+load_alone a b (s ∷ bs) none = rw none.0 (omega (arith, load_alone a b bs none.1, one_side s.dual (count a s.members)))
 
 pub load_other : (a b : ℕ) (bs : List Band) → NoneHold a bs → load a b bs ≡ height b bs
 load_other a b [] none = refl
-load_other a b (s ∷ bs) none = rw none.0 (omega (arith, load_other a b bs none.1, other_side s.width (count b s.members)))
+load_other a b (s ∷ bs) none = rw none.0 (omega (arith, load_other a b bs none.1, other_side s.dual (count b s.members)))
 
 -- a place that is no member is in no set of the set
 pub none_hold : (x : ℕ) (s : NestValue) → Kept s → count x s.members ≡ 0 → NoneHold x (bands s)

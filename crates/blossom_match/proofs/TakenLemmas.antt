@@ -3,44 +3,44 @@ use Rattle.std.proofs.Common.{◌≡◌, ℕ, ◌+◌, ◌*◌, ◌≤◌, ◌<�
 use Rattle.std.proofs.lemmas.List.{append-nil}
 use Rattle.blossom_match.specs.Lists.{Each}
 use Rattle.blossom_match.specs.Bands.{Adds, NestValue, Band, bands, count, load, total, uses}
-use Rattle.blossom_match.specs.Couples.{couple_members, couple_bands, IsJoined}
+use Rattle.blossom_match.specs.Matches.{match_members, match_bands, IsJoined}
 use Rattle.blossom_match.specs.Opens.{OpensAt}
 use Rattle.blossom_match.specs.Matchings.{load_on, width_of}
-use Rattle.blossom_match.specs.Taken.{own_moat, TakesNest, TakesCouples, Taking}
-use Rattle.blossom_match.specs.Values.{CoupleValue}
+use Rattle.blossom_match.specs.Taken.{own_moat, TakesNest, TakesMatches, Taking}
+use Rattle.blossom_match.specs.Values.{MatchValue}
 use Rattle.blossom_match.specs.declared.matching.Moat.{Moat}
 use Rattle.blossom_match.specs.declared.matching.Pair.{Pair}
 use Rattle.blossom_match.proofs.SumLemmas.{count-append, hit_same, load-append, size-append, total-append, uses-append}
 use Rattle.blossom_match.proofs.MoatLemmas.{cost_push, ends_push, lie_both, lie_more, lie_none, lie_own, load_own, width_own}
 
-places_of : (x : ℕ) (c : CoupleValue) (rest : List CoupleValue) → count x (couple_members (c ∷ rest))
-    ≡ count x c.first.members + count x c.second.members + count x (couple_members rest)
+places_of : (x : ℕ) (c : MatchValue) (rest : List MatchValue) → count x (match_members (c ∷ rest))
+    ≡ count x c.first.members + count x c.second.members + count x (match_members rest)
 places_of x c rest = omega (arith, count-append)
 
-sum_of : (F : List Band → ℕ) → Adds F → (c : CoupleValue) (rest : List CoupleValue) → F (couple_bands (c ∷ rest))
-    ≡ F (bands c.first) + F (bands c.second) + F (couple_bands rest)
+sum_of : (F : List Band → ℕ) → Adds F → (c : MatchValue) (rest : List MatchValue) → F (match_bands (c ∷ rest))
+    ≡ F (bands c.first) + F (bands c.second) + F (match_bands rest)
 sum_of F add c rest = omega (arith, add)
 
-total_of : (c : CoupleValue) (rest : List CoupleValue) → total (couple_bands (c ∷ rest))
-    ≡ total (bands c.first) + total (bands c.second) + total (couple_bands rest)
+total_of : (c : MatchValue) (rest : List MatchValue) → total (match_bands (c ∷ rest))
+    ≡ total (bands c.first) + total (bands c.second) + total (match_bands rest)
 total_of c rest = sum_of total total-append c rest
 
-sizes_of : (c : CoupleValue) (rest : List CoupleValue) → length (couple_bands (c ∷ rest))
-    ≡ length (bands c.first) + length (bands c.second) + length (couple_bands rest)
+sizes_of : (c : MatchValue) (rest : List MatchValue) → length (match_bands (c ∷ rest))
+    ≡ length (bands c.first) + length (bands c.second) + length (match_bands rest)
 sizes_of c rest = sum_of (λ (bs : List Band). length bs) size-append c rest
 
-pub record Head (c : CoupleValue) (all : List CoupleValue) : Type 0 where
+pub record Head (c : MatchValue) (all : List MatchValue) : Type 0 where
   pub from : count c.link.from c.first.members ≡ 1
   pub to : count c.link.to c.second.members ≡ 1
   pub once_first : (x : ℕ) → count x c.first.members ≤ 1
   pub once_second : (x : ℕ) → count x c.second.members ≤ 1
-  pub size_first : length (bands c.first) ≤ length (couple_bands all)
-  pub size_second : length (bands c.second) ≤ length (couple_bands all)
+  pub size_first : length (bands c.first) ≤ length (match_bands all)
+  pub size_second : length (bands c.second) ≤ length (match_bands all)
 
-pub head_of : (all left : List CoupleValue) (old now : List Pair) (was so_far : List Moat) (c : CoupleValue) (rest : List CoupleValue) →
+pub head_of : (all left : List MatchValue) (old now : List Pair) (was so_far : List Moat) (c : MatchValue) (rest : List MatchValue) →
     Taking all left old now was so_far → left ≡ c ∷ rest → Head c all
 head_of all left old now was so_far c rest taking e =
-    let t = subst (λ (l : List CoupleValue). Taking all l old now was so_far) e taking in
+    let t = subst (λ (l : List MatchValue). Taking all l old now was so_far) e taking in
     record {
       from = t.joined.0.from;
       to = t.joined.0.to;
@@ -55,12 +55,12 @@ joined_lists was a b c x y z e f g =
     g ∙ ap (λ (k : List Moat). k ++ z) (f ∙ ap (λ (k : List Moat). k ++ y) e ∙ append_assoc was x y) ∙ append_assoc was (x ++ y) z
     ∙ ap (λ (k : List Moat). was ++ k) (append_assoc x y z)
 
-pub taking_more : (all left : List CoupleValue) (old now mid end new : List Pair) (was a b z : List Moat) (c : CoupleValue)
-    (rest : List CoupleValue) →
+pub taking_more : (all left : List MatchValue) (old now mid end new : List Pair) (was a b z : List Moat) (c : MatchValue)
+    (rest : List MatchValue) →
     Taking all left old now was a → left ≡ c ∷ rest → TakesNest c.link.from c.first now mid a b → TakesNest c.link.to c.second mid end b z →
     new ≡ end ++ record { a = c.link.from; b = c.link.to } ∷ [] → Taking all rest old new was z
 taking_more all left old now mid end new was a b z c rest taking e one two pushed =
-    let t = subst (λ (l : List CoupleValue). Taking all l old now was a) e taking in
+    let t = subst (λ (l : List MatchValue). Taking all l old now was a) e taking in
     let both = c.first.members ++ c.second.members in
     record {
       joined = t.joined.1;
@@ -99,9 +99,9 @@ taking_more all left old now mid end new was a b z c rest taking e one two pushe
           (λ x. omega (arith, count-append, places_of x c rest, t.once x, t.rest x)) (λ x. omega (arith, count-append));
     }
 
-pub taking_start : (all left : List CoupleValue) (old : List Pair) (was : List Moat) → Each IsJoined all
-    → ((x : ℕ) → count x (couple_members all) ≤ 1) → left ≡ all → Taking all left old old was was
-taking_start all left old was joined once e = subst (λ (cs : List CoupleValue). Taking all cs old old was was) (sym e) (record {
+pub taking_start : (all left : List MatchValue) (old : List Pair) (was : List Moat) → Each IsJoined all
+    → ((x : ℕ) → count x (match_members all) ≤ 1) → left ≡ all → Taking all left old old was was
+taking_start all left old was joined once e = subst (λ (cs : List MatchValue). Taking all cs old old was was) (sym e) (record {
   joined = joined;
   once = once;
   fewer = omega arith;
@@ -117,9 +117,9 @@ taking_start all left old was joined once e = subst (λ (cs : List CoupleValue).
   lie = lie_none [];
 })
 
-pub taking_done : (all left : List CoupleValue) (old new : List Pair) (was now : List Moat) → Taking all left old new was now → length
+pub taking_done : (all left : List MatchValue) (old new : List Pair) (was now : List Moat) → Taking all left old new was now → length
     left ≡ 0
-    → TakesCouples all old new was now
+    → TakesMatches all old new was now
 taking_done all [] old new was now t none = record {
   paid = λ tab p. omega (arith, t.paid tab p);
   places = λ x. omega (arith, t.places x);
@@ -127,7 +127,7 @@ taking_done all [] old new was now t none = record {
   loads = λ a b. omega (arith, t.loads a b);
   moats = t.moats;
   is = t.is;
-  lie = lie_more t.taken (couple_members all) t.moats (λ x. omega (arith, t.rest x)) t.lie;
+  lie = lie_more t.taken (match_members all) t.moats (λ x. omega (arith, t.rest x)) t.lie;
 }
 taking_done all (c ∷ cs) old new was now t none = absurd (omega arith)
 
@@ -135,9 +135,9 @@ whole : (w n : ℕ) → n ≡ 1 → w * n ≡ w
 whole w n one = rw one (omega arith)
 
 -- a single place
-takes_place : (left : ℕ) (s : NestValue) (cs : List CoupleValue) (old new : List Pair) (was a now : List Moat)
+takes_place : (left : ℕ) (s : NestValue) (cs : List MatchValue) (old new : List Pair) (was a now : List Moat)
     → ((x : ℕ) → count x s.members ≤ 1) →
-    OpensAt left s None cs → a ≡ was ++ own_moat s.members s.width → TakesCouples cs old new a now → TakesNest left s old new was now
+    OpensAt left s None cs → a ≡ was ++ own_moat s.members s.dual → TakesMatches cs old new a now → TakesNest left s old new was now
 takes_place left s cs old new was a now once o own t =
     let sum = o.sums total total-append in
     record {
@@ -150,32 +150,32 @@ takes_place left s cs old new was a now once o own t =
         once left,
         t.paid tab
             (o.paid tab paid).1,
-        whole s.width (count left s.members) (omega (arith, o.places left, hit_same left, once left)),
+        whole s.dual (count left s.members) (omega (arith, o.places left, hit_same left, once left)),
       );
       places = λ x. omega (arith, o.places x, t.places x);
-      widths = omega (arith, sum, t.widths, ap width_of own, width_own s.width s.members was);
+      widths = omega (arith, sum, t.widths, ap width_of own, width_own s.dual s.members was);
       loads = λ x y. omega (
         arith,
         o.sums (load x y) (load-append x y),
         t.loads x y,
         ap
             (λ (k : List Moat). load_on k x y) own,
-        load_own x y s.width s.members was (once x) (once y),
+        load_own x y s.dual s.members was (once x) (once y),
       );
-      moats = own_moat s.members s.width ++ t.moats;
-      is = t.is ∙ ap (λ (k : List Moat). k ++ t.moats) own ∙ append_assoc was (own_moat s.members s.width) t.moats;
-      lie = lie_own s.width s.members [] (couple_members cs) [] t.moats left left o.odd (lie_none []) t.lie
+      moats = own_moat s.members s.dual ++ t.moats;
+      is = t.is ∙ ap (λ (k : List Moat). k ++ t.moats) own ∙ append_assoc was (own_moat s.members s.dual) t.moats;
+      lie = lie_own s.dual s.members [] (match_members cs) [] t.moats left left o.odd (lie_none []) t.lie
           (λ x. omega (arith, o.places x, once x)) (λ x. omega (arith, o.places x))
           refl (omega (arith, o.places left, hit_same left)) (omega (arith, o.places left, hit_same left, once left))
           (omega (arith, o.places left, hit_same left));
     }
 
--- a ring
-takes_ring : (left : ℕ) (s p : NestValue) (cs : List CoupleValue) (old mid new : List Pair) (was a b now : List Moat)
+-- a blossom
+takes_blossom : (left : ℕ) (s p : NestValue) (cs : List MatchValue) (old mid new : List Pair) (was a b now : List Moat)
     → ((x : ℕ) → count x s.members ≤ 1) →
-    OpensAt left s (Some p) cs → a ≡ was ++ own_moat s.members s.width → TakesNest left p old mid a b → TakesCouples cs mid new b now
+    OpensAt left s (Some p) cs → a ≡ was ++ own_moat s.members s.dual → TakesNest left p old mid a b → TakesMatches cs mid new b now
     → TakesNest left s old new was now
-takes_ring left s p cs old mid new was a b now once o own first t =
+takes_blossom left s p cs old mid new was a b now once o own first t =
     let sum = o.sums total total-append in
     let other = o.holds.1 in
     record {
@@ -185,11 +185,11 @@ takes_ring left s p cs old mid new was a b now once o own first t =
         o.tall,
         first.paid tab q.0,
         t.paid tab q.1,
-        whole s.width (count left s.members)
+        whole s.dual (count left s.members)
             (omega (arith, o.places left, o.holds.0, once left)),
       );
       places = λ x. omega (arith, o.places x, first.places x, t.places x);
-      widths = omega (arith, sum, first.widths, t.widths, ap width_of own, width_own s.width s.members was);
+      widths = omega (arith, sum, first.widths, t.widths, ap width_of own, width_own s.dual s.members was);
       loads = λ x y. omega (
         arith,
         o.sums (load x y) (load-append x y),
@@ -197,35 +197,35 @@ takes_ring left s p cs old mid new was a b now once o own first t =
         t.loads x y,
         ap
             (λ (k : List Moat). load_on k x y) own,
-        load_own x y s.width s.members was (once x) (once y),
+        load_own x y s.dual s.members was (once x) (once y),
       );
-      moats = own_moat s.members s.width ++ (first.moats ++ t.moats);
-      is = joined_lists was a b now (own_moat s.members s.width) first.moats t.moats own first.is t.is;
-      lie = lie_own s.width s.members p.members (couple_members cs) first.moats t.moats other.0 left o.odd first.lie t.lie
+      moats = own_moat s.members s.dual ++ (first.moats ++ t.moats);
+      is = joined_lists was a b now (own_moat s.members s.dual) first.moats t.moats own first.is t.is;
+      lie = lie_own s.dual s.members p.members (match_members cs) first.moats t.moats other.0 left o.odd first.lie t.lie
           (λ x. omega (arith, o.places x, once x)) (λ x. omega (arith, o.places x))
           (omega (arith, other.1, o.places other.0, once other.0)) (omega (arith, other.1, o.places other.0))
           (omega (arith, o.holds.0, o.places left, once left)) (omega (arith, o.holds.0, o.places left));
     }
 
-pub took_place : (left : ℕ) (s : NestValue) (core : Option NestValue) (cs : List CoupleValue) (old new : List Pair)
+pub took_place : (left : ℕ) (s : NestValue) (core : Option NestValue) (cs : List MatchValue) (old new : List Pair)
     (was a now : List Moat) → ((x : ℕ) → count x s.members ≤ 1) → core ≡ None →
-    OpensAt left s core cs → a ≡ was ++ own_moat s.members s.width → TakesCouples cs old new a now → TakesNest left s old new was now
+    OpensAt left s core cs → a ≡ was ++ own_moat s.members s.dual → TakesMatches cs old new a now → TakesNest left s old new was now
 took_place left s core cs old new was a now once e o own t =
     takes_place left s cs old new was a now once (subst (λ (k : Option NestValue). OpensAt left s k cs) e o) own t
 
-pub took_ring : (left : ℕ) (s p : NestValue) (core : Option NestValue) (cs : List CoupleValue) (old mid new : List Pair)
+pub took_blossom : (left : ℕ) (s p : NestValue) (core : Option NestValue) (cs : List MatchValue) (old mid new : List Pair)
     (was a b now : List Moat) → ((x : ℕ) → count x s.members ≤ 1) → core ≡ Some p →
-    OpensAt left s core cs → a ≡ was ++ own_moat s.members s.width → TakesNest left p old mid a b → TakesCouples cs mid new b now
+    OpensAt left s core cs → a ≡ was ++ own_moat s.members s.dual → TakesNest left p old mid a b → TakesMatches cs mid new b now
     → TakesNest left s old new was now
-took_ring left s p core cs old mid new was a b now once e o own first t =
-    takes_ring left s p cs old mid new was a b now once (subst (λ (k : Option NestValue). OpensAt left s k cs) e o) own first t
+took_blossom left s p core cs old mid new was a b now once e o own first t =
+    takes_blossom left s p cs old mid new was a b now once (subst (λ (k : Option NestValue). OpensAt left s k cs) e o) own first t
 
-pub record CoreOf (left : ℕ) (s p : NestValue) (cs : List CoupleValue) : Type 0 where
+pub record CoreOf (left : ℕ) (s p : NestValue) (cs : List MatchValue) : Type 0 where
   pub holds : count left p.members ≡ 1
   pub once : (x : ℕ) → count x p.members ≤ 1
   pub fewer : length (bands p) < length (bands s)
 
-pub core_of : (left : ℕ) (s p : NestValue) (core : Option NestValue) (cs : List CoupleValue) → core ≡ Some p
+pub core_of : (left : ℕ) (s p : NestValue) (core : Option NestValue) (cs : List MatchValue) → core ≡ Some p
     → OpensAt left s core cs → ((x : ℕ) → count x s.members ≤ 1) → CoreOf left s p cs
 core_of left s p core cs e open_ once =
     let o = subst (λ (k : Option NestValue). OpensAt left s k cs) e open_ in
@@ -236,22 +236,22 @@ core_of left s p core cs e open_ once =
           omega (arith, o.sums (λ (bs : List Band). length bs) size-append);
     }
 
-pub record RestOf (s : NestValue) (cs : List CoupleValue) : Type 0 where
-  pub once : (x : ℕ) → count x (couple_members cs) ≤ 1
-  pub fewer : length (couple_bands cs) < length (bands s)
+pub record RestOf (s : NestValue) (cs : List MatchValue) : Type 0 where
+  pub once : (x : ℕ) → count x (match_members cs) ≤ 1
+  pub fewer : length (match_bands cs) < length (bands s)
 
-pub rest_of : (left : ℕ) (s : NestValue) (core : Option NestValue) (cs : List CoupleValue) → OpensAt left s core cs
+pub rest_of : (left : ℕ) (s : NestValue) (core : Option NestValue) (cs : List MatchValue) → OpensAt left s core cs
     → ((x : ℕ) → count x s.members ≤ 1) → RestOf s cs
 rest_of left s core cs o once =
     record { once = λ x. omega (arith, o.places x, once x); fewer = omega (arith, o.sums (λ (bs : List Band). length bs) size-append) }
 
--- each set of the part that is left, and of the couples, is one inside the whole
-pub core_uses : (left : ℕ) (s p : NestValue) (core : Option NestValue) (cs : List CoupleValue) → core ≡ Some p → OpensAt left s core cs
+-- each set of the part that is left, and of the matches, is one inside the whole
+pub core_uses : (left : ℕ) (s p : NestValue) (core : Option NestValue) (cs : List MatchValue) → core ≡ Some p → OpensAt left s core cs
     → (k : ℕ) → uses k (bands p) ≤ uses k (bands s)
 core_uses left s p core cs e open_ k =
     let o = subst (λ (c : Option NestValue). OpensAt left s c cs) e open_ in
     omega (arith, o.sums (uses k) (uses-append k))
 
-pub rest_uses : (left : ℕ) (s : NestValue) (core : Option NestValue) (cs : List CoupleValue) → OpensAt left s core cs
-    → (k : ℕ) → uses k (couple_bands cs) ≤ uses k (bands s)
+pub rest_uses : (left : ℕ) (s : NestValue) (core : Option NestValue) (cs : List MatchValue) → OpensAt left s core cs
+    → (k : ℕ) → uses k (match_bands cs) ≤ uses k (bands s)
 rest_uses left s core cs o k = omega (arith, o.sums (uses k) (uses-append k))

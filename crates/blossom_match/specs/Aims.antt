@@ -1,7 +1,7 @@
--- The place to which a link becomes tight by the least change of widths.
+-- The place to which a link becomes tight by the least change of duals.
 use Rattle.std.specs.Prelude.{◌≡◌, ℕ, ◌-◌, ◌/◌, ◌<◌, ◌≤◌, ◌⊎◌, List, Option, Some, None, slice_index}
 use Rattle.blossom_match.specs.Bands.{NestValue, count}
-use Rattle.blossom_match.specs.Couples.{couple_members}
+use Rattle.blossom_match.specs.Matches.{match_members}
 use Rattle.blossom_match.specs.Trees.{outer_members}
 use Rattle.blossom_match.specs.Bounds.{holding, step_of}
 use Rattle.blossom_match.specs.Reaches.{left_by, CanReach, IsLeft, Reaches}
@@ -14,11 +14,11 @@ use Rattle.blossom_match.specs.declared.least.Kind.{Kind}
 use Rattle.blossom_match.specs.declared.least.Kind.TheVariants as kind
 use Rattle.blossom_match.specs.declared.table.TheConstants.{FAR}
 
--- the change of widths that uses up the room
+-- the change of duals that uses up the slack
 abbrev pub change_of : Kind → ℕ → ℕ
-change_of kind.Meet room = room
-change_of kind.Grow room = room
-change_of kind.Shrink room = room / 2
+change_of kind.Meet slack = slack
+change_of kind.Grow slack = slack
+change_of kind.Shrink slack = slack / 2
 
 -- the change that uses up what is left for the place above its height
 abbrev pub change_at : List ℕ → List ℕ → Kind → ℕ → ℕ
@@ -57,24 +57,24 @@ pub record LeadsTo (t : TableValue) (hs : List ℕ) (root : NestValue) (tree : L
   pub step : c.step ≡ step_of aim.kind (record { from = from; to = aim.to })
 
 -- the place is one of those and leaves so much for x
-pub record LeavesAt (t : TableValue) (hs xs : List ℕ) (x room a : ℕ) : Type 0 where
+pub record LeavesAt (t : TableValue) (hs xs : List ℕ) (x left a : ℕ) : Type 0 where
   pub here : 1 ≤ count a xs
-  pub exact : room ≡ left_by t hs a x
+  pub exact : left ≡ left_by t hs a x
 
 -- one of the places that leaves so much, where there is one
 abbrev pub LeavesIn : TableValue → List ℕ → List ℕ → ℕ → ℕ → Option ℕ → Type 0
-LeavesIn t hs xs x room (Some a) = LeavesAt t hs xs x room a
-LeavesIn t hs xs x room None = IsLeft t hs xs x room → ⊥
+LeavesIn t hs xs x left (Some a) = LeavesAt t hs xs x left a
+LeavesIn t hs xs x left None = IsLeft t hs xs x left → ⊥
 
 -- one of the set's places that leaves so much, where there is one and the set doesn't hold x
 abbrev pub Leaves : TableValue → List ℕ → NestValue → ℕ → ℕ → Option ℕ → Type 0
-Leaves t hs s x room (Some a) = (count x s.members ≡ 0) × LeavesAt t hs s.members x room a
-Leaves t hs s x room None = count x s.members ≡ 0 → IsLeft t hs s.members x room → ⊥
+Leaves t hs s x left (Some a) = (count x s.members ≡ 0) × LeavesAt t hs s.members x left a
+Leaves t hs s x left None = count x s.members ≡ 0 → IsLeft t hs s.members x left → ⊥
 
 -- the places that a link of the kind leads to
 abbrev pub goals : SearchValue → Kind → List ℕ
 goals s kind.Meet = s.free
-goals s kind.Grow = couple_members s.rest
+goals s kind.Grow = match_members s.rest
 goals s kind.Shrink = outers s
 
 -- an aim at one of the places that its kind leads to

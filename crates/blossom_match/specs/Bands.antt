@@ -1,17 +1,17 @@
--- Odd sets of places with widths, as flat lists. Widths and heights count halves of a step.
+-- Odd sets of places with duals, as flat lists. Duals and heights count halves of a step.
 use Rattle.std.specs.Prelude.{◌≡◌, ℕ, ◌+◌, ◌-◌, ◌*◌, ◌%◌, List, [], ◌∷◌, ◌++◌, length, eqb, cond}
 use Rattle.std.specs.List.{flat_map}
 use Rattle.blossom_match.specs.Lists.{Each, sum_over}
 use Rattle.blossom_match.specs.TableValue.{TableValue}
 use Rattle.blossom_match.specs.Tables.{entry}
 
--- a set with a width, by the key of its slot
+-- a set with a dual, by the key of its slot
 pub record Band : Type 0 where
   pub key : ℕ
   pub members : List ℕ
-  pub width : ℕ
+  pub dual : ℕ
 
--- a link between two parts of a set, and the widths that it uses up
+-- a link between two parts of a set, and the duals that it uses up
 pub record Toll : Type 0 where
   pub from : ℕ
   pub to : ℕ
@@ -23,12 +23,12 @@ pub record Row : Type 0 where
   pub below : List Band
   pub cells : List ℕ
 
--- an odd set: its key, its members, its width, its row, all sets inside it, all links inside it,
+-- an odd set: its key, its members, its dual, its row, all sets inside it, all links inside it,
 -- and the rows of the sets inside it
 pub record NestValue : Type 0 where
   pub key : ℕ
   pub members : List ℕ
-  pub width : ℕ
+  pub dual : ℕ
   pub near : List ℕ
   pub below : List Band
   pub tolls : List Toll
@@ -36,7 +36,7 @@ pub record NestValue : Type 0 where
 
 -- the set and all sets inside it
 abbrev pub bands : NestValue → List Band
-bands s = record { key = s.key; members = s.members; width = s.width } ∷ s.below
+bands s = record { key = s.key; members = s.members; dual = s.dual } ∷ s.below
 
 -- so of each set of a list
 abbrev pub bands_of : List NestValue → List Band
@@ -51,12 +51,12 @@ members_onto places (s ∷ ss) = s.members ++ members_onto places ss
 abbrev pub rows_of : NestValue → List Row
 rows_of s = record { members = s.members; below = s.below; cells = s.near } ∷ s.rows
 
--- the same set with another width
-abbrev pub with_width : ℕ → NestValue → NestValue
-with_width w s = record {
+-- the same set with another dual
+abbrev pub with_dual : ℕ → NestValue → NestValue
+with_dual w s = record {
   key = s.key;
   members = s.members;
-  width = w;
+  dual = w;
   near = s.near;
   below = s.below;
   tolls = s.tolls;
@@ -76,21 +76,21 @@ count x (y ∷ ys) = hit x y + count x ys
 abbrev pub uses : ℕ → List Band → ℕ
 uses k bs = sum_over (λ (b : Band). hit k b.key) bs
 
--- the widths of the sets that hold the place
+-- the duals of the sets that hold the place
 abbrev pub height : ℕ → List Band → ℕ
-height x bs = sum_over (λ (b : Band). b.width * count x b.members) bs
+height x bs = sum_over (λ (b : Band). b.dual * count x b.members) bs
 
--- all widths
+-- all duals
 abbrev pub total : List Band → ℕ
-total bs = sum_over (λ (b : Band). b.width) bs
+total bs = sum_over (λ (b : Band). b.dual) bs
 
 -- how far two counts are apart: 1 where a set holds exactly one of two places
 abbrev pub apart : ℕ → ℕ → ℕ
 apart m n = (m - n) + (n - m)
 
--- the widths of the sets that hold exactly one of the two places
+-- the duals of the sets that hold exactly one of the two places
 abbrev pub load : ℕ → ℕ → List Band → ℕ
-load a b bs = sum_over (λ (s : Band). s.width * apart (count a s.members) (count b s.members)) bs
+load a b bs = sum_over (λ (s : Band). s.dual * apart (count a s.members) (count b s.members)) bs
 
 -- a quantity that adds up over lists of sets
 abbrev pub Adds : (List Band → ℕ) → Type 0

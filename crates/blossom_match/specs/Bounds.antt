@@ -1,8 +1,8 @@
--- The least change of widths after which a step can be done.
+-- The least change of duals after which a step can be done.
 use Rattle.std.specs.Prelude.{◌≡◌, ℕ, ◌+◌, ◌*◌, ◌<◌, ◌≤◌, ◌⊎◌, List, [], ◌∷◌, drop, length}
 use Rattle.blossom_match.specs.Lists.{Each}
 use Rattle.blossom_match.specs.Bands.{NestValue, count}
-use Rattle.blossom_match.specs.Couples.{couple_members}
+use Rattle.blossom_match.specs.Matches.{match_members}
 use Rattle.blossom_match.specs.Trees.{around, both}
 use Rattle.blossom_match.specs.Searches.{height_at, holding_both, outers, IsSearch}
 use Rattle.blossom_match.specs.TableValue.{TableValue}
@@ -25,45 +25,45 @@ step_of kind.Shrink link = Shrink link
 abbrev pub holding : ℕ → ℕ → NestValue → List BranchValue → ℕ
 holding a b root tree = both a b root + around a b tree
 
--- the first branch's inner ring has that width
+-- the first branch's inner blossom has that dual
 abbrev pub FirstIsDue : ℕ → List BranchValue → Type 0
 FirstIsDue by [] = ⊥
-FirstIsDue by (b ∷ bs) = (b.inner.width ≡ by) × (0 < length b.inner.below)
+FirstIsDue by (b ∷ bs) = (b.inner.dual ≡ by) × (0 < length b.inner.below)
 
--- an inner ring is no narrower than the change
-abbrev pub RingIsWide : ℕ → BranchValue → Type 0
-RingIsWide by b = 0 < length b.inner.below → by ≤ b.inner.width
+-- the dual of an inner blossom is no less than the change
+abbrev pub DualIsEnough : ℕ → BranchValue → Type 0
+DualIsEnough by b = 0 < length b.inner.below → by ≤ b.inner.dual
 
--- the change is the width of an inner ring
-pub record RingIsDue (tree : List BranchValue) (c : Change) : Type 0 where
+-- the change is the dual of an inner blossom
+pub record BlossomIsDue (tree : List BranchValue) (c : Change) : Type 0 where
   pub at : ℕ
   pub step : c.step ≡ Expand at
   pub due : FirstIsDue c.by (drop at tree)
 
--- the change is the width of the branch's inner ring
-pub record IsWidthOf (b : BranchValue) (at : ℕ) (c : Change) : Type 0 where
+-- the change is the dual of the branch's inner blossom
+pub record IsDualOf (b : BranchValue) (at : ℕ) (c : Change) : Type 0 where
   pub step : c.step ≡ Expand at
-  pub wide : b.inner.width ≡ c.by
+  pub wide : b.inner.dual ≡ c.by
   pub some : 0 < length b.inner.below
 
--- the lesser of a change and the width of the branch's inner ring
+-- the lesser of a change and the dual of the branch's inner blossom
 pub record NarrowsAt (b : BranchValue) (at : ℕ) (old new : Change) : Type 0 where
   pub less : new.by ≤ old.by
-  pub wide : RingIsWide new.by b
-  pub is : (new ≡ old) ⊎ IsWidthOf b at new
+  pub wide : DualIsEnough new.by b
+  pub is : (new ≡ old) ⊎ IsDualOf b at new
 
--- the lesser of a change and the least width of an inner ring
+-- the lesser of a change and the least dual of an inner blossom
 pub record Narrows (tree : List BranchValue) (old new : Change) : Type 0 where
   pub less : new.by ≤ old.by
-  pub wide : Each (RingIsWide new.by) tree
-  pub is : (new ≡ old) ⊎ RingIsDue tree new
+  pub wide : Each (DualIsEnough new.by) tree
+  pub is : (new ≡ old) ⊎ BlossomIsDue tree new
 
 -- the step can be done after the change
 abbrev pub IsDue : TableValue → (ℕ → ℕ) → SearchValue → ℕ → Step → Type 0
 IsDue t h s by (Meet link) = (1 ≤ count link.from (outers s)) × (1 ≤ count link.to s.free)
     × (h link.from + h link.to + by ≡ 2 * entry t link.from link.to)
 IsDue t h s by (Grow link) = (1 ≤ count link.from (outers s))
-    × (1 ≤ count link.to (couple_members s.rest))
+    × (1 ≤ count link.to (match_members s.rest))
     × (h link.from + h link.to + by ≡ 2 * entry t link.from link.to)
 IsDue t h s by (Shrink link) =
     (1 ≤ count link.from (outers s)) × (1 ≤ count link.to (outers s))
@@ -71,14 +71,14 @@ IsDue t h s by (Shrink link) =
     × (h link.from + h link.to + 2 * by ≡ 2 * entry t link.from link.to)
 IsDue t h s by (Expand at) = FirstIsDue by (drop at s.tree)
 
--- the change leaves room between all places, and the step is due after it
+-- after the change no slack is negative, and the step is due
 pub record Bounds (t : TableValue) (h : ℕ → ℕ) (s : SearchValue) (c : Change) : Type 0 where
   pub one : (a b : ℕ) → 1 ≤ count a (outers s)
-      → 1 ≤ count b (couple_members s.rest) + count b s.free
+      → 1 ≤ count b (match_members s.rest) + count b s.free
       → h a + h b + c.by ≤ 2 * entry t a b
   pub two : (a b : ℕ) → 1 ≤ count a (outers s) → 1 ≤ count b (outers s) → holding_both a b s ≡ 0
       → h a + h b + 2 * c.by ≤ 2 * entry t a b
-  pub rings : Each (RingIsWide c.by) s.tree
+  pub blossoms : Each (DualIsEnough c.by) s.tree
   pub due : IsDue t h s c.by c.step
 
 -- a search that is not over

@@ -3,12 +3,12 @@ use Rattle.std.specs.Prelude.{◌≡◌, ℕ, ◌+◌, ◌%◌, ◌<◌, ◌≤�
 use Rattle.blossom_match.specs.TableValue.{TableValue}
 use Rattle.blossom_match.specs.Lists.{Each}
 use Rattle.blossom_match.specs.Bands.{Adds, Band, NestValue, bands, count}
-use Rattle.blossom_match.specs.Rings.{back_of, members_in, bands_in, FirstHolds, IsRing, Linked}
-use Rattle.blossom_match.specs.Couples.{couple_members, couple_bands, IsJoined}
-use Rattle.blossom_match.specs.Sound.{IsFirm, IsFirmCouple, IsFirmPart, IsSound, IsSymmetric, IsTight}
+use Rattle.blossom_match.specs.Blossoms.{back_of, members_in, bands_in, FirstHolds, IsBlossom, Linked}
+use Rattle.blossom_match.specs.Matches.{match_members, match_bands, IsJoined}
+use Rattle.blossom_match.specs.Sound.{IsFirm, IsFirmMatch, IsFirmPart, IsSound, IsSymmetric, IsTight}
 use Rattle.blossom_match.specs.Trees.{outer_members, inner_members, branch_bands, inner_bands, IsGrown}
 use Rattle.blossom_match.specs.declared.nest.Link.{Link}
-use Rattle.blossom_match.specs.Values.{BranchValue, CoupleValue, PartValue}
+use Rattle.blossom_match.specs.Values.{BranchValue, MatchValue, PartValue}
 
 -- a chain told from its end, before `told`; each part takes the link before it, from its other end
 abbrev pub told_back : Link → List PartValue → List PartValue → List PartValue
@@ -21,7 +21,7 @@ abbrev pub last_link : Link → List PartValue → Link
 last_link link [] = link
 last_link link (p ∷ ps) = last_link p.next ps
 
--- the ring told the other way round from the same first part
+-- the blossom told the other way round from the same first part
 abbrev pub mirror_of : List PartValue → List PartValue
 mirror_of [] = []
 mirror_of (p ∷ ps) = record { nest = p.nest; next = back_of (last_link p.next ps) }
@@ -33,9 +33,9 @@ EvenlyHolds x [] = ⊥
 EvenlyHolds x (p ∷ []) = 1 ≤ count x p.nest.members
 EvenlyHolds x (p ∷ q ∷ ps) = (1 ≤ count x p.nest.members) ⊎ EvenlyHolds x ps
 
--- the ring as it is told from the part that is entered, an even way from the part that is left
+-- the blossom as it is told from the part that is entered, an even way from the part that is left
 pub record GoesEvenly (entry exit : ℕ) (old new : List PartValue) : Type 0 where
-  pub ring : IsRing new
+  pub blossom : IsBlossom new
   pub first : FirstHolds entry new
   pub last : EvenlyHolds exit new
   pub places : (x : ℕ) → count x (members_in new) ≡ count x (members_in old)
@@ -48,47 +48,47 @@ abbrev pub WayInto : Link → List PartValue → Type 0
 WayInto way [] = ⊥
 WayInto way (p ∷ ps) = (count way.to p.nest.members ≡ 1) × Linked p ps
 
--- a way from the tree into a ring, and a pair out of it
-pub record CanLay (root : NestValue) (tree : List BranchValue) (ring : List PartValue)
+-- a way from the tree into a blossom, and a pair out of it
+pub record CanLay (root : NestValue) (tree : List BranchValue) (blossom : List PartValue)
     (way pair : Link) (outer : NestValue) : Type 0 where
   pub grown : IsGrown root.members tree
   pub from : 1 ≤ count way.from (outer_members root.members tree)
-  pub into : WayInto way ring
-  pub exit : EvenlyHolds pair.from ring
-  pub odd : length ring % 2 ≡ 1
+  pub into : WayInto way blossom
+  pub exit : EvenlyHolds pair.from blossom
+  pub odd : length blossom % 2 ≡ 1
   pub to : count pair.to outer.members ≡ 1
-  pub once : (x : ℕ) → count x (members_in ring) ≤ 1
+  pub once : (x : ℕ) → count x (members_in blossom) ≤ 1
 
--- the parts up to the pair's end are branches, and the rest are couples
-pub record Lays (root : NestValue) (old : List BranchValue) (ring : List PartValue)
+-- the parts up to the pair's end are branches, and the rest are matches
+pub record Lays (root : NestValue) (old : List BranchValue) (blossom : List PartValue)
     (way pair : Link) (outer : NestValue) (new : List BranchValue)
-    (cs : List CoupleValue) : Type 0 where
+    (cs : List MatchValue) : Type 0 where
   pub grown : IsGrown root.members new
   pub joined : Each IsJoined cs
   pub places : (x : ℕ) → count x (outer_members root.members new) + count x (inner_members new)
-      + count x (couple_members cs) ≡
+      + count x (match_members cs) ≡
       count x (outer_members root.members old) + count x (inner_members old)
-      + count x (members_in ring) + count x outer.members
+      + count x (members_in blossom) + count x outer.members
   pub more : (x : ℕ) → count x (outer_members root.members old) + count x outer.members
       ≤ count x (outer_members root.members new)
   pub added : List BranchValue
   pub last : BranchValue
   pub is : new ≡ old ++ (added ++ last ∷ [])
   pub same : last.outer ≡ outer
-  pub sums : (F : List Band → ℕ) → Adds F → F (branch_bands new) + F (couple_bands cs)
-      ≡ F (branch_bands old) + F (bands_in ring) + F (bands outer)
-  pub fewer : length (inner_bands new) + length (couple_bands cs)
-      ≤ length (inner_bands old) + length (bands_in ring)
+  pub sums : (F : List Band → ℕ) → Adds F → F (branch_bands new) + F (match_bands cs)
+      ≡ F (branch_bands old) + F (bands_in blossom) + F (bands outer)
+  pub fewer : length (inner_bands new) + length (match_bands cs)
+      ≤ length (inner_bands old) + length (bands_in blossom)
   pub firm : (d : TableValue) (h : ℕ → ℕ) → Each (IsFirm d h) old → IsTight d h way
-      → IsTight d h pair → Each (IsFirmPart d h) ring → IsSound d h outer →
-      Each (IsFirm d h) new × Each (IsFirmCouple d h) cs
+      → IsTight d h pair → Each (IsFirmPart d h) blossom → IsSound d h outer →
+      Each (IsFirm d h) new × Each (IsFirmMatch d h) cs
 
--- the first branch has an inner ring without a width
+-- the first branch has an inner blossom of dual 0
 abbrev pub FirstComesApart : List BranchValue → Type 0
 FirstComesApart [] = ⊥
-FirstComesApart (b ∷ bs) = (b.inner.width ≡ 0) × (0 < length b.inner.below)
+FirstComesApart (b ∷ bs) = (b.inner.dual ≡ 0) × (0 < length b.inner.below)
 
--- the inner set at the index is a ring without a width
+-- the inner set at the index is a blossom of dual 0
 pub record Expanding (root : NestValue) (tree : List BranchValue) (at : ℕ) : Type 0 where
   pub grown : IsGrown root.members tree
   pub once : (x : ℕ) → count x (outer_members root.members tree) + count x (inner_members tree) ≤ 1
@@ -106,22 +106,22 @@ pub record GrowsAt (at : ℕ) (old new : List BranchValue) : Type 0 where
   pub same : last.outer ≡ branch.outer
   pub size : length before ≡ at
 
--- the parts of the inner set under the key are branches and couples
+-- the parts of the inner set under the key are branches and matches
 pub record Expands (key : ℕ) (root : NestValue) (old new : List BranchValue)
-    (was now : List CoupleValue) : Type 0 where
+    (was now : List MatchValue) : Type 0 where
   pub grown : IsGrown root.members new
-  pub more : List CoupleValue
+  pub more : List MatchValue
   pub rest : now ≡ was ++ more
   pub joined : Each IsJoined was → Each IsJoined now
   pub places : (x : ℕ) → count x (outer_members root.members new) + count x (inner_members new)
-      + count x (couple_members now) ≡
+      + count x (match_members now) ≡
       count x (outer_members root.members old) + count x (inner_members old)
-      + count x (couple_members was)
-  pub ring : List ℕ
-  pub sums : (F : List Band → ℕ) → Adds F → F (branch_bands new) + F (couple_bands now)
-      + F (record { key = key; members = ring; width = 0 } ∷ [])
-      ≡ F (branch_bands old) + F (couple_bands was)
-  pub fewer : length (inner_bands new) + length (couple_bands now)
-      < length (inner_bands old) + length (couple_bands was)
+      + count x (match_members was)
+  pub blossom : List ℕ
+  pub sums : (F : List Band → ℕ) → Adds F → F (branch_bands new) + F (match_bands now)
+      + F (record { key = key; members = blossom; dual = 0 } ∷ [])
+      ≡ F (branch_bands old) + F (match_bands was)
+  pub fewer : length (inner_bands new) + length (match_bands now)
+      < length (inner_bands old) + length (match_bands was)
   pub firm : (d : TableValue) (h : ℕ → ℕ) → IsSymmetric d → Each (IsFirm d h) old
-      → Each (IsFirmCouple d h) was → Each (IsFirm d h) new × Each (IsFirmCouple d h) now
+      → Each (IsFirmMatch d h) was → Each (IsFirm d h) new × Each (IsFirmMatch d h) now

@@ -8,9 +8,9 @@ pub mod Lists
 pub mod Bands
 pub mod Values
 pub mod Rows
-pub mod Rings
-pub mod RingRows
-pub mod Couples
+pub mod Blossoms
+pub mod BlossomRows
+pub mod Matches
 pub mod Opens
 pub mod Taken
 pub mod Sound
@@ -19,7 +19,7 @@ pub mod Shrinks
 pub mod Lays
 pub mod Searches
 pub mod Bounds
-pub mod Widths
+pub mod Duals
 pub mod Reaches
 pub mod Aims
 pub mod Masks

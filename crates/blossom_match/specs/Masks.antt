@@ -1,7 +1,7 @@
 -- A mask over all places shows some of them: 0 at each of these, FAR at all others.
 use Rattle.std.specs.Prelude.{◌≡◌, ℕ, ◌<◌, ◌≤◌, List, ◌++◌, length, max, slice_index}
 use Rattle.blossom_match.specs.Bands.{count}
-use Rattle.blossom_match.specs.Couples.{couple_members}
+use Rattle.blossom_match.specs.Matches.{match_members}
 use Rattle.blossom_match.specs.Rows.{lowered}
 use Rattle.blossom_match.specs.Aims.{Aims}
 use Rattle.blossom_match.specs.TableValue.{TableValue}
@@ -16,10 +16,10 @@ pub record Masks (places mask : List ℕ) : Type 0 where
   pub on : (x : ℕ) → 1 ≤ count x places → slice_index mask x ≡ 0
   pub off : (x : ℕ) → x < length mask → count x places ≡ 0 → slice_index mask x ≡ FAR
 
--- over all places of the table it shows those of the search's couples
+-- over all places of the table it shows those of the search's matches
 pub record SearchMasks (t : TableValue) (s : SearchValue) (mask : List ℕ) : Type 0 where
   pub size : length mask ≡ t.places
-  pub masks : Masks (couple_members s.rest) mask
+  pub masks : Masks (match_members s.rest) mask
 
 -- the places of a branch
 abbrev pub branch_members : BranchValue → List ℕ
@@ -30,11 +30,11 @@ abbrev pub shown : List ℕ → List ℕ → List ℕ → ℕ → ℕ
 shown hs reach mask x =
     max (lowered (slice_index hs x) (slice_index reach x)) (slice_index mask x)
 
--- so much room is shown at a place
-pub record IsShown (hs reach mask : List ℕ) (room : ℕ) : Type 0 where
+-- so much slack is shown at a place
+pub record IsShown (hs reach mask : List ℕ) (slack : ℕ) : Type 0 where
   pub place : ℕ
   pub within : place < length reach
-  pub exact : room ≡ shown hs reach mask place
+  pub exact : slack ≡ shown hs reach mask place
 
 -- the lesser of an aim and the nearest of the places that the mask shows
 abbrev pub AimsShown : List ℕ → List ℕ → List ℕ → Aim → Aim → Type 0

@@ -1,43 +1,43 @@
 -- One search after another, until no place is free.
 use Rattle.std.specs.Prelude.{◌≡◌, ℕ, ◌+◌, ◌<◌, List, [], length, slice_index}
-use Rattle.blossom_match.specs.Rings.{single_of}
+use Rattle.blossom_match.specs.Blossoms.{single_of}
 use Rattle.blossom_match.specs.Searches.{size_of, Advances, Ends, IsStanding}
 use Rattle.blossom_match.specs.Bounds.{CanSearch}
 use Rattle.blossom_match.specs.Reaches.{SearchReaches}
 use Rattle.blossom_match.specs.Masks.{SearchMasks}
 use Rattle.blossom_match.specs.TableValue.{TableValue}
 use Rattle.blossom_match.specs.Tables.{IsTable}
-use Rattle.blossom_match.specs.Values.{CoupleValue, SearchValue}
-use Rattle.blossom_match.specs.Slots.{couples_in}
+use Rattle.blossom_match.specs.Values.{MatchValue, SearchValue}
+use Rattle.blossom_match.specs.Slots.{matches_in}
 use Rattle.blossom_match.specs.States.{search_value, standing_value}
 use Rattle.blossom_match.specs.declared.search.Step.{Step}
 use Rattle.blossom_match.specs.declared.state.Standing.{Standing}
 use Rattle.blossom_match.specs.declared.phase.Stepped.{Stepped}
 use Rattle.blossom_match.specs.declared.phase.Stepped.TheVariants.{More, Done}
 
--- couples and free places with the heights that they make
-pub record Stands (t : TableValue) (couples : List CoupleValue)
+-- matches and free places with the heights that they make
+pub record Stands (t : TableValue) (matches : List MatchValue)
     (free heights : List ℕ) : Type 0 where
-  pub standing : IsStanding t (λ x. slice_index heights x) couples free
+  pub standing : IsStanding t (λ x. slice_index heights x) matches free
   pub size : length heights ≡ t.places
 
 -- so does what stands between two searches
 abbrev pub StandsAt : TableValue → Standing → Type 0
-StandsAt t s = Stands t (couples_in s.sets s.couples.items) s.free.items s.heights.items
+StandsAt t s = Stands t (matches_in s.sets s.matches.items) s.free.items s.heights.items
 
--- couples that hold all places
-pub record IsMatched (t : TableValue) (couples : List CoupleValue) : Type 0 where
+-- matches that hold all places
+pub record IsMatched (t : TableValue) (matches : List MatchValue) : Type 0 where
   pub heights : List ℕ
-  pub stands : Stands t couples [] heights
+  pub stands : Stands t matches [] heights
 
 -- the search of a single place
-pub record Begins (t : TableValue) (place : ℕ) (couples : List CoupleValue) (places prices : List ℕ)
+pub record Begins (t : TableValue) (place : ℕ) (matches : List MatchValue) (places prices : List ℕ)
     (s : SearchValue) : Type 0 where
   pub table : IsTable t
   pub root : s.root ≡ single_of s.root.key t place (slice_index prices place)
   pub heights : s.heights ≡ prices
   pub tree : s.tree ≡ []
-  pub rest : s.rest ≡ couples
+  pub rest : s.rest ≡ matches
   pub free : s.free ≡ places
 
 -- what the step leads to
@@ -51,7 +51,7 @@ Goes t s (More r) = CanSearch t (search_value r) × (size_of (search_value r) < 
     × (r.free.items ≡ s.free)
 Goes t s (Done r) = StandsAt t r × (length r.free.items + 1 ≡ length s.free)
 
--- the couples that the mask shows after the step
+-- the matches that the mask shows after the step
 abbrev pub StepMasks : TableValue → Stepped → List ℕ → Type 0
 StepMasks t (More r) mask = SearchMasks t (search_value r) mask
 StepMasks t (Done r) mask = Unit {0}

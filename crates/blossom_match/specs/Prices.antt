@@ -6,9 +6,9 @@ use Rattle.blossom_match.specs.TableValue.{TableValue}
 use Rattle.blossom_match.specs.Tables.{entry}
 use Rattle.blossom_match.specs.Values.{StandingValue}
 
--- at the price there is room between the place and each other
-abbrev pub LeavesRoom : TableValue → List ℕ → ℕ → ℕ → Type 0
-LeavesRoom t heights place price = (b : ℕ) → b < t.places → place ≢ b
+-- at the price the slack between the place and each other isn't negative
+abbrev pub LeavesSlack : TableValue → List ℕ → ℕ → ℕ → Type 0
+LeavesSlack t heights place price = (b : ℕ) → b < t.places → place ≢ b
     → price + slice_index heights b ≤ 2 * entry t place b
 
 -- no price is more than a distance
@@ -16,29 +16,29 @@ abbrev pub AreHalves : TableValue → List ℕ → Type 0
 AreHalves t prices = (a b : ℕ) → a < t.places → b < t.places → a ≢ b
     → slice_index prices a ≤ entry t a b
 
--- the place and the free ones are places, and there is room between them
+-- the place and the free ones are places, and the slack between them isn't negative
 pub record Lies (t : TableValue) (heights free : List ℕ) (place : ℕ) : Type 0 where
   pub within : place < t.places
   pub others : (b : ℕ) → 1 ≤ count b free → b < t.places
-  pub room : LeavesRoom t heights place (slice_index heights place)
+  pub slack : LeavesSlack t heights place (slice_index heights place)
 
 -- the prices of two different places use up their distance
 pub record IsTightPair (t : TableValue) (heights : List ℕ) (a b : ℕ) : Type 0 where
   pub differ : a ≢ b
   pub tight : slice_index heights a + slice_index heights b ≡ 2 * entry t a b
 
--- a free place to which the prices leave no room
+-- a free place to which the prices leave no slack
 pub record FindsTight (t : TableValue) (heights free : List ℕ) (place other : ℕ) : Type 0 where
   pub here : 1 ≤ count other free
   pub pair : IsTightPair t heights place other
 
 -- two free places whose prices use up their distance
 pub record CanPair (t : TableValue) (place other : ℕ) (s : StandingValue) : Type 0 where
-  pub stands : Stands t s.couples s.free s.heights
+  pub stands : Stands t s.matches s.free s.heights
   pub here : 1 ≤ count place s.free
   pub found : FindsTight t s.heights s.free place other
 
--- both places are in a couple
+-- both places are in a match
 pub record Pairs (t : TableValue) (s r : StandingValue) : Type 0 where
-  pub stands : Stands t r.couples r.free r.heights
+  pub stands : Stands t r.matches r.free r.heights
   pub fewer : length r.free + 2 ≡ length s.free

@@ -15,10 +15,10 @@ abbrev pub left_by : TableValue → List ℕ → ℕ → ℕ → ℕ
 left_by t hs a x = 2 * entry t a x - slice_index hs a
 
 -- one of the places leaves so much for x
-pub record IsLeft (t : TableValue) (hs xs : List ℕ) (x room : ℕ) : Type 0 where
+pub record IsLeft (t : TableValue) (hs xs : List ℕ) (x left : ℕ) : Type 0 where
   pub a : ℕ
   pub here : 1 ≤ count a xs
-  pub exact : room ≡ left_by t hs a x
+  pub exact : left ≡ left_by t hs a x
 
 -- each cell outside the set of the places becomes the least of what it was and what the places
 -- leave; those of the set stay
@@ -33,11 +33,11 @@ pub record TakesSet (t : TableValue) (hs xs old new : List ℕ) : Type 0 where
 
 -- an outer place that no outer set holds together with x leaves so much for it
 pub record IsReached (t : TableValue) (hs : List ℕ) (root : NestValue) (tree : List BranchValue)
-    (x room : ℕ) : Type 0 where
+    (x left : ℕ) : Type 0 where
   pub a : ℕ
   pub here : 1 ≤ count a (outer_members root.members tree)
   pub apart : holding a x root tree ≡ 0
-  pub exact : room ≡ left_by t hs a x
+  pub exact : left ≡ left_by t hs a x
 
 -- each cell has the least that the outer places of other sets leave
 pub record Reaches (t : TableValue) (hs : List ℕ) (root : NestValue) (tree : List BranchValue)

@@ -1,5 +1,5 @@
 -- What a set leaves for each place outside it, in halves of a step. A row has a cell for each place
--- of the table; it is made with its set and never changes, whatever widths do.
+-- of the table; it is made with its set and never changes, whatever duals do.
 use Rattle.std.specs.Prelude.{◌≡◌, ℕ, ◌-◌, ◌*◌, ◌==◌, ◌<◌, ◌≤◌, List, length, map, min, nat_lt, slice_index, if◌then◌else◌}
 use Rattle.std.specs.List.{range_with_len}
 use Rattle.blossom_match.specs.Bands.{Row, count, height}
@@ -7,36 +7,36 @@ use Rattle.blossom_match.specs.TableValue.{TableValue}
 use Rattle.blossom_match.specs.Tables.{entry}
 use Rattle.blossom_match.specs.declared.table.TheConstants.{FAR}
 
--- a room from which the width is taken; FAR stays
+-- what is left once the dual is taken; FAR stays
 abbrev pub lowered : ℕ → ℕ → ℕ
-lowered by room = if nat_lt room FAR then room - by else room
+lowered by left = if nat_lt left FAR then left - by else left
 
--- each cell becomes the lesser of what it was and what the row leaves over the width
+-- each cell becomes the lesser of what it was and what the row leaves over the dual
 abbrev pub Merges : List ℕ → ℕ → List ℕ → List ℕ → Type 0
-Merges near width old new = (x : ℕ) → x < length near
-    → slice_index new x ≡ min (lowered width (slice_index near x)) (slice_index old x)
+Merges near dual old new = (x : ℕ) → x < length near
+    → slice_index new x ≡ min (lowered dual (slice_index near x)) (slice_index old x)
 
--- each cell of the places gets the room, and no other cell changes
-pub record Puts (room : ℕ) (places old new : List ℕ) : Type 0 where
-  pub on : (x : ℕ) → 1 ≤ count x places → slice_index new x ≡ room
+-- so much is left for each of the places, and no other cell changes
+pub record Puts (left : ℕ) (places old new : List ℕ) : Type 0 where
+  pub on : (x : ℕ) → 1 ≤ count x places → slice_index new x ≡ left
   pub off : (x : ℕ) → count x places ≡ 0 → slice_index new x ≡ slice_index old x
 
--- one of the row's members has so much room for x over the widths of the sets inside
-pub record IsRoomOf (t : TableValue) (r : Row) (x room : ℕ) : Type 0 where
+-- one of the row's members leaves so much for x over the duals of the sets inside
+pub record IsLeftBy (t : TableValue) (r : Row) (x left : ℕ) : Type 0 where
   pub a : ℕ
   pub here : 1 ≤ count a r.members
-  pub exact : room ≡ 2 * entry t a x - height a r.below
+  pub exact : left ≡ 2 * entry t a x - height a r.below
 
--- the row has the least room of a member for each place outside the set, and FAR at the members
+-- the row has the least that a member leaves for each place outside the set, and FAR at the members
 pub record IsNear (t : TableValue) (r : Row) : Type 0 where
   pub size : length r.cells ≡ t.places
   pub own : (x : ℕ) → 1 ≤ count x r.members → x < t.places → slice_index r.cells x ≡ FAR
   pub short : (x : ℕ) → count x r.members ≡ 0 → x < t.places → slice_index r.cells x < FAR
   pub least : (a x : ℕ) → 1 ≤ count a r.members → count x r.members ≡ 0 → x < t.places
       → slice_index r.cells x ≤ 2 * entry t a x - height a r.below
-  pub is : (x : ℕ) → count x r.members ≡ 0 → x < t.places → IsRoomOf t r x (slice_index r.cells x)
+  pub is : (x : ℕ) → count x r.members ≡ 0 → x < t.places → IsLeftBy t r x (slice_index r.cells x)
 
--- the room of a single place for x
+-- what a single place leaves for x
 abbrev pub single_cell : TableValue → ℕ → ℕ → ℕ
 single_cell t place x = if x == place then FAR else 2 * entry t place x
 

@@ -1,10 +1,10 @@
--- A link between two outer sets closes a ring.
+-- A link between two outer sets closes a blossom.
 use Rattle.std.specs.Prelude.{◌≡◌, ℕ, ◌+◌, ◌*◌, ◌%◌, ◌<◌, ◌≤◌, List, [], ◌∷◌, ◌++◌, length, reverse}
 use Rattle.blossom_match.specs.TableValue.{TableValue}
 use Rattle.blossom_match.specs.Lists.{Each}
 use Rattle.blossom_match.specs.Bands.{Adds, Band, NestValue, bands, count}
-use Rattle.blossom_match.specs.Rings.{members_in, bands_in, AllKept}
-use Rattle.blossom_match.specs.RingRows.{ring_of, HaveRows}
+use Rattle.blossom_match.specs.Blossoms.{members_in, bands_in, AllKept}
+use Rattle.blossom_match.specs.BlossomRows.{blossom_of, HaveRows}
 use Rattle.blossom_match.specs.Sound.{IsFirm, IsFirmPart, IsSound, IsSymmetric, IsTight}
 use Rattle.blossom_match.specs.Trees.{around, both, branch_bands, inner_bands, outer_members, inner_members, IsGrown}
 use Rattle.blossom_match.specs.declared.nest.Link.{Link}
@@ -24,8 +24,8 @@ abbrev pub branch_of : Link → NestValue → Link → NestValue → BranchValue
 branch_of up inner pair outer = record { up = up; inner = inner; pair = pair; outer = outer }
 
 -- the set that the set at the top and the chain make
-abbrev pub ring_value : ℕ → NestValue → Link → List PartValue → NestValue
-ring_value key top way chain = ring_of key (record { nest = top; next = way } ∷ chain)
+abbrev pub blossom_value : ℕ → NestValue → Link → List PartValue → NestValue
+blossom_value key top way chain = blossom_of key (record { nest = top; next = way } ∷ chain)
 
 -- a chain that begins and ends at the set at the top
 pub record Closable (top : NestValue) (way : Link) (chain : List PartValue) (to : ℕ) : Type 0 where
@@ -53,17 +53,17 @@ pub record Shrinking (link : Link) (root : NestValue) (tree : List BranchValue) 
   pub sound : IsSound t h root
   pub firm : Each (IsFirm t h) tree
 
--- the ring that the link closes is one outer set under the key, without a width
+-- the blossom that the link closes is one outer set under the key, of dual 0
 pub record Shrinks (key : ℕ) (link : Link) (root new_root : NestValue)
     (old new : List BranchValue) : Type 0 where
   pub grown : IsGrown new_root.members new
   pub places : (x : ℕ) → count x (outer_members new_root.members new) + count x (inner_members new)
       ≡ count x (outer_members root.members old) + count x (inner_members old)
-  pub ring : List ℕ
+  pub blossom : List ℕ
   pub sums : (F : List Band → ℕ) → Adds F →
       F (bands new_root) + F (branch_bands new)
       ≡ F (bands root) + F (branch_bands old)
-      + F (record { key = key; members = ring; width = 0 } ∷ [])
+      + F (record { key = key; members = blossom; dual = 0 } ∷ [])
   pub fewer : length (inner_bands new) < length (inner_bands old)
   pub firm : (d : TableValue) (h : ℕ → ℕ) → IsSymmetric d → IsTight d h link → IsSound d h root
       → Each (IsFirm d h) old →

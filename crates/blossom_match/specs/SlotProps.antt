@@ -3,7 +3,7 @@ use Rattle.std.specs.Prelude.{ℕ, zero, suc, List, [], ◌∷◌}
 use Rattle.std.proofs.Props.{props}
 use Rattle.blossom_match.specs.Lists.{Each}
 use Rattle.blossom_match.specs.Bands.{Band, Kept, Misses, NoneHold}
-use Rattle.blossom_match.specs.Rings.{IsLinkedRing, IsMade, IsRing, Linked}
+use Rattle.blossom_match.specs.Blossoms.{IsLinkedBlossom, IsMade, IsBlossom, Linked}
 use Rattle.blossom_match.specs.Slots.{parts_at, IsRowOf, IsSet, IsSetTo, Slots}
 use Rattle.blossom_match.specs.Values.{PartValue}
 use Rattle.blossom_match.specs.declared.nest.Part.{Part}
@@ -20,20 +20,20 @@ linked-prop : (p : PartValue) (ps : List PartValue) → IsProp (Linked p ps)
 linked-prop p [] = hlevel props
 linked-prop p (q ∷ qs) = hlevel (props, linked-prop q qs)
 
-linked_ring-prop : (ps : List PartValue) → IsProp (IsLinkedRing ps)
-linked_ring-prop [] = hlevel props
-linked_ring-prop (p ∷ ps) = linked-prop p _
+linked_blossom-prop : (ps : List PartValue) → IsProp (IsLinkedBlossom ps)
+linked_blossom-prop [] = hlevel props
+linked_blossom-prop (p ∷ ps) = linked-prop p _
 
 kept-prop : (p : PartValue) → IsProp (Kept p.nest)
 kept-prop p = hlevel (props, none_hold-prop)
 
-ring-prop : (ps : List PartValue) → IsProp (IsRing ps)
-ring-prop ps =
-    hlevel (props, linked_ring-prop ps, each-prop (λ (p : PartValue). Kept p.nest) kept-prop ps)
+blossom-prop : (ps : List PartValue) → IsProp (IsBlossom ps)
+blossom-prop ps =
+    hlevel (props, linked_blossom-prop ps, each-prop (λ (p : PartValue). Kept p.nest) kept-prop ps)
 
 made-prop : (ms : List ℕ) (ps : List PartValue) → IsProp (IsMade ms ps)
 made-prop ms [] = hlevel props
-made-prop ms (p ∷ ps) = hlevel (props, ring-prop (p ∷ ps))
+made-prop ms (p ∷ ps) = hlevel (props, blossom-prop (p ∷ ps))
 
 row-prop : (near : List ℕ) (ps : List PartValue) → IsProp (IsRowOf near ps)
 row-prop near [] = hlevel props

@@ -1,16 +1,16 @@
 -- Odd sets in the slots of a slab. A slot keeps what doesn't change while its set stands, and names
--- the parts of a ring by key; a width stands with the name of its set.
+-- the parts of a blossom by key; a dual stands with the name of its set.
 use Rattle.std.specs.Prelude.{◌≡◌, ◌≢◌, ℕ, zero, suc, ◌≤◌, List, [], ◌∷◌, map, length, Option, Some, None}
 use Rattle.slab.specs.Slab.{Slab, get, ContainsKey}
 use Rattle.blossom_match.specs.Lists.{Each}
 use Rattle.blossom_match.specs.Bands.{Band, NestValue, uses}
-use Rattle.blossom_match.specs.Rings.{nest_of, IsMade}
-use Rattle.blossom_match.specs.RingRows.{ring_row}
-use Rattle.blossom_match.specs.Values.{PartValue, CoupleValue, BranchValue}
+use Rattle.blossom_match.specs.Blossoms.{nest_of, IsMade}
+use Rattle.blossom_match.specs.BlossomRows.{blossom_row}
+use Rattle.blossom_match.specs.Values.{PartValue, MatchValue, BranchValue}
 use Rattle.blossom_match.specs.declared.nest.Seat.{Seat}
 use Rattle.blossom_match.specs.declared.nest.Part.{Part}
 use Rattle.blossom_match.specs.declared.nest.Slot.{Slot}
-use Rattle.blossom_match.specs.declared.couples.Couple.{Couple}
+use Rattle.blossom_match.specs.declared.matches.Match.{Match}
 use Rattle.blossom_match.specs.declared.branches.Branch.{Branch}
 
 -- the slots in which sets stand, by key
@@ -43,7 +43,7 @@ parts_at sets key = parts_of (get sets key)
 -- a part with these sets inside
 abbrev pub with_inside : Slots → Part → List PartValue → PartValue
 with_inside sets p inside = record {
-  nest = nest_of p.seat.key (members_at sets p.seat.key) p.seat.width (near_at sets p.seat.key)
+  nest = nest_of p.seat.key (members_at sets p.seat.key) p.seat.dual (near_at sets p.seat.key)
       inside;
   next = p.next;
 }
@@ -56,15 +56,15 @@ part_to (suc n) sets p = with_inside sets p (map (part_to n sets) (parts_at sets
 -- the set of a seat. A part has fewer members than the whole, so that there are no more levels than
 -- members.
 abbrev pub set_in : Slots → Seat → NestValue
-set_in sets s = nest_of s.key (members_at sets s.key) s.width (near_at sets s.key)
+set_in sets s = nest_of s.key (members_at sets s.key) s.dual (near_at sets s.key)
     (map (part_to (length (members_at sets s.key)) sets) (parts_at sets s.key))
 
--- a part, a couple and a branch with the sets of their seats
+-- a part, a match and a branch with the sets of their seats
 abbrev pub part_in : Slots → Part → PartValue
 part_in sets p = record { nest = set_in sets p.seat; next = p.next }
 
-abbrev pub couple_in : Slots → Couple → CoupleValue
-couple_in sets c = record {
+abbrev pub match_in : Slots → Match → MatchValue
+match_in sets c = record {
   first = set_in sets c.first;
   second = set_in sets c.second;
   link = c.link;
@@ -83,23 +83,23 @@ abbrev pub core_in : Slots → Option Seat → Option NestValue
 core_in sets None = None
 core_in sets (Some s) = Some (set_in sets s)
 
--- so of all parts, couples and branches
+-- so of all parts, matches and branches
 abbrev pub parts_in : Slots → List Part → List PartValue
 parts_in sets ps = map (part_in sets) ps
 
-abbrev pub couples_in : Slots → List Couple → List CoupleValue
-couples_in sets cs = map (couple_in sets) cs
+abbrev pub matches_in : Slots → List Match → List MatchValue
+matches_in sets cs = map (match_in sets) cs
 
 abbrev pub branches_in : Slots → List Branch → List BranchValue
 branches_in sets bs = map (branch_in sets) bs
 
--- the row of a ring has the least that its parts leave over their widths
+-- the row of a blossom has the least that its parts leave over their duals
 abbrev pub IsRowOf : List ℕ → List PartValue → Type 0
 IsRowOf near [] = Unit {0}
-IsRowOf near (p ∷ ps) = near ≡ ring_row (p ∷ ps)
+IsRowOf near (p ∷ ps) = near ≡ blossom_row (p ∷ ps)
 
--- the slot under the key has one place or a ring with its row, and so have those of its parts, so
--- many levels down
+-- the slot under the key has one place or a blossom with its row, and so have those of its parts,
+-- so many levels down
 abbrev pub IsSetTo : ℕ → Slots → ℕ → Type 0
 IsSetTo zero sets key = ⊥
 IsSetTo (suc n) sets key = ContainsKey sets key

@@ -6,7 +6,7 @@ use Rattle.blossom_match.specs.Lists.{Each}
 use Rattle.blossom_match.specs.Bands.{NestValue, bands, count, height, rows_of, Kept, IsPaid}
 use Rattle.blossom_match.specs.Rows.{IsNear}
 use Rattle.blossom_match.specs.declared.nest.Link.{Link}
-use Rattle.blossom_match.specs.Values.{BranchValue, CoupleValue, PartValue}
+use Rattle.blossom_match.specs.Values.{BranchValue, MatchValue, PartValue}
 
 -- the distance does not depend on the order of the places
 abbrev pub IsSymmetric : TableValue → Type 0
@@ -31,7 +31,7 @@ pub record IsFirmPart (d : TableValue) (h : ℕ → ℕ) (p : PartValue) : Type 
   pub nest : IsSound d h p.nest
 
 -- two sound sets and a tight link
-pub record IsFirmCouple (d : TableValue) (h : ℕ → ℕ) (c : CoupleValue) : Type 0 where
+pub record IsFirmMatch (d : TableValue) (h : ℕ → ℕ) (c : MatchValue) : Type 0 where
   pub link : IsTight d h c.link
   pub first : IsSound d h c.first
   pub second : IsSound d h c.second

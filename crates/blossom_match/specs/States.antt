@@ -1,5 +1,5 @@
 -- A search and what stands between searches, with the sets of their slots.
-use Rattle.blossom_match.specs.Slots.{couples_in, branches_in, set_in}
+use Rattle.blossom_match.specs.Slots.{matches_in, branches_in, set_in}
 use Rattle.blossom_match.specs.Values.{SearchValue, StandingValue}
 use Rattle.blossom_match.specs.declared.state.Search.{Search}
 use Rattle.blossom_match.specs.declared.state.Standing.{Standing}
@@ -8,14 +8,14 @@ abbrev pub search_value : Search → SearchValue
 search_value s = record {
   root = set_in s.sets s.root;
   tree = branches_in s.sets s.tree.items;
-  rest = couples_in s.sets s.rest.items;
+  rest = matches_in s.sets s.rest.items;
   free = s.free.items;
   heights = s.heights.items;
 }
 
 abbrev pub standing_value : Standing → StandingValue
 standing_value s = record {
-  couples = couples_in s.sets s.couples.items;
+  matches = matches_in s.sets s.matches.items;
   free = s.free.items;
   heights = s.heights.items;
 }

@@ -4,11 +4,11 @@ use Rattle.std.specs.List.{flat_map}
 use Rattle.blossom_match.specs.TableValue.{TableValue}
 use Rattle.blossom_match.specs.Lists.{Each, sum_over}
 use Rattle.blossom_match.specs.Bands.{Adds, Band, NestValue, bands, bands_of, count, members_onto}
-use Rattle.blossom_match.specs.Rings.{back_of}
-use Rattle.blossom_match.specs.Couples.{couple_members, couple_bands, IsJoined}
-use Rattle.blossom_match.specs.Sound.{IsTight, IsSound, IsFirm, IsFirmCouple}
+use Rattle.blossom_match.specs.Blossoms.{back_of}
+use Rattle.blossom_match.specs.Matches.{match_members, match_bands, IsJoined}
+use Rattle.blossom_match.specs.Sound.{IsTight, IsSound, IsFirm, IsFirmMatch}
 use Rattle.blossom_match.specs.declared.nest.Link.{Link}
-use Rattle.blossom_match.specs.Values.{BranchValue, CoupleValue}
+use Rattle.blossom_match.specs.Values.{BranchValue, MatchValue}
 
 -- the sets of a branch: both, the outer one, the inner one
 abbrev pub branch_sets : BranchValue → List NestValue
@@ -37,8 +37,8 @@ abbrev pub inner_bands : List BranchValue → List Band
 inner_bands bs = bands_of (flat_map inner_sets bs)
 
 -- all sets of a search
-abbrev pub all_bands : NestValue → List BranchValue → List CoupleValue → List Band
-all_bands root tree rest = bands root ++ (branch_bands tree ++ couple_bands rest)
+abbrev pub all_bands : NestValue → List BranchValue → List MatchValue → List Band
+all_bands root tree rest = bands root ++ (branch_bands tree ++ match_bands rest)
 
 -- places is what the outer sets before hold
 abbrev pub IsGrown : List ℕ → List BranchValue → Type 0
@@ -67,38 +67,38 @@ pub record Augmenting (met : NestValue) (link : Link) (root : NestValue)
 
 -- all sets of the tree and the hand in pairs, with the pairs of before
 pub record Augments (root met : NestValue) (link : Link) (tree : List BranchValue)
-    (old new : List CoupleValue) : Type 0 where
+    (old new : List MatchValue) : Type 0 where
   pub joined : Each IsJoined old → Each IsJoined new
   pub firm : (d : TableValue) (h : ℕ → ℕ) → IsTight d h link → IsSound d h root → IsSound d h met
       → Each (IsFirm d h) tree →
-      Each (IsFirmCouple d h) old → Each (IsFirmCouple d h) new
-  pub places : (x : ℕ) → count x (couple_members new) ≡
-      count x (couple_members old) + count x met.members + count x (outer_members root.members tree)
+      Each (IsFirmMatch d h) old → Each (IsFirmMatch d h) new
+  pub places : (x : ℕ) → count x (match_members new) ≡
+      count x (match_members old) + count x met.members + count x (outer_members root.members tree)
       + count x (inner_members tree)
   pub sums : (F : List Band → ℕ) → Adds F →
-      F (couple_bands new) ≡ F (couple_bands old) + F (bands met) + F (bands root)
+      F (match_bands new) ≡ F (match_bands old) + F (bands met) + F (bands root)
       + F (branch_bands tree)
 
--- a couple is made at the last branch and the hand goes on: what is left to do does the rest
-pub record PairsAt (hand : NestValue) (way : Link) (b : BranchValue) (c : CoupleValue)
+-- a match is made at the last branch and the hand goes on: what is left to do does the rest
+pub record PairsAt (hand : NestValue) (way : Link) (b : BranchValue) (c : MatchValue)
     (next : NestValue) (on : Link) : Type 0 where
   pub can : (root : NestValue) (bs : List BranchValue) → Augmenting hand way root (bs ++ b ∷ [])
       → Augmenting next on root bs
-  pub does : (root : NestValue) (bs : List BranchValue) (old new : List CoupleValue)
+  pub does : (root : NestValue) (bs : List BranchValue) (old new : List MatchValue)
       → Augmenting hand way root (bs ++ b ∷ []) → Augments root next on bs (old ++ c ∷ []) new
       → Augments root hand way (bs ++ b ∷ []) old new
 
--- the couple hung below an outer set by the link
-abbrev pub hung_by : Link → CoupleValue → BranchValue
+-- the match hung below an outer set by the link
+abbrev pub hung_by : Link → MatchValue → BranchValue
 hung_by up c =
     if nat_lt 0 (count up.to c.first.members)
     then record { up = up; inner = c.first; pair = c.link; outer = c.second }
     else record { up = up; inner = c.second; pair = back_of c.link; outer = c.first }
 
--- one couple leaves the list
-pub record TakesOut (place : ℕ) (old new : List CoupleValue) (c : CoupleValue) : Type 0 where
-  pub before : List CoupleValue
-  pub after : List CoupleValue
+-- one match leaves the list
+pub record TakesOut (place : ℕ) (old new : List MatchValue) (c : MatchValue) : Type 0 where
+  pub before : List MatchValue
+  pub after : List MatchValue
   pub was : old ≡ before ++ c ∷ after
   pub now : new ≡ before ++ after
   pub here : 1 ≤ count place c.first.members + count place c.second.members

@@ -3,13 +3,13 @@ use Rattle.std.specs.Prelude.{ℕ, List}
 use Rattle.blossom_match.specs.Bands.{NestValue}
 use Rattle.blossom_match.specs.declared.nest.Link.{Link}
 
--- a part of a ring, and the link to the part after it
+-- a part of a blossom, and the link to the part after it
 pub record PartValue : Type 0 where
   pub nest : NestValue
   pub next : Link
 
 -- two sets that are paired by a link from the first to the second
-pub record CoupleValue : Type 0 where
+pub record MatchValue : Type 0 where
   pub first : NestValue
   pub second : NestValue
   pub link : Link
@@ -21,16 +21,16 @@ pub record BranchValue : Type 0 where
   pub pair : Link
   pub outer : NestValue
 
--- the tree, the couples beside it, the free places, and the height of each place
+-- the tree, the matches beside it, the free places, and the height of each place
 pub record SearchValue : Type 0 where
   pub root : NestValue
   pub tree : List BranchValue
-  pub rest : List CoupleValue
+  pub rest : List MatchValue
   pub free : List ℕ
   pub heights : List ℕ
 
 -- sets in pairs, free places, and the height of each place
 pub record StandingValue : Type 0 where
-  pub couples : List CoupleValue
+  pub matches : List MatchValue
   pub free : List ℕ
   pub heights : List ℕ

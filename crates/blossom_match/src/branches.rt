@@ -1,8 +1,8 @@
 ghost use Rattle.std.specs.Prelude.{◌≡◌, ◌++◌, ◌∷◌, [], reverse, OnOk};
-ghost use Rattle.blossom_match.specs.Slots.{branch_in, branches_in, couple_in, couples_in, set_in};
+ghost use Rattle.blossom_match.specs.Slots.{branch_in, branches_in, match_in, matches_in, set_in};
 ghost use Rattle.blossom_match.specs.Trees.{hung_by, Augmenting, Augments, PairsAt};
 
-use crate::couples::Couple;
+use crate::matches::Match;
 use crate::nest::{Link, Seat, Sets};
 use design_model::Memory;
 
@@ -16,16 +16,16 @@ pub struct Branch {
     pub outer: Seat,
 }
 
-/// Hangs a couple below the outer set that the link comes from.
-pub fn grow(sets: &Sets, tree: &mut Vec<Branch>, up: Link, couple: Couple) -> Result<(), Memory>
+/// Hangs a match below the outer set that the link comes from.
+pub fn grow(sets: &Sets, tree: &mut Vec<Branch>, up: Link, matched: Match) -> Result<(), Memory>
     ensures { OnOk result (branches_in sets.now tree.new.items
-        ≡ branches_in sets.now tree.old.items ++ hung_by up (couple_in sets.now couple) ∷ []) }
+        ≡ branches_in sets.now tree.old.items ++ hung_by up (match_in sets.now matched) ∷ []) }
 {
-    if couple.first.holds(sets, up.to) {
-        hang(tree, up, couple.first, couple.link, couple.second)?;
+    if matched.first.holds(sets, up.to) {
+        hang(tree, up, matched.first, matched.link, matched.second)?;
         return Ok(());
     }
-    hang(tree, up, couple.second, couple.link.back(), couple.first)?;
+    hang(tree, up, matched.second, matched.link.back(), matched.first)?;
     Ok(())
 }
 
@@ -49,20 +49,20 @@ pub fn hang(
     Ok(())
 }
 
-/// Pairs along the way from the link to the root, so that each branch becomes a couple.
+/// Pairs along the way from the link to the root, so that each branch becomes a match.
 pub fn augment(
     sets: &Sets,
     root: Seat,
     tree: Vec<Branch>,
     link: Link,
     met: Seat,
-    rest: &mut Vec<Couple>,
+    rest: &mut Vec<Match>,
 ) -> Result<(), Memory>
     requires { Augmenting (set_in sets.now met) link (set_in sets.now root)
         (branches_in sets.now tree.items) }
     ensures { OnOk result (Augments (set_in sets.now root) (set_in sets.now met) link
-        (branches_in sets.now tree.items) (couples_in sets.now rest.old.items)
-        (couples_in sets.now rest.new.items)) }
+        (branches_in sets.now tree.items) (matches_in sets.now rest.old.items)
+        (matches_in sets.now rest.new.items)) }
 {
     let mut left = tree;
     let mut hand = Hand {
@@ -72,7 +72,7 @@ pub fn augment(
     while let Some(b) = left.pop() {
         rest.push(hand.pair_at(sets, b))?;
     }
-    rest.push(Couple {
+    rest.push(Match {
         first: root,
         second: hand.set,
         link: hand.way,
@@ -88,23 +88,23 @@ struct Hand {
 }
 
 impl Hand {
-    /// The couple at the branch. Where the way comes from its outer set, that is paired with the hand,
+    /// The match at the branch. Where the way comes from its outer set, that is paired with the hand,
     /// which moves on to the inner set.
-    fn pair_at(&mut self, sets: &Sets, b: Branch) -> Couple
+    fn pair_at(&mut self, sets: &Sets, b: Branch) -> Match
         ensures { PairsAt (set_in sets.now self.old.set) self.old.way (branch_in sets.now b)
-            (couple_in sets.now result) (set_in sets.now self.new.set) self.new.way }
+            (match_in sets.now result) (set_in sets.now self.new.set) self.new.way }
     {
         if b.outer.holds(sets, self.way.from) {
-            let couple = Couple {
+            let matched = Match {
                 first: b.outer,
                 second: self.set,
                 link: self.way,
             };
             self.set = b.inner;
             self.way = b.up;
-            return couple;
+            return matched;
         }
-        Couple {
+        Match {
             first: b.inner,
             second: b.outer,
             link: b.pair,

@@ -20,14 +20,14 @@ use crate::search::Step;
 use crate::state::Search;
 use crate::table::{DistTable, FAR};
 
-/// A change of widths, in halves of a step, and what can be done after it.
+/// A change of duals, in halves of a step, and what can be done after it.
 #[derive(Clone, Copy, Drop)]
 pub struct Change {
     pub by: u32,
     pub step: Step,
 }
 
-/// What a link from an outer set leads to: a free place, a couple or another outer set.
+/// What a link from an outer set leads to: a free place, a match or another outer set.
 #[derive(Clone, Copy, Drop)]
 enum Kind {
     Meet,
@@ -35,7 +35,7 @@ enum Kind {
     Shrink,
 }
 
-/// A place that a link leads to, and the change of widths after which the link is tight.
+/// A place that a link leads to, and the change of duals after which the link is tight.
 #[derive(Clone, Copy, Drop)]
 struct Aim {
     by: u32,
@@ -43,7 +43,7 @@ struct Aim {
     to: u32,
 }
 
-/// The least change of widths after which a step can be done.
+/// The least change of duals after which a step can be done.
 pub fn least(t: &DistTable, reach: &[u32], mask: &[u32], s: &Search) -> Change
     requires table { IsTable t.now }
     requires can { CanSearch t.now (search_value s.now) }
@@ -67,17 +67,17 @@ fn least_at(t: &DistTable, heights: &[u32], reach: &[u32], mask: &[u32], s: &Sea
     let grown = aim_at_shown(heights, reach, mask, met);
     let crossed = aim_at_outers(heights, reach, s, grown);
     let change = change_to(t, heights, reach, s, crossed);
-    scan_rings(&s.sets, &s.tree, change)
+    scan_blossoms(&s.sets, &s.tree, change)
 }
 
-/// The change of widths that uses up the room.
-fn change_for(kind: Kind, room: u32) -> u32
-    ensures { result ≡ change_of kind room }
+/// The change of duals that uses up the slack.
+fn change_for(kind: Kind, slack: u32) -> u32
+    ensures { result ≡ change_of kind slack }
 {
     match kind {
-        Kind::Meet => room,
-        Kind::Grow => room,
-        Kind::Shrink => room / 2,
+        Kind::Meet => slack,
+        Kind::Grow => slack,
+        Kind::Shrink => slack / 2,
     }
 }
 
@@ -114,11 +114,11 @@ fn nearer(heights: &[u32], reach: &[u32], to: u32, kind: Kind, best: Aim) -> Aim
     requires within { to < length reach.now }
     ensures { Aims heights.now reach.now kind (to ∷ []) best result }
 {
-    let room = reach[to as usize];
-    if room >= FAR {
+    let left = reach[to as usize];
+    if left >= FAR {
         return best;
     }
-    let by = change_for(kind, room.saturating_sub(heights[to as usize]));
+    let by = change_for(kind, left.saturating_sub(heights[to as usize]));
     if by < best.by {
         Aim { by, kind, to }
     } else {
@@ -147,15 +147,15 @@ fn aim_at_shown(heights: &[u32], reach: &[u32], mask: &[u32], best: Aim) -> Aim
     requires near { best.by ≤ FAR }
     ensures { AimsShown heights.now reach.now mask.now best result }
 {
-    let room = least_shown(heights, reach, mask);
-    if room >= best.by {
+    let slack = least_shown(heights, reach, mask);
+    if slack >= best.by {
         return best;
     }
-    let to = place_shown(heights, reach, mask, room);
+    let to = place_shown(heights, reach, mask, slack);
     nearer(heights, reach, to, Kind::Grow, best)
 }
 
-/// The least room that the mask shows.
+/// The least slack that the mask shows.
 fn least_shown(heights: &[u32], reach: &[u32], mask: &[u32]) -> u32
     requires cells { length heights.now ≡ length reach.now }
     requires masked { length mask.now ≡ length reach.now }
@@ -169,17 +169,17 @@ fn least_shown(heights: &[u32], reach: &[u32], mask: &[u32]) -> u32
     least
 }
 
-/// The first place at which the mask shows so much room.
-fn place_shown(heights: &[u32], reach: &[u32], mask: &[u32], room: u32) -> u32
+/// The first place at which the mask shows so much slack.
+fn place_shown(heights: &[u32], reach: &[u32], mask: &[u32], slack: u32) -> u32
     requires cells { length heights.now ≡ length reach.now }
     requires masked { length mask.now ≡ length reach.now }
     requires few { length reach.now ≤ MAX_PLACES }
-    requires there { IsShown heights.now reach.now mask.now room }
+    requires there { IsShown heights.now reach.now mask.now slack }
     ensures within { result < length reach.now }
-    ensures exact { room ≡ shown heights.now reach.now mask.now result }
+    ensures exact { slack ≡ shown heights.now reach.now mask.now result }
 {
     for x in 0..reach.len() {
-        if lesser_by(heights[x], reach[x]).max(mask[x]) == room {
+        if lesser_by(heights[x], reach[x]).max(mask[x]) == slack {
             return x as u32;
         }
     }
@@ -239,22 +239,22 @@ fn nearest(
     root: Seat,
     tree: &[Branch],
     to: u32,
-    room: u32,
+    left: u32,
 ) -> u32
     requires can { CanReach t.now heights.now (set_in sets.now root) (branches_in sets.now tree.now) }
     requires within { to < t.now.places }
     requires reached { IsReached t.now heights.now (set_in sets.now root)
-        (branches_in sets.now tree.now) to room }
+        (branches_in sets.now tree.now) to left }
     ensures here { 1 ≤ count result
         (outer_members (set_in sets.now root).members (branches_in sets.now tree.now)) }
     ensures apart { holding result to (set_in sets.now root) (branches_in sets.now tree.now) ≡ 0 }
-    ensures exact { room ≡ left_by t.now heights.now result to }
+    ensures exact { left ≡ left_by t.now heights.now result to }
 {
-    if let Some(a) = leaving(sets, t, heights, root, to, room) {
+    if let Some(a) = leaving(sets, t, heights, root, to, left) {
         return a;
     }
     for b in tree {
-        if let Some(a) = leaving(sets, t, heights, b.outer, to, room) {
+        if let Some(a) = leaving(sets, t, heights, b.outer, to, left) {
             return a;
         }
     }
@@ -262,36 +262,36 @@ fn nearest(
 }
 
 /// A place of the set that leaves so much, if the set doesn't hold the other place too.
-fn leaving(sets: &Sets, t: &DistTable, heights: &[u32], s: Seat, to: u32, room: u32) -> Option<u32>
+fn leaving(sets: &Sets, t: &DistTable, heights: &[u32], s: Seat, to: u32, left: u32) -> Option<u32>
     requires cells { length heights.now ≡ t.now.places }
     requires within { (a : ℕ) → 1 ≤ count a (set_in sets.now s).members → a < t.now.places }
     requires to_in { to < t.now.places }
-    ensures { Leaves t.now heights.now (set_in sets.now s) to room result }
+    ensures { Leaves t.now heights.now (set_in sets.now s) to left result }
 {
     if s.holds(sets, to) {
         None
     } else {
-        first_leaving(t, heights, s.members(sets), to, room)
+        first_leaving(t, heights, s.members(sets), to, left)
     }
 }
 
 /// The first of the places that leaves so much.
-fn first_leaving(t: &DistTable, heights: &[u32], xs: &[u32], to: u32, room: u32) -> Option<u32>
+fn first_leaving(t: &DistTable, heights: &[u32], xs: &[u32], to: u32, left: u32) -> Option<u32>
     requires cells { length heights.now ≡ t.now.places }
     requires within { (a : ℕ) → 1 ≤ count a xs.now → a < t.now.places }
     requires to_in { to < t.now.places }
-    ensures { LeavesIn t.now heights.now xs.now to room result }
+    ensures { LeavesIn t.now heights.now xs.now to left result }
 {
     for a in xs {
-        if (2 * t.get(to, *a)).saturating_sub(heights[*a as usize]) == room {
+        if (2 * t.get(to, *a)).saturating_sub(heights[*a as usize]) == left {
             return Some(*a);
         }
     }
     None
 }
 
-/// The lesser of a change and the least width of an inner ring.
-fn scan_rings(sets: &Sets, tree: &[Branch], best: Change) -> Change
+/// The lesser of a change and the least dual of an inner blossom.
+fn scan_blossoms(sets: &Sets, tree: &[Branch], best: Change) -> Change
     ensures { Narrows (branches_in sets.now tree.now) best result }
 {
     let mut least = best;
@@ -301,14 +301,14 @@ fn scan_rings(sets: &Sets, tree: &[Branch], best: Change) -> Change
     least
 }
 
-/// The lesser of a change and the width of the branch's inner ring.
+/// The lesser of a change and the dual of the branch's inner blossom.
 fn narrower(sets: &Sets, b: Branch, at: usize, best: Change) -> Change
     ensures { NarrowsAt (branch_in sets.now b) at best result }
 {
-    let width = b.inner.width;
-    if b.inner.is_ring(sets) && width < best.by {
+    let dual = b.inner.dual;
+    if b.inner.is_blossom(sets) && dual < best.by {
         Change {
-            by: width,
+            by: dual,
             step: Step::Expand(at),
         }
     } else {

@@ -2,13 +2,15 @@
 //! less.
 #![tactic(auto)]
 
+mod adjustment;
+mod blossom;
 mod branches;
-mod couples;
 mod expanding;
 mod heights;
 mod laws;
 mod least;
 mod masks;
+mod matches;
 mod matching;
 mod nest;
 mod opening;
@@ -16,14 +18,12 @@ mod pairing;
 mod phase;
 mod prices;
 mod reach;
-mod ring;
 mod rows;
 mod search;
 mod shrinking;
 mod state;
 mod table;
 mod taking;
-mod widening;
 
 pub use laws::none_costs_less;
 pub use matching::{Matching, Moat, Moats, Pair, Pairs, match_all};

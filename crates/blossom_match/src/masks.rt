@@ -1,36 +1,36 @@
 ghost use Rattle.std.specs.Prelude.{◌≤◌, drop, length};
 ghost use Rattle.blossom_match.specs.Bands.{count};
-ghost use Rattle.blossom_match.specs.Couples.{couple_members};
+ghost use Rattle.blossom_match.specs.Matches.{match_members};
 ghost use Rattle.blossom_match.specs.Heights.{HasCells};
 ghost use Rattle.blossom_match.specs.Masks.{branch_members};
 ghost use Rattle.blossom_match.specs.Rows.{Puts};
-ghost use Rattle.blossom_match.specs.Slots.{branch_in, couples_in};
+ghost use Rattle.blossom_match.specs.Slots.{branch_in, matches_in};
 ghost use Rattle.blossom_match.specs.States.{search_value};
 ghost use Rattle.blossom_match.specs.declared.table.TheConstants.{FAR};
 
 use crate::branches::Branch;
-use crate::couples::Couple;
+use crate::matches::Match;
 use crate::nest::Sets;
 use crate::rows::put;
 use crate::state::Search;
 use crate::table::FAR;
 
-/// Shows the places of the couples.
-fn show(sets: &Sets, couples: &[Couple], mask: &mut [u32])
-    requires { HasCells (λ x. count x (couple_members (couples_in sets.now couples.now))) mask.old }
-    ensures { Puts 0 (couple_members (couples_in sets.now couples.now)) mask.old mask.new }
+/// Shows the places of the matches.
+fn show(sets: &Sets, matches: &[Match], mask: &mut [u32])
+    requires { HasCells (λ x. count x (match_members (matches_in sets.now matches.now))) mask.old }
+    ensures { Puts 0 (match_members (matches_in sets.now matches.now)) mask.old mask.new }
 {
-    for c in couples {
+    for c in matches {
         put(0, c.first.members(sets), mask);
         put(0, c.second.members(sets), mask);
     }
 }
 
-/// Shows the places of a search's couples from the index on.
+/// Shows the places of a search's matches from the index on.
 pub fn show_from(s: &Search, at: usize, mask: &mut [u32])
     requires within { at ≤ length s.now.rest.items }
-    requires cells { HasCells (λ x. count x (couple_members (drop at (search_value s.now).rest))) mask.old }
-    ensures { Puts 0 (couple_members (drop at (search_value s.now).rest)) mask.old mask.new }
+    requires cells { HasCells (λ x. count x (match_members (drop at (search_value s.now).rest))) mask.old }
+    ensures { Puts 0 (match_members (drop at (search_value s.now).rest)) mask.old mask.new }
 {
     show(&s.sets, &s.rest[at..], mask);
 }

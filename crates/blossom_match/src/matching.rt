@@ -2,10 +2,10 @@ ghost use Rattle.std.specs.Prelude.{◌≡◌, ◌%◌, IfOk};
 ghost use Rattle.blossom_match.specs.Tables.{KeepsTriangles};
 ghost use Rattle.blossom_match.specs.Matchings.{IsMatching};
 
-use crate::pairing::couple_all;
+use crate::pairing::match_sets;
 use crate::state::Standing;
 use crate::table::DistTable;
-use crate::taking::take_couples;
+use crate::taking::take_matches;
 use design_model::{Items, Memory, Numbers};
 use std::alloc::Global;
 
@@ -44,12 +44,12 @@ pub fn match_all(alloc: Global, t: &DistTable) -> Result<Matching, Memory>
 {
     let Standing {
         sets,
-        couples,
+        matches,
         free: _,
         heights: _,
-    } = couple_all(alloc, t)?;
+    } = match_sets(alloc, t)?;
     let mut pairs = Pairs::new(alloc);
     let mut moats = Moats::new(alloc);
-    take_couples(alloc, &sets, couples, &mut pairs, &mut moats)?;
+    take_matches(alloc, &sets, matches, &mut pairs, &mut moats)?;
     Ok(Matching { pairs, moats })
 }

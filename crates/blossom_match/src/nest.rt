@@ -1,11 +1,11 @@
 ghost use Rattle.std.specs.Prelude.{◌≡◌, ◌≤◌, ◌+◌, ◌<◌, IsTrue, false, length, nat_lt, slice_index, IfOk};
 ghost use Rattle.blossom_match.specs.Bands.{count};
-ghost use Rattle.blossom_match.specs.Rings.{back_of, bands_in, members_in, single_of, IsRing};
-ghost use Rattle.blossom_match.specs.RingRows.{ring_of as the_ring, RowsAgree};
+ghost use Rattle.blossom_match.specs.Blossoms.{back_of, bands_in, members_in, single_of, IsBlossom};
+ghost use Rattle.blossom_match.specs.BlossomRows.{blossom_of as the_blossom, RowsAgree};
 ghost use Rattle.blossom_match.specs.Slots.{members_at, near_at, parts_at, parts_in, set_in, AreSets, Inserts};
 ghost use Rattle.blossom_match.specs.Tables.{IsTable};
 
-use crate::ring::row_of;
+use crate::blossom::row_of;
 use crate::rows::single_row;
 use crate::table::DistTable;
 use design_model::Memory;
@@ -19,14 +19,14 @@ pub struct Link {
     pub to: u32,
 }
 
-/// An odd set of places, by the key of its slot, and its width in halves of a step.
+/// An odd set of places, by the key of its slot, and its dual in halves of a step.
 #[derive(Clone, Copy, Drop)]
 pub struct Seat {
     pub key: usize,
-    pub width: u32,
+    pub dual: u32,
 }
 
-/// A part of a ring, and the link to the part after it. The first part comes after the last.
+/// A part of a blossom, and the link to the part after it. The first part comes after the last.
 #[derive(Clone, Copy, Drop)]
 pub struct Part {
     pub seat: Seat,
@@ -34,7 +34,7 @@ pub struct Part {
 }
 
 /// What an odd set keeps as long as it stands: its members, what it leaves for each place outside
-/// it over its width, and the parts of a ring. A single place has no parts.
+/// it over its dual, and the parts of a blossom. A single place has no parts.
 #[derive(Drop)]
 pub struct Slot {
     pub members: Vec<u32>,
@@ -81,7 +81,7 @@ impl Seat {
         }
     }
 
-    /// What the set leaves for each place outside it over its width.
+    /// What the set leaves for each place outside it over its dual.
     pub fn near(self, sets: &Sets) -> &[u32]
         ensures { result.now ≡ near_at sets.now self.key }
     {
@@ -91,7 +91,7 @@ impl Seat {
         }
     }
 
-    /// The parts of a ring.
+    /// The parts of a blossom.
     pub fn parts(self, sets: &Sets) -> &[Part]
         ensures { result.now ≡ parts_at sets.now self.key }
     {
@@ -111,14 +111,14 @@ impl Seat {
     }
 
     /// Whether the set has parts.
-    pub fn is_ring(self, sets: &Sets) -> bool
+    pub fn is_blossom(self, sets: &Sets) -> bool
         ensures { result ≡ nat_lt 0 (length (set_in sets.now self).below) }
     {
         self.parts(sets).len() > 0
     }
 }
 
-/// The set of one place, as wide as it is high.
+/// The set of one place, its height as its dual.
 pub fn single(
     alloc: Global,
     sets: &mut Sets,
@@ -142,7 +142,7 @@ pub fn single(
     let key = sets.insert(slot)?;
     Ok(Seat {
         key,
-        width: heights[place as usize],
+        dual: heights[place as usize],
     })
 }
 
@@ -156,12 +156,12 @@ fn members_of(alloc: Global, sets: &Sets, parts: &[Part]) -> Result<Vec<u32>, Me
     Ok(members)
 }
 
-/// The set of all members of a ring, without a width.
-pub fn ring_of(alloc: Global, sets: &mut Sets, parts: Vec<Part>) -> Result<Seat, Memory>
-    requires ring { IsRing (parts_in sets.old parts.items) }
+/// The set of all members of a blossom, of dual 0.
+pub fn blossom_of(alloc: Global, sets: &mut Sets, parts: Vec<Part>) -> Result<Seat, Memory>
+    requires blossom { IsBlossom (parts_in sets.old parts.items) }
     requires rows { RowsAgree (parts_in sets.old parts.items) }
     requires sets { AreSets sets.old (bands_in (parts_in sets.old parts.items)) }
-    ensures is { IfOk result (λ s. set_in sets.new s ≡ the_ring s.key (parts_in sets.old parts.items)) }
+    ensures is { IfOk result (λ s. set_in sets.new s ≡ the_blossom s.key (parts_in sets.old parts.items)) }
     ensures inserts { IfOk result (λ s. Inserts sets.old sets.new s.key) }
 {
     let members = members_of(alloc, sets, &parts)?;
@@ -171,5 +171,5 @@ pub fn ring_of(alloc: Global, sets: &mut Sets, parts: Vec<Part>) -> Result<Seat,
         near,
         parts,
     })?;
-    Ok(Seat { key, width: 0 })
+    Ok(Seat { key, dual: 0 })
 }

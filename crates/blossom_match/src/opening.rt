@@ -1,11 +1,11 @@
 ghost use Rattle.std.specs.Prelude.{◌≡◌, ◌≤◌, ℕ, IfOk};
 ghost use Rattle.blossom_match.specs.Bands.{count};
 ghost use Rattle.blossom_match.specs.Opens.{OpensAt};
-ghost use Rattle.blossom_match.specs.Slots.{core_in, couples_in, set_in, IsSet};
+ghost use Rattle.blossom_match.specs.Slots.{core_in, matches_in, set_in, IsSet};
 
-use crate::couples::{Couple, pair_off};
+use crate::blossom::turned_to;
+use crate::matches::{Match, pair_off};
 use crate::nest::{Seat, Sets};
-use crate::ring::turned_to;
 use design_model::Memory;
 use std::alloc::Global;
 
@@ -13,7 +13,7 @@ use std::alloc::Global;
 #[derive(Drop)]
 pub struct Opened {
     pub core: Option<Seat>,
-    pub couples: Vec<Couple>,
+    pub matches: Vec<Match>,
 }
 
 /// Takes a set apart at the member that is paired outside.
@@ -22,24 +22,24 @@ pub fn open_at(alloc: Global, sets: &Sets, s: Seat, left: u32) -> Result<Opened,
     requires there { count left (set_in sets.now s).members ≡ 1 }
     requires once { (x : ℕ) → count x (set_in sets.now s).members ≤ 1 }
     ensures { IfOk result (λ o. OpensAt left (set_in sets.now s) (core_in sets.now o.core)
-        (couples_in sets.now o.couples.items)) }
+        (matches_in sets.now o.matches.items)) }
 {
     let mut parts = Vec::new(alloc);
     parts.extend_from_slice(s.parts(sets))?;
     if parts.len() == 0 {
         return Ok(Opened {
             core: None,
-            couples: Vec::new(alloc),
+            matches: Vec::new(alloc),
         });
     }
     let mut rest = turned_to(sets, parts, left).into_iter();
     match rest.next() {
         None => unreachable!(),
         Some(p) => {
-            let couples = pair_off(alloc, rest)?;
+            let matches = pair_off(alloc, rest)?;
             Ok(Opened {
                 core: Some(p.seat),
-                couples,
+                matches,
             })
         }
     }

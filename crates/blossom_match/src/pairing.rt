@@ -1,7 +1,7 @@
 ghost use Rattle.std.specs.Prelude.{◌≡◌, ◌%◌, length, IfOk};
 ghost use Rattle.blossom_match.specs.Tables.{IsMetric, KeepsTriangles};
 ghost use Rattle.blossom_match.specs.Phases.{IsMatched, StandsAt};
-ghost use Rattle.blossom_match.specs.Slots.{couples_in};
+ghost use Rattle.blossom_match.specs.Slots.{matches_in};
 
 use crate::phase::pair_up;
 use crate::prices::priced;
@@ -11,11 +11,11 @@ use crate::table::DistTable;
 use design_model::Memory;
 use std::alloc::Global;
 
-/// Sets in pairs that hold all places.
-pub fn couple_all(alloc: Global, t: &DistTable) -> Result<Standing, Memory>
+/// Matched sets that hold all places.
+pub fn match_sets(alloc: Global, t: &DistTable) -> Result<Standing, Memory>
     requires even { t.now.places % 2 ≡ 0 }
     requires triangles { KeepsTriangles t.now }
-    ensures { IfOk result (λ r. IsMatched t.now (couples_in r.sets r.couples.items)) }
+    ensures { IfOk result (λ r. IsMatched t.now (matches_in r.sets r.matches.items)) }
 {
     let now = priced(alloc, t, t.places())?;
     search_all(alloc, t, now)
@@ -26,7 +26,7 @@ fn search_all(alloc: Global, t: &DistTable, from: Standing) -> Result<Standing, 
     requires metric { IsMetric t.now }
     requires stands { StandsAt t.now from }
     requires even { length from.free.items % 2 ≡ 0 }
-    ensures { IfOk result (λ r. IsMatched t.now (couples_in r.sets r.couples.items)) }
+    ensures { IfOk result (λ r. IsMatched t.now (matches_in r.sets r.matches.items)) }
 {
     let mut reach = far_cells(alloc, t.places() as usize)?;
     let mut mask = far_cells(alloc, t.places() as usize)?;

@@ -4,10 +4,11 @@ ghost use Rattle.blossom_match.specs.Bounds.{CanSearch};
 ghost use Rattle.blossom_match.specs.Searches.{CanStepAt};
 ghost use Rattle.blossom_match.specs.Reaches.{SearchReaches};
 ghost use Rattle.blossom_match.specs.Masks.{SearchMasks};
-ghost use Rattle.blossom_match.specs.Slots.{couples_in};
+ghost use Rattle.blossom_match.specs.Slots.{matches_in};
 ghost use Rattle.blossom_match.specs.States.{search_value};
 ghost use Rattle.blossom_match.specs.Phases.{Begins, Goes, Leads, Stands, StandsAt, StepMasks, StepReaches};
 
+use crate::adjustment::adjust;
 use crate::least::least;
 use crate::masks::{hide, show_from};
 use crate::nest::single;
@@ -15,7 +16,6 @@ use crate::reach::{lower_reach, reach_anew, reach_from, reset};
 use crate::search::{Step, expand_at, grow_to, meet, shrink_by};
 use crate::state::{Search, Standing};
 use crate::table::DistTable;
-use crate::widening::widen;
 use design_model::Memory;
 use std::alloc::Global;
 
@@ -38,7 +38,7 @@ pub fn pair_up(
     requires metric { IsMetric t.now }
     requires size { length reach.old ≡ t.now.places }
     requires masked { length mask.old ≡ t.now.places }
-    requires stands { Stands t.now (couples_in from.sets from.couples.items)
+    requires stands { Stands t.now (matches_in from.sets from.matches.items)
         (from.free.items ++ place ∷ []) from.heights.items }
     requires some { 1 ≤ length from.free.items }
     ensures stands { IfOk result (λ r. StandsAt t.now r) }
@@ -60,12 +60,12 @@ pub fn pair_up(
 pub fn begin(alloc: Global, t: &DistTable, place: u32, from: Standing) -> Result<Search, Memory>
     requires cell { place < length from.heights.items }
     requires within { place < t.now.places }
-    ensures { IfOk result (λ s. Begins t.now place (couples_in from.sets from.couples.items)
+    ensures { IfOk result (λ s. Begins t.now place (matches_in from.sets from.matches.items)
         from.free.items from.heights.items (search_value s)) }
 {
     let Standing {
         sets,
-        couples,
+        matches,
         free,
         heights,
     } = from;
@@ -75,13 +75,13 @@ pub fn begin(alloc: Global, t: &DistTable, place: u32, from: Standing) -> Result
         sets: slots,
         root,
         tree: Vec::new(alloc),
-        rest: couples,
+        rest: matches,
         free,
         heights,
     })
 }
 
-/// Changes the widths as little as allows a step, and takes it.
+/// Changes the duals as little as allows a step, and takes it.
 fn advance(
     alloc: Global,
     t: &DistTable,
@@ -98,9 +98,9 @@ fn advance(
     ensures masks { IfOk result (λ r. StepMasks t.now r mask.new) }
 {
     let change = least(t, reach, mask, &s);
-    let wide = widen(s, change);
+    let adjusted = adjust(s, change);
     lower_reach(change.by, reach);
-    let next = take_step(alloc, t, wide, change.step, reach, mask)?;
+    let next = take_step(alloc, t, adjusted, change.step, reach, mask)?;
     Ok(next)
 }
 
@@ -120,7 +120,7 @@ fn take_step(
     ensures masks { IfOk result (λ r. StepMasks t.now r mask.new) }
 {
     let before = s.tree.len();
-    let coupled = s.rest.len();
+    let matched = s.rest.len();
     match step {
         Step::Meet(link) => {
             let standing = meet(alloc, t, s, link)?;
@@ -140,7 +140,7 @@ fn take_step(
         Step::Expand(at) => {
             let expanded = expand_at(alloc, s, at)?;
             reach_from(&expanded, at, expanded.tree.len() - before, reach);
-            show_from(&expanded, coupled, mask);
+            show_from(&expanded, matched, mask);
             Ok(Stepped::More(expanded))
         }
     }

@@ -2,7 +2,7 @@ ghost use Rattle.std.specs.Prelude.{◌≡◌, ◌≢◌, ◌≤◌, ◌<◌, �
 ghost use Rattle.blossom_match.specs.Bands.{count};
 ghost use Rattle.blossom_match.specs.Tables.{entry};
 ghost use Rattle.blossom_match.specs.Phases.{StandsAt};
-ghost use Rattle.blossom_match.specs.Prices.{AreHalves, CanPair, FindsTight, IsTightPair, LeavesRoom, Lies, Pairs};
+ghost use Rattle.blossom_match.specs.Prices.{AreHalves, CanPair, FindsTight, IsTightPair, LeavesSlack, Lies, Pairs};
 ghost use Rattle.blossom_match.specs.States.{standing_value};
 ghost use Rattle.blossom_match.specs.declared.table.TheConstants.{MAX_DISTANCE};
 
@@ -15,8 +15,8 @@ use design_model::Memory;
 use slab::Slab;
 use std::alloc::Global;
 
-/// A price for each place, as high as the distances allow, and couples of places between which the
-/// prices leave no room.
+/// A price for each place, as high as the distances allow, and matches of places between which the
+/// prices leave no slack.
 pub fn priced(alloc: Global, t: &DistTable, n: u32) -> Result<Standing, Memory>
     requires { n ≡ t.now.places }
     ensures stands { IfOk result (λ r. StandsAt t.now r) }
@@ -39,7 +39,7 @@ fn half_priced(alloc: Global, t: &DistTable) -> Result<Standing, Memory>
     let free = all_places(alloc, t.places())?;
     Ok(Standing {
         sets,
-        couples: Vec::new(alloc),
+        matches: Vec::new(alloc),
         free,
         heights,
     })
@@ -65,18 +65,18 @@ fn halves(alloc: Global, t: &DistTable) -> Result<Vec<u32>, Memory>
     let none = vec![in alloc; 0; t.places() as usize]?;
     let mut prices = Vec::new(alloc);
     for place in 0..t.places() {
-        let room = room_at(t, &none, place);
-        prices.push(room / 2)?;
+        let slack = slack_at(t, &none, place);
+        prices.push(slack / 2)?;
     }
     Ok(prices)
 }
 
 /// The highest price that the distances to all other places allow.
-fn room_at(t: &DistTable, heights: &[u32], place: u32) -> u32
+fn slack_at(t: &DistTable, heights: &[u32], place: u32) -> u32
     requires cells { length heights.now ≡ t.now.places }
     requires within { place < t.now.places }
-    requires low { LeavesRoom t.now heights.now place 0 }
-    ensures room { LeavesRoom t.now heights.now place result }
+    requires low { LeavesSlack t.now heights.now place 0 }
+    ensures slack { LeavesSlack t.now heights.now place result }
     ensures short { result ≤ 2 * MAX_DISTANCE }
 {
     let mut least = 2 * MAX_DISTANCE;
@@ -93,7 +93,7 @@ fn lesser(t: &DistTable, heights: &[u32], place: u32, other: u32, best: u32) -> 
     requires other_in { other < t.now.places }
     requires low { place ≢ other → slice_index heights.now other ≤ 2 * entry t.now place other }
     ensures less { result ≤ best }
-    ensures room { place ≢ other → result + slice_index heights.now other ≤ 2 * entry t.now place other }
+    ensures slack { place ≢ other → result + slice_index heights.now other ≤ 2 * entry t.now place other }
 {
     if place == other {
         best
@@ -102,7 +102,7 @@ fn lesser(t: &DistTable, heights: &[u32], place: u32, other: u32, best: u32) -> 
     }
 }
 
-/// Raises the price of a place that is free, and pairs it with a free one if no room is left between
+/// Raises the price of a place that is free, and pairs it with a free one if no slack is left between
 /// them.
 fn settle(alloc: Global, t: &DistTable, place: u32, from: Standing) -> Result<Standing, Memory>
     requires stands { StandsAt t.now from }
@@ -131,12 +131,12 @@ fn raise_price(t: &DistTable, place: u32, from: Standing) -> Standing
     ensures free { result.free.items ≡ from.free.items }
 {
     let mut raised = from;
-    let price = room_at(t, &raised.heights, place);
+    let price = slack_at(t, &raised.heights, place);
     raised.heights[place as usize] = price;
     raised
 }
 
-/// Another free place, if the prices leave no room to it.
+/// Another free place, if the prices leave no slack to it.
 fn tight_with(t: &DistTable, place: u32, s: &Standing) -> Option<u32>
     requires stands { StandsAt t.now s.now }
     requires here { 1 ≤ count place s.now.free.items }
@@ -145,7 +145,7 @@ fn tight_with(t: &DistTable, place: u32, s: &Standing) -> Option<u32>
     tight_place(t, &s.heights, &s.free, place)
 }
 
-/// A free place to which the prices leave no room.
+/// A free place to which the prices leave no slack.
 fn tight_place(t: &DistTable, heights: &[u32], free: &[u32], place: u32) -> Option<u32>
     requires cells { length heights.now ≡ t.now.places }
     requires lies { Lies t.now heights.now free.now place }
@@ -159,7 +159,7 @@ fn tight_place(t: &DistTable, heights: &[u32], free: &[u32], place: u32) -> Opti
     None
 }
 
-/// Whether the two are different places and their prices leave no room.
+/// Whether the two are different places and their prices leave no slack.
 fn is_tight(t: &DistTable, heights: &[u32], place: u32, other: u32) -> bool
     requires cells { length heights.now ≡ t.now.places }
     requires within { place < t.now.places }

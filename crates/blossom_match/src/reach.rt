@@ -15,9 +15,9 @@ use crate::table::FAR;
 /// Takes an outer set into the least that is left outside it.
 fn take_set(sets: &Sets, set: Seat, reach: &mut [u32])
     requires { HasRow (length reach.old) (set_in sets.now set) }
-    ensures { Merges (set_in sets.now set).near set.width reach.old reach.new }
+    ensures { Merges (set_in sets.now set).near set.dual reach.old reach.new }
 {
-    merge(set.near(sets), set.width, reach);
+    merge(set.near(sets), set.dual, reach);
 }
 
 /// Leaves nothing for any place.

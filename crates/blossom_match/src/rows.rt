@@ -9,14 +9,14 @@ use crate::table::{DistTable, FAR};
 use design_model::Memory;
 use std::alloc::Global;
 
-/// The room that is left once the width is taken.
-pub fn lesser_by(by: u32, room: u32) -> u32
-    ensures { result ≡ lowered by room }
+/// What is left once the dual is taken.
+pub fn lesser_by(by: u32, left: u32) -> u32
+    ensures { result ≡ lowered by left }
 {
-    if room < FAR {
-        room.saturating_sub(by)
+    if left < FAR {
+        left.saturating_sub(by)
     } else {
-        room
+        left
     }
 }
 
@@ -29,23 +29,23 @@ pub fn far_cells(alloc: Global, n: usize) -> Result<Vec<u32>, Memory>
     Ok(cells)
 }
 
-/// The lesser of each cell and what the row leaves over the width.
-pub fn merge(near: &[u32], width: u32, cells: &mut [u32])
+/// The lesser of each cell and what the row leaves over the dual.
+pub fn merge(near: &[u32], dual: u32, cells: &mut [u32])
     requires len { length cells.old ≡ length near.now }
-    ensures { Merges near.now width cells.old cells.new }
+    ensures { Merges near.now dual cells.old cells.new }
 {
     for x in 0..near.len() {
-        cells[x] = lesser_by(width, near[x]).min(cells[x]);
+        cells[x] = lesser_by(dual, near[x]).min(cells[x]);
     }
 }
 
-/// Puts the room into the cells of the places.
-pub fn put(room: u32, places: &[u32], cells: &mut [u32])
+/// Leaves so much for each of the places.
+pub fn put(left: u32, places: &[u32], cells: &mut [u32])
     requires { HasCells (λ x. count x places.now) cells.old }
-    ensures { Puts room places.now cells.old cells.new }
+    ensures { Puts left places.now cells.old cells.new }
 {
     for a in places {
-        cells[*a as usize] = room;
+        cells[*a as usize] = left;
     }
 }
 
@@ -58,12 +58,12 @@ pub fn single_row(alloc: Global, t: &DistTable, place: u32) -> Result<Vec<u32>, 
     let n = t.places();
     let mut row = Vec::with_capacity(alloc, n as usize)?;
     for x in 0..n {
-        row.push(single_room(t, place, x))?;
+        row.push(cell_for(t, place, x))?;
     }
     Ok(row)
 }
 
-fn single_room(t: &DistTable, place: u32, x: u32) -> u32
+fn cell_for(t: &DistTable, place: u32, x: u32) -> u32
     requires within { place < t.now.places }
     requires there { x < t.now.places }
     ensures { result ≡ single_cell t.now place x }

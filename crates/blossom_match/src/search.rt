@@ -5,8 +5,8 @@ ghost use Rattle.blossom_match.specs.States.{search_value, standing_value};
 ghost use Rattle.blossom_match.specs.declared.search.Step.TheVariants as step;
 
 use crate::branches::{augment, grow};
-use crate::couples::take_couple;
 use crate::expanding::expand;
+use crate::matches::take_match;
 use crate::nest::{Link, single};
 use crate::shrinking::shrink;
 use crate::state::{Search, Standing};
@@ -14,8 +14,8 @@ use crate::table::DistTable;
 use design_model::Memory;
 use std::alloc::Global;
 
-/// What can be done: a tight link from an outer set to a free place, to a couple or to another outer
-/// set, or an inner set without a width.
+/// What can be done: a tight link from an outer set to a free place, to a match or to another outer
+/// set, or an inner set of dual 0.
 #[derive(Clone, Copy, Drop)]
 pub enum Step {
     Meet(Link),
@@ -24,7 +24,7 @@ pub enum Step {
     Expand(usize),
 }
 
-/// Hangs the couple that the link leads to into the tree.
+/// Hangs the match that the link leads to into the tree.
 pub fn grow_to(s: Search, link: Link) -> Result<Search, Memory>
     requires { CanStep (search_value s) (step.Grow link) }
     ensures advances { IfOk result (λ r. Advances (search_value s) (step.Grow link) (search_value r)) }
@@ -39,9 +39,9 @@ pub fn grow_to(s: Search, link: Link) -> Result<Search, Memory>
         heights,
     } = s;
     let mut left = rest;
-    let couple = take_couple(&sets, &mut left, link.to);
+    let matched = take_match(&sets, &mut left, link.to);
     let mut grown = tree;
-    grow(&sets, &mut grown, link, couple)?;
+    grow(&sets, &mut grown, link, matched)?;
     Ok(Search {
         sets,
         root,
@@ -52,7 +52,7 @@ pub fn grow_to(s: Search, link: Link) -> Result<Search, Memory>
     })
 }
 
-/// Makes the ring that the link closes one outer set.
+/// Makes the blossom that the link closes one outer set.
 pub fn shrink_by(alloc: Global, s: Search, link: Link) -> Result<Search, Memory>
     requires { CanStep (search_value s) (step.Shrink link) }
     ensures advances { IfOk result (λ r. Advances (search_value s) (step.Shrink link) (search_value r)) }
@@ -124,11 +124,11 @@ pub fn meet(alloc: Global, t: &DistTable, s: Search, link: Link) -> Result<Stand
     let mut left = free;
     take_place(&mut left, link.to);
     let met = single(alloc, &mut slots, t, link.to, &heights)?;
-    let mut couples = rest;
-    augment(&slots, root, tree, link, met, &mut couples)?;
+    let mut matches = rest;
+    augment(&slots, root, tree, link, met, &mut matches)?;
     Ok(Standing {
         sets: slots,
-        couples,
+        matches,
         free: left,
         heights,
     })

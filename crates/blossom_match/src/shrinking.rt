@@ -1,19 +1,19 @@
 ghost use Rattle.std.specs.Prelude.{◌≡◌, ◌≤◌, ◌∷◌, ◌++◌, [], ℕ, IsTrue, false, IfOk, OnOk};
 ghost use Rattle.blossom_match.specs.Bands.{count, Kept};
 ghost use Rattle.blossom_match.specs.Climbs.{Climbs};
-ghost use Rattle.blossom_match.specs.Rings.{bands_in};
-ghost use Rattle.blossom_match.specs.Shrinks.{part_of, ring_value, Closable, Shrinking, Shrinks};
+ghost use Rattle.blossom_match.specs.Blossoms.{bands_in};
+ghost use Rattle.blossom_match.specs.Shrinks.{part_of, blossom_value, Closable, Shrinking, Shrinks};
 ghost use Rattle.blossom_match.specs.Slots.{branches_in, members_at, parts_in, set_in, AreSets, Inserts};
 ghost use Rattle.blossom_match.specs.Trees.{all_bands, both};
 
+use crate::blossom::listed;
 use crate::branches::{Branch, give_back};
-use crate::nest::{Link, Part, Seat, Sets, ring_of};
-use crate::ring::listed;
+use crate::nest::{Link, Part, Seat, Sets, blossom_of};
 use design_model::Memory;
 use std::alloc::Global;
 use std::collections::VecDeque;
 
-/// Makes the ring that a link between two outer sets closes into one outer set. The answer is the
+/// Makes the blossom that a link between two outer sets closes into one outer set. The answer is the
 /// root.
 pub fn shrink(
     alloc: Global,
@@ -44,9 +44,9 @@ pub fn shrink(
         }
         chain.climb(sets, b, &mut aside)?;
     }
-    let ring = chain.close(alloc, sets, root)?;
+    let blossom = chain.close(alloc, sets, root)?;
     give_back(tree, aside)?;
-    Ok(ring)
+    Ok(blossom)
 }
 
 /// A chain of parts. The `way` leads into the first part, and the link of the last one to the place
@@ -114,22 +114,22 @@ impl Chain {
         Ok(())
     }
 
-    /// The ring of the parts and the set that both ends are in.
+    /// The blossom of the parts and the set that both ends are in.
     fn close(self, alloc: Global, sets: &mut Sets, top: Seat) -> Result<Seat, Memory>
         requires can { Closable (set_in sets.old top) self.way (parts_in sets.old self.parts.items) self.to }
         requires kept { Kept (set_in sets.old top) }
         requires sets { AreSets sets.old (bands_in (part_of (set_in sets.old top) self.way
             ∷ parts_in sets.old self.parts.items)) }
-        ensures is { IfOk result (λ s. set_in sets.new s ≡ ring_value s.key (set_in sets.old top) self.way
+        ensures is { IfOk result (λ s. set_in sets.new s ≡ blossom_value s.key (set_in sets.old top) self.way
             (parts_in sets.old self.parts.items)) }
         ensures inserts { IfOk result (λ s. Inserts sets.old sets.new s.key) }
     {
-        let mut ring = self.parts;
-        ring.push_front(Part {
+        let mut blossom = self.parts;
+        blossom.push_front(Part {
             seat: top,
             next: self.way,
         })?;
-        let parts = listed(alloc, ring)?;
-        ring_of(alloc, sets, parts)
+        let parts = listed(alloc, blossom)?;
+        blossom_of(alloc, sets, parts)
     }
 }

@@ -1,11 +1,11 @@
 ghost use Rattle.std.specs.Prelude.{◌≡◌, ◌≤◌, ◌++◌, ◌∷◌, [], ℕ, OnOk};
 ghost use Rattle.blossom_match.specs.Lists.{Each};
 ghost use Rattle.blossom_match.specs.Bands.{bands, count};
-ghost use Rattle.blossom_match.specs.Couples.{couple_bands, couple_members, IsJoined};
-ghost use Rattle.blossom_match.specs.Slots.{couples_in, set_in, AreSets};
-ghost use Rattle.blossom_match.specs.Taken.{own_moat, TakesCouples, TakesNest};
+ghost use Rattle.blossom_match.specs.Matches.{match_bands, match_members, IsJoined};
+ghost use Rattle.blossom_match.specs.Slots.{matches_in, set_in, AreSets};
+ghost use Rattle.blossom_match.specs.Taken.{own_moat, TakesMatches, TakesNest};
 
-use crate::couples::Couple;
+use crate::matches::Match;
 use crate::matching::{Moat, Moats, Pair, Pairs};
 use crate::nest::{Link, Seat, Sets};
 use crate::opening::{Opened, open_at};
@@ -27,37 +27,37 @@ pub fn take_nest(
     requires once { (x : ℕ) → count x (set_in sets.now s).members ≤ 1 }
     ensures { OnOk result (TakesNest left (set_in sets.now s) pairs.old pairs.new moats.old moats.new) }
 {
-    let Opened { core, couples } = open_at(alloc, sets, s, left)?;
-    add_moat(alloc, s.members(sets), s.width, moats)?;
+    let Opened { core, matches } = open_at(alloc, sets, s, left)?;
+    add_moat(alloc, s.members(sets), s.dual, moats)?;
     match core {
         None => {
-            take_couples(alloc, sets, couples, pairs, moats)?;
+            take_matches(alloc, sets, matches, pairs, moats)?;
             Ok(())
         }
         Some(part) => {
             take_nest(alloc, sets, part, left, pairs, moats)?;
-            take_couples(alloc, sets, couples, pairs, moats)?;
+            take_matches(alloc, sets, matches, pairs, moats)?;
             Ok(())
         }
     }
 }
 
-/// Adds the pairs of the couples and those inside them, and their moats.
+/// Adds the pairs of the matches and those inside them, and their moats.
 #[cycle(taking)]
-pub fn take_couples(
+pub fn take_matches(
     alloc: Global,
     sets: &Sets,
-    couples: Vec<Couple>,
+    matches: Vec<Match>,
     pairs: &mut Pairs,
     moats: &mut Moats,
 ) -> Result<(), Memory>
-    requires sets { AreSets sets.now (couple_bands (couples_in sets.now couples.items)) }
-    requires joined { Each IsJoined (couples_in sets.now couples.items) }
-    requires once { (x : ℕ) → count x (couple_members (couples_in sets.now couples.items)) ≤ 1 }
-    ensures { OnOk result (TakesCouples (couples_in sets.now couples.items) pairs.old pairs.new
+    requires sets { AreSets sets.now (match_bands (matches_in sets.now matches.items)) }
+    requires joined { Each IsJoined (matches_in sets.now matches.items) }
+    requires once { (x : ℕ) → count x (match_members (matches_in sets.now matches.items)) ≤ 1 }
+    ensures { OnOk result (TakesMatches (matches_in sets.now matches.items) pairs.old pairs.new
         moats.old moats.new) }
 {
-    let mut rest = couples.into_iter();
+    let mut rest = matches.into_iter();
     while let Some(c) = rest.next() {
         take_nest(alloc, sets, c.first, c.link.from, pairs, moats)?;
         take_nest(alloc, sets, c.second, c.link.to, pairs, moats)?;

@@ -1,11 +1,11 @@
 use Rattle.std.proofs.Common.{vec_len}
-use Rattle.blossom_match.specs.Slots.{branches_in, couples_in, set_in}
+use Rattle.blossom_match.specs.Slots.{branches_in, matches_in, set_in}
 use Rattle.blossom_match.proofs.AugmentLemmas.{Pairing}
 use Rattle.blossom_match.proofs.branches.augment.Given as goal
 
 abbrev pub invariant-loop-b : goal.invariant-loop-b
 invariant-loop-b l = Pairing (set_in l.sets l.fn.root) (set_in l.sets l.fn.met) l.fn.link (branches_in l.sets l.fn.tree.items)
-    (couples_in l.sets l.fn.rest.items) (couples_in l.sets l.rest.items) (set_in l.sets l.hand.set) l.hand.way
+    (matches_in l.sets l.fn.rest.items) (matches_in l.sets l.rest.items) (set_in l.sets l.hand.set) l.hand.way
     (branches_in l.sets l.left.items)
 
 abbrev pub decreases-loop-b : goal.decreases-loop-b

@@ -1,6 +1,6 @@
 use Rattle.std.proofs.Common.{arith, List, length, ◌<◌, ap, subst}
 use Rattle.blossom_match.specs.Bands.{count}
-use Rattle.blossom_match.specs.Rings.{members_in, HoldsAt}
+use Rattle.blossom_match.specs.Blossoms.{members_in, HoldsAt}
 use Rattle.blossom_match.specs.Slots.{part_in, parts_in}
 use Rattle.blossom_match.specs.declared.nest.Part.{Part}
 use Rattle.blossom_match.proofs.ListLemmas.{mapped_low}
@@ -14,16 +14,16 @@ part_with-end-requires c =
       c.requires.exit_in,
       ap (λ (qs : List Part). count c.args.exit (members_in (parts_in c.args.sets.now qs))) c.deref.ensures.value,
       turned_places
-          c.args.exit (parts_in c.args.sets.now c.args.parts.items) (parts_in c.args.sets.now c.turned_to-ring.result.items)
-          c.turned_to-ring.ensures.turned,
+          c.args.exit (parts_in c.args.sets.now c.args.parts.items) (parts_in c.args.sets.now c.turned_to-blossom.result.items)
+          c.turned_to-blossom.ensures.turned,
     )
 
 pub returns-then-end-eq0 : goal.returns-then-end-eq0
 returns-then-end-eq0 c =
     goes_on c.args.entry c.args.exit (parts_in c.args.sets.now c.args.parts.items)
-    (parts_in c.args.sets.now c.turned_to-ring.result.items) c.part_with-end.result c.requires.ring
-    c.turned_to-ring.ensures.turned c.turned_to-ring.ensures.first
-    (mapped_low (part_in c.args.sets.now) c.turned_to-ring.result.items c.part_with-end.result
+    (parts_in c.args.sets.now c.turned_to-blossom.result.items) c.part_with-end.result c.requires.blossom
+    c.turned_to-blossom.ensures.turned c.turned_to-blossom.ensures.first
+    (mapped_low (part_in c.args.sets.now) c.turned_to-blossom.result.items c.part_with-end.result
     (subst (λ (qs : List Part). c.part_with-end.result < length qs) c.deref.ensures.value c.part_with-end.ensures.within))
     (subst (λ (qs : List Part). HoldsAt c.args.exit (parts_in c.args.sets.now qs) c.part_with-end.result) c.deref.ensures.value
     c.part_with-end.ensures.there)
@@ -32,9 +32,9 @@ returns-then-end-eq0 c =
 pub returns-in_ok-back : goal.returns-in_ok-back
 returns-in_ok-back c =
     goes_back c.args.entry c.args.exit (parts_in c.args.sets.now c.args.parts.items)
-    (parts_in c.args.sets.now c.turned_to-ring.result.items) (parts_in c.args.sets.now c.in_ok-back.back.items) c.part_with-end.result
-    c.requires.ring c.turned_to-ring.ensures.turned c.turned_to-ring.ensures.first
-    (mapped_low (part_in c.args.sets.now) c.turned_to-ring.result.items c.part_with-end.result
+    (parts_in c.args.sets.now c.turned_to-blossom.result.items) (parts_in c.args.sets.now c.in_ok-back.back.items) c.part_with-end.result
+    c.requires.blossom c.turned_to-blossom.ensures.turned c.turned_to-blossom.ensures.first
+    (mapped_low (part_in c.args.sets.now) c.turned_to-blossom.result.items c.part_with-end.result
     (subst (λ (qs : List Part). c.part_with-end.result < length qs) c.deref.ensures.value c.part_with-end.ensures.within))
     (subst (λ (qs : List Part). HoldsAt c.args.exit (parts_in c.args.sets.now qs) c.part_with-end.result) c.deref.ensures.value
     c.part_with-end.ensures.there)

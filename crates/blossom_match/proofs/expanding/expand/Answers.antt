@@ -1,6 +1,6 @@
 use Rattle.std.proofs.Common.{arith}
 use Rattle.blossom_match.specs.Slots.{parts_in}
-use Rattle.blossom_match.proofs.FreedLemmas.{can_lay_freed, expanded_freed, freed, freed_sets, grows_freed, inner_slot, places_stay, ring_stays, split_slots}
+use Rattle.blossom_match.proofs.FreedLemmas.{can_lay_freed, expanded_freed, freed, freed_sets, grows_freed, inner_slot, places_stay, blossom_stays, split_slots}
 use Rattle.blossom_match.proofs.expanding.expand.Goals as goal
 
 pub remove-slot-requires : goal.remove-slot-requires
@@ -10,14 +10,14 @@ remove-slot-requires c =
     c.in-Some.ensures.items in
     inner_slot _ _ _ _ _ _ _ s c.requires.sets
 
-pub even_way-requires-clause-ring : goal.even_way-requires-clause-ring
-even_way-requires-clause-ring c =
+pub even_way-requires-clause-blossom : goal.even_way-requires-clause-blossom
+even_way-requires-clause-blossom c =
     let s = split_slots c.args.sets.now c.args.root c.args.tree.now.items c.pop.new.self.items c.in_ok-later.later.items c.in-Some.b
     c.args.rest.now.items c.split_off.new.self.items c.args.at c.requires.can c.in_ok-later.ensures.items c.in_ok-later.ensures.tail
     c.in-Some.ensures.items in
     let f = freed _ _ _ _ _ _ _ c.remove-slot.new.self c.remove-slot.result s c.requires.sets c.remove-slot.ensures.value
     c.remove-slot.ensures.updates in
-    ring_stays f
+    blossom_stays f
 
 pub even_way-requires-clause-entry_in : goal.even_way-requires-clause-entry_in
 even_way-requires-clause-entry_in c =
@@ -44,7 +44,7 @@ lay-requires c =
     c.in-Some.ensures.items in
     let f = freed _ _ _ _ _ _ _ c.remove-slot.new.self c.remove-slot.result s c.requires.sets c.remove-slot.ensures.value
     c.remove-slot.ensures.updates in
-    can_lay_freed f (parts_in c.remove-slot.new.self c.in_ok-ring-in-Some.ring.items) c.in_ok-ring-in-Some.ensures
+    can_lay_freed f (parts_in c.remove-slot.new.self c.in_ok-blossom-in-Some.blossom.items) c.in_ok-blossom-in-Some.ensures
 
 pub returns-clause-expands : goal.returns-clause-expands
 returns-clause-expands c =
@@ -54,8 +54,8 @@ returns-clause-expands c =
     let f = freed _ _ _ _ _ _ _ c.remove-slot.new.self c.remove-slot.result s c.requires.sets c.remove-slot.ensures.value
     c.remove-slot.ensures.updates in (
       c.in-Some.b.inner.key,
-      expanded_freed f (parts_in c.remove-slot.new.self c.in_ok-ring-in-Some.ring.items) _ _ _ _ c.in_ok-ring-in-Some.ensures
-          c.in_ok-couples-in-Some.ensures c.in_ok-append-in-Some.ensures.items c.in_ok-append-in-Some-2.ensures.items,
+      expanded_freed f (parts_in c.remove-slot.new.self c.in_ok-blossom-in-Some.blossom.items) _ _ _ _ c.in_ok-blossom-in-Some.ensures
+          c.in_ok-matches-in-Some.ensures c.in_ok-append-in-Some.ensures.items c.in_ok-append-in-Some-2.ensures.items,
     )
 
 pub returns-clause-grows : goal.returns-clause-grows
@@ -65,9 +65,9 @@ returns-clause-grows c =
     c.in-Some.ensures.items in
     let f = freed _ _ _ _ _ _ _ c.remove-slot.new.self c.remove-slot.result s c.requires.sets c.remove-slot.ensures.value
     c.remove-slot.ensures.updates in
-    grows_freed f (parts_in c.remove-slot.new.self c.in_ok-ring-in-Some.ring.items) _ _ _
+    grows_freed f (parts_in c.remove-slot.new.self c.in_ok-blossom-in-Some.blossom.items) _ _ _
     c.args.rest.now.items c.split_off.new.self.items c.args.at c.requires.can
-    c.in_ok-later.ensures.items c.in_ok-later.ensures.tail c.in-Some.ensures.items c.in_ok-couples-in-Some.ensures
+    c.in_ok-later.ensures.items c.in_ok-later.ensures.tail c.in-Some.ensures.items c.in_ok-matches-in-Some.ensures
     c.in_ok-append-in-Some-2.ensures.items
 
 pub returns-clause-root : goal.returns-clause-root
@@ -86,5 +86,6 @@ returns-clause-sets c =
     c.in-Some.ensures.items in
     let f = freed _ _ _ _ _ _ _ c.remove-slot.new.self c.remove-slot.result s c.requires.sets c.remove-slot.ensures.value
     c.remove-slot.ensures.updates in
-    freed_sets f (parts_in c.remove-slot.new.self c.in_ok-ring-in-Some.ring.items) _ _ _ _ c.requires.sets c.in_ok-ring-in-Some.ensures
-    c.in_ok-couples-in-Some.ensures c.in_ok-append-in-Some.ensures.items c.in_ok-append-in-Some-2.ensures.items
+    freed_sets f (parts_in c.remove-slot.new.self c.in_ok-blossom-in-Some.blossom.items) _ _ _ _ c.requires.sets
+    c.in_ok-blossom-in-Some.ensures
+    c.in_ok-matches-in-Some.ensures c.in_ok-append-in-Some.ensures.items c.in_ok-append-in-Some-2.ensures.items

@@ -12,7 +12,7 @@ returns-then-holds c =
     laid (set_in sets c.args.root) _ _ _ c.args.b.pair (set_in sets c.args.b.outer) _ (parts_in sets (into_iter_items c.loop-p.left))
     (parts_in sets (into_iter_items c.next.new.self)) (part_in sets c.in-Some.p) c.loop-p.way _ _
     c.loop-p.invariant (ap (λ (ps : List Part). parts_in sets ps) c.in-Some.ensures.items)
-    (c.if-holds.ensures.yes refl) (mapped_last (branch_in sets) _ _ _ c.in_ok-hang.ensures) (c.in_ok-couples.ensures sets)
+    (c.if-holds.ensures.yes refl) (mapped_last (branch_in sets) _ _ _ c.in_ok-hang.ensures) (c.in_ok-matches.ensures sets)
 
 pub loop-p-preserved : goal.loop-p-preserved
 loop-p-preserved c =

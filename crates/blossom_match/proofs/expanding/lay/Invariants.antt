@@ -6,7 +6,7 @@ use Rattle.blossom_match.proofs.expanding.lay.Given as goal
 
 abbrev pub invariant-loop-p : goal.invariant-loop-p
 invariant-loop-p l =
-    Laying (set_in l.sets l.fn.root) (branches_in l.sets l.fn.tree.items) (parts_in l.sets l.fn.ring.items) l.fn.b.up l.fn.b.pair
+    Laying (set_in l.sets l.fn.root) (branches_in l.sets l.fn.tree.items) (parts_in l.sets l.fn.blossom.items) l.fn.b.up l.fn.b.pair
     (set_in l.sets l.fn.b.outer) (branches_in l.sets l.tree.items) (parts_in l.sets (into_iter_items l.left)) l.way
 
 abbrev pub decreases-loop-p : goal.decreases-loop-p

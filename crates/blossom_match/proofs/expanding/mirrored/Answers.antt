@@ -22,12 +22,13 @@ returns c = λ sets. elim c.match-next.branch [
       ∙ ap (λ (l : Link). part_of (set_in sets first.seat) l ∷ parts_in sets w.loop-p.told.items) w.back-in-Some.ensures
       ∙ told_whole w.loop-p.link (set_in sets first.seat) (parts_in sets (into_iter_items w.loop-p.left))
       (parts_in sets w.loop-p.told.items)
-      (mirror_of (parts_in sets c.args.ring.items))
+      (mirror_of (parts_in sets c.args.blossom.items))
       (omega (arith, w.in_default-next.ensures.cases, length-map (into_iter_items w.loop-p.left) (part_in sets)))
       (w.loop-p.invariant sets)
   | in_default w ↦
       let is : c.in_ok-parts.parts.items ≡ [] = cc (c.in_ok-parts.ensures, w.told-is, c.new-told.ensures.items) in
       let none : length (into_iter_items c.into_iter-left.result) ≡ 0 = omega (arith, w.in_default.ensures.cases) in
-      let empty : c.args.ring.items ≡ [] = sym c.into_iter-left.ensures.rest ∙ none_left (into_iter_items c.into_iter-left.result) none in
+      let empty : c.args.blossom.items ≡ [] = sym c.into_iter-left.ensures.rest
+      ∙ none_left (into_iter_items c.into_iter-left.result) none in
       ap (λ (ps : List Part). parts_in sets ps) is ∙ ap (λ (ps : List Part). mirror_of (parts_in sets ps)) (sym empty)
 ]

@@ -20,12 +20,12 @@ bounds-heights-a c = omega (
   c.requires.within (get_or c.args.xs.now c.loop-a.a-index 0) (count_at c.args.xs.now c.loop-a.a-index c.loop-a-test.true),
 )
 
-pub returns-then-saturating_sub-room : goal.returns-then-saturating_sub-room
-returns-then-saturating_sub-room c = record {
+pub returns-then-saturating_sub-left : goal.returns-then-saturating_sub-left
+returns-then-saturating_sub-left c = record {
   here = count_at c.args.xs.now c.loop-a.a-index c.loop-a-test.true;
   exact = omega (
     arith,
-    c.if-saturating_sub-room.true,
+    c.if-saturating_sub-left.true,
     c.saturating_sub.ensures,
     c.get.ensures.value,
     same c.args.t.now c.args.to c.args.xs.now c.loop-a.a-index,
@@ -34,8 +34,8 @@ returns-then-saturating_sub-room c = record {
 
 pub loop-a-preserved : goal.loop-a-preserved
 loop-a-preserved c = λ l.
-    left_more c.args.t.now c.args.heights.now c.args.xs.now c.loop-a.a-index c.args.to c.args.room c.loop-a-test.true
-    (λ e. c.if-saturating_sub-room.false (omega (
+    left_more c.args.t.now c.args.heights.now c.args.xs.now c.loop-a.a-index c.args.to c.args.left c.loop-a-test.true
+    (λ e. c.if-saturating_sub-left.false (omega (
       arith,
       e,
       c.saturating_sub.ensures,

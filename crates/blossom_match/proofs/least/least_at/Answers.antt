@@ -1,6 +1,6 @@
 use Rattle.std.proofs.Common.{◌≡◌, ◌≤◌, ℕ, List, ap, get_or, length, subst, sym, ◌∙◌}
 use Rattle.blossom_match.specs.Bands.{count}
-use Rattle.blossom_match.specs.Couples.{couple_members}
+use Rattle.blossom_match.specs.Matches.{match_members}
 use Rattle.blossom_match.specs.Searches.{height_at, outers}
 use Rattle.blossom_match.specs.Bounds.{CanSearch, Narrows}
 use Rattle.blossom_match.specs.Reaches.{Reaches, SearchReaches}
@@ -36,7 +36,7 @@ aims_at t s hs reach mask free first met grown crossed is can same reaches m fre
   reaches = subst (λ (ks : List ℕ). Reaches t ks s.root s.tree reach) (sym same) reaches;
   at_first = subst (λ (ks : List ℕ). AimsAt hs reach kind.Meet ks first) free_is at_first;
   at_met = at_met;
-  at_grown = at_grown (couple_members s.rest) m.masks;
+  at_grown = at_grown (match_members s.rest) m.masks;
   at_crossed = at_crossed;
 }
 
@@ -64,9 +64,10 @@ returns c =
     let grown = c.aim_at_shown-grown.result in
     let crossed = c.aim_at_outers-crossed.result in
     let change = c.change_to-change.result in
-    bounds_of c.args.t.now (height_at s) s hs r first met grown crossed change c.scan_rings.result
+    bounds_of c.args.t.now (height_at s) s hs r first met grown crossed change c.scan_blossoms.result
     (aims_at c.args.t.now s hs r c.args.mask.now c.deref.result.now first met grown crossed
     c.requires.table c.requires.can c.requires.heights c.requires.reaches c.requires.masks c.deref.ensures.value c.first_aim-first.ensures
     (subst (λ (ks : List ℕ). Aims hs r kind.Meet ks first met) c.deref-2.ensures.value c.aim_at-met.ensures)
     c.aim_at_shown-grown.ensures c.aim_at_outers-crossed.ensures) c.change_to-change.ensures
-    (subst (λ (ks : List Branch). Narrows (branches_in sets ks) change c.scan_rings.result) c.deref-3.ensures.value c.scan_rings.ensures)
+    (subst (λ (ks : List Branch). Narrows (branches_in sets ks) change c.scan_blossoms.result) c.deref-3.ensures.value
+    c.scan_blossoms.ensures)

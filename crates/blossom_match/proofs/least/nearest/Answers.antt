@@ -33,7 +33,7 @@ returns-in-Some-clause-apart c =
 pub loop-b-init : goal.loop-b-init
 loop-b-init c =
     below_root c.args.t.now c.args.heights.now (set_in c.args.sets.now c.args.root) (branches_in c.args.sets.now c.args.tree.now)
-    c.args.to c.args.room c.requires.reached c.in_default.ensures
+    c.args.to c.args.left c.requires.reached c.in_default.ensures
 
 pub leaving-requires-in-loop-b-clause-within : goal.leaving-requires-in-loop-b-clause-within
 leaving-requires-in-loop-b-clause-within c = λ a ha.
@@ -67,6 +67,6 @@ returns-in-Some-leaving-clause-apart c =
 pub loop-b-preserved : goal.loop-b-preserved
 loop-b-preserved c =
     below_next c.args.t.now c.args.heights.now (branches_in c.args.sets.now c.args.tree.now) c.loop-b.b-index
-    (branch_in c.args.sets.now (get_or c.args.tree.now c.loop-b.b-index no_branch)) c.args.to c.args.room
+    (branch_in c.args.sets.now (get_or c.args.tree.now c.loop-b.b-index no_branch)) c.args.to c.args.left
     (mapped_low (branch_in c.args.sets.now) c.args.tree.now c.loop-b.b-index c.loop-b-test.true)
     (mapped_item (branch_in c.args.sets.now) c.args.tree.now c.loop-b.b-index no_branch) c.loop-b.invariant c.in_default-leaving.ensures

@@ -5,4 +5,4 @@ use Rattle.blossom_match.proofs.least.nearest.Given as goal
 
 -- a place of the branches that are left leaves so much
 abbrev pub invariant-loop-b : goal.invariant-loop-b
-invariant-loop-b l = IsBelow l.t l.heights (drop l.b-index (branches_in l.sets l.tree)) l.to l.room
+invariant-loop-b l = IsBelow l.t l.heights (drop l.b-index (branches_in l.sets l.tree)) l.to l.left

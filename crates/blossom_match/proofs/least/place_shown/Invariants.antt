@@ -4,4 +4,4 @@ use Rattle.blossom_match.proofs.least.place_shown.Given as goal
 
 -- no place so far
 abbrev pub invariant-loop-x : goal.invariant-loop-x
-invariant-loop-x l = (x : ℕ) → x < l.x → l.room ≢ shown l.heights l.reach l.mask x
+invariant-loop-x l = (x : ℕ) → x < l.x → l.slack ≢ shown l.heights l.reach l.mask x

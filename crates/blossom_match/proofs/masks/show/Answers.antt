@@ -1,10 +1,10 @@
 use Rattle.std.proofs.Common.{arith, ap, get_or, List, ℕ, subst}
 use Rattle.blossom_match.specs.Bands.{count}
 use Rattle.blossom_match.specs.Rows.{Puts}
-use Rattle.blossom_match.specs.Slots.{couple_in, couples_in}
+use Rattle.blossom_match.specs.Slots.{match_in, matches_in}
 use Rattle.blossom_match.proofs.ListLemmas.{mapped_item, mapped_low}
-use Rattle.blossom_match.proofs.MaskLemmas.{couple_within, puts_couple}
-use Rattle.blossom_match.proofs.SeatLemmas.{no_couple}
+use Rattle.blossom_match.proofs.MaskLemmas.{match_within, puts_match}
+use Rattle.blossom_match.proofs.SeatLemmas.{no_match}
 use Rattle.blossom_match.proofs.masks.show.Goals as goal
 
 pub put-requires : goal.put-requires
@@ -17,10 +17,10 @@ put-requires c = λ x here.
         arith,
         here,
         ap (λ (ks : List ℕ). count x ks) c.members.ensures,
-        couple_within x (couples_in sets c.args.couples.now) c.loop-c.c-index
-            (couple_in sets (get_or c.args.couples.now c.loop-c.c-index no_couple))
-            (mapped_low (couple_in sets) c.args.couples.now c.loop-c.c-index c.loop-c-test.true)
-            (mapped_item (couple_in sets) c.args.couples.now c.loop-c.c-index no_couple),
+        match_within x (matches_in sets c.args.matches.now) c.loop-c.c-index
+            (match_in sets (get_or c.args.matches.now c.loop-c.c-index no_match))
+            (mapped_low (match_in sets) c.args.matches.now c.loop-c.c-index c.loop-c-test.true)
+            (mapped_item (match_in sets) c.args.matches.now c.loop-c.c-index no_match),
       )),
     )
 
@@ -35,10 +35,10 @@ put-requires-in-loop-c c = λ x here.
         arith,
         here,
         ap (λ (ks : List ℕ). count x ks) c.members-in-loop-c.ensures,
-        couple_within x (couples_in sets c.args.couples.now) c.loop-c.c-index
-            (couple_in sets (get_or c.args.couples.now c.loop-c.c-index no_couple))
-            (mapped_low (couple_in sets) c.args.couples.now c.loop-c.c-index c.loop-c-test.true)
-            (mapped_item (couple_in sets) c.args.couples.now c.loop-c.c-index no_couple),
+        match_within x (matches_in sets c.args.matches.now) c.loop-c.c-index
+            (match_in sets (get_or c.args.matches.now c.loop-c.c-index no_match))
+            (mapped_low (match_in sets) c.args.matches.now c.loop-c.c-index c.loop-c-test.true)
+            (mapped_item (match_in sets) c.args.matches.now c.loop-c.c-index no_match),
       )),
     )
 
@@ -46,10 +46,10 @@ pub loop-c-preserved : goal.loop-c-preserved
 loop-c-preserved c =
     let sets = c.args.sets.now in
     record {
-      puts = puts_couple 0 (couples_in sets c.args.couples.now) c.loop-c.c-index
-          (couple_in sets (get_or c.args.couples.now c.loop-c.c-index no_couple)) c.args.mask.now c.loop-c.mask c.put.new.cells
-          c.put-in-loop-c.new.cells (mapped_low (couple_in sets) c.args.couples.now c.loop-c.c-index c.loop-c-test.true)
-          (mapped_item (couple_in sets) c.args.couples.now c.loop-c.c-index no_couple) c.loop-c.invariant.puts
+      puts = puts_match 0 (matches_in sets c.args.matches.now) c.loop-c.c-index
+          (match_in sets (get_or c.args.matches.now c.loop-c.c-index no_match)) c.args.mask.now c.loop-c.mask c.put.new.cells
+          c.put-in-loop-c.new.cells (mapped_low (match_in sets) c.args.matches.now c.loop-c.c-index c.loop-c-test.true)
+          (mapped_item (match_in sets) c.args.matches.now c.loop-c.c-index no_match) c.loop-c.invariant.puts
           (subst (λ (ks : List ℕ). Puts 0 ks c.loop-c.mask c.put.new.cells) c.members.ensures c.put.ensures)
           (subst (λ (ks : List ℕ). Puts 0 ks c.put.new.cells c.put-in-loop-c.new.cells) c.members-in-loop-c.ensures
           c.put-in-loop-c.ensures);

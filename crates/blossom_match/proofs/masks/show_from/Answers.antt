@@ -1,11 +1,11 @@
 use Rattle.std.proofs.Common.{ap, arith, drop, length, List, ◌≤◌, ◌-◌, ◌∙◌, subst, sym}
 use Rattle.std.proofs.lemmas.List.{length-drop, take_all}
 use Rattle.blossom_match.specs.Bands.{count}
-use Rattle.blossom_match.specs.Couples.{couple_members}
+use Rattle.blossom_match.specs.Matches.{match_members}
 use Rattle.blossom_match.specs.Rows.{Puts}
-use Rattle.blossom_match.specs.Slots.{couple_in, couples_in}
-use Rattle.blossom_match.specs.Values.{CoupleValue}
-use Rattle.blossom_match.specs.declared.couples.Couple.{Couple}
+use Rattle.blossom_match.specs.Slots.{match_in, matches_in}
+use Rattle.blossom_match.specs.Values.{MatchValue}
+use Rattle.blossom_match.specs.declared.matches.Match.{Match}
 use Rattle.blossom_match.proofs.ListLemmas.{mapped_drop}
 use Rattle.blossom_match.proofs.masks.show_from.Goals as goal
 
@@ -13,18 +13,18 @@ pub show-requires : goal.show-requires
 show-requires c = λ x here.
     let sets = c.args.s.now.sets in
     let all = c.deref.result.now in
-    c.requires.cells x (subst (λ (cs : List CoupleValue). 1 ≤ count x (couple_members cs))
-    (ap (λ (ks : List Couple). couples_in sets ks)
+    c.requires.cells x (subst (λ (cs : List MatchValue). 1 ≤ count x (match_members cs))
+    (ap (λ (ks : List Match). matches_in sets ks)
     (take_all (length all - c.args.at) (drop c.args.at all) (omega (arith, length-drop c.args.at all)))
-    ∙ sym (mapped_drop (couple_in sets) c.args.at all)
-    ∙ ap (λ (ks : List Couple). drop c.args.at (couples_in sets ks)) c.deref.ensures.value) here)
+    ∙ sym (mapped_drop (match_in sets) c.args.at all)
+    ∙ ap (λ (ks : List Match). drop c.args.at (matches_in sets ks)) c.deref.ensures.value) here)
 
 pub returns : goal.returns
 returns c =
     let sets = c.args.s.now.sets in
     let all = c.deref.result.now in
-    subst (λ (cs : List CoupleValue). Puts 0 (couple_members cs) c.args.mask.now c.show.new.mask)
-    (ap (λ (ks : List Couple). couples_in sets ks)
+    subst (λ (cs : List MatchValue). Puts 0 (match_members cs) c.args.mask.now c.show.new.mask)
+    (ap (λ (ks : List Match). matches_in sets ks)
     (take_all (length all - c.args.at) (drop c.args.at all) (omega (arith, length-drop c.args.at all)))
-    ∙ sym (mapped_drop (couple_in sets) c.args.at all)
-    ∙ ap (λ (ks : List Couple). drop c.args.at (couples_in sets ks)) c.deref.ensures.value) c.show.ensures
+    ∙ sym (mapped_drop (match_in sets) c.args.at all)
+    ∙ ap (λ (ks : List Match). drop c.args.at (matches_in sets ks)) c.deref.ensures.value) c.show.ensures

@@ -1,5 +1,5 @@
 use Rattle.std.proofs.Common.{List, ℕ, ◌++◌, ◌+◌, ap, append_assoc, drop, get_or, sym, ◌∙◌}
-use Rattle.blossom_match.specs.Rings.{members_in}
+use Rattle.blossom_match.specs.Blossoms.{members_in}
 use Rattle.blossom_match.specs.Slots.{members_at, part_in, parts_in}
 use Rattle.blossom_match.specs.Values.{PartValue}
 use Rattle.blossom_match.proofs.ListLemmas.{drop_here, mapped_item, mapped_low}

@@ -1,5 +1,5 @@
 use Rattle.std.proofs.Common.{◌≡◌, ◌++◌, drop}
-use Rattle.blossom_match.specs.Rings.{members_in}
+use Rattle.blossom_match.specs.Blossoms.{members_in}
 use Rattle.blossom_match.specs.Slots.{parts_in}
 use Rattle.blossom_match.proofs.nest.members_of.Given as goal
 

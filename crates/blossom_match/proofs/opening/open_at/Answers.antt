@@ -2,11 +2,11 @@ use Rattle.std.proofs.Common.{arith, ap, length, List, ℕ, ◌++◌, ◌≡◌,
 use Rattle.std.proofs.lemmas.List.{length-map}
 use Rattle.std.specs.Vec.Iter.{into_iter_items}
 use Rattle.blossom_match.specs.Bands.{count}
-use Rattle.blossom_match.specs.Rings.{members_in, IsTurned}
-use Rattle.blossom_match.specs.Slots.{couples_in, members_at, near_at, part_in, parts_at, parts_in, set_in}
-use Rattle.blossom_match.specs.declared.couples.Couple.{Couple}
+use Rattle.blossom_match.specs.Blossoms.{members_in, IsTurned}
+use Rattle.blossom_match.specs.Slots.{matches_in, members_at, near_at, part_in, parts_at, parts_in, set_in}
+use Rattle.blossom_match.specs.declared.matches.Match.{Match}
 use Rattle.blossom_match.specs.declared.nest.Part.{Part}
-use Rattle.blossom_match.proofs.OpenLemmas.{made_ring, opens_place, opens_ring}
+use Rattle.blossom_match.proofs.OpenLemmas.{made_blossom, opens_place, opens_blossom}
 use Rattle.blossom_match.proofs.SlotLemmas.{is_made, set_made}
 use Rattle.blossom_match.proofs.opening.open_at.Goals as goal
 
@@ -23,7 +23,7 @@ turned_to-requires c =
       ap (λ (ps : List Part). length ps) copied,
       length-map (parts_at sets s.key) (part_in sets),
     ) in
-    let made = made_ring (members_at sets s.key) (parts_in sets (parts_at sets s.key)) some (is_made sets s.key c.requires.set) in
+    let made = made_blossom (members_at sets s.key) (parts_in sets (parts_at sets s.key)) some (is_made sets s.key c.requires.set) in
     omega (
       arith,
       c.requires.there,
@@ -44,9 +44,9 @@ returns-then-len-eq0 c =
       ap (λ (ps : List Part). length ps) copied,
       length-map (parts_at sets s.key) (part_in sets),
     ) in
-    opens_place c.args.left s.key s.width (set_in sets s) (members_at sets s.key) (near_at sets s.key) (parts_in sets (parts_at sets s.key))
+    opens_place c.args.left s.key s.dual (set_in sets s) (members_at sets s.key) (near_at sets s.key) (parts_in sets (parts_at sets s.key))
     _ (set_made sets s c.requires.set) (is_made sets s.key c.requires.set) c.requires.there none
-    (ap (λ (cs : List Couple). couples_in sets cs) c.new.ensures.items)
+    (ap (λ (cs : List Match). matches_in sets cs) c.new.ensures.items)
 
 pub returns : goal.returns
 returns c =
@@ -54,10 +54,11 @@ returns c =
     let s = c.args.s in
     let copied = c.in_ok-extend_from_slice.ensures.items ∙ ap (λ (ps : List Part). ps ++ c.parts.result.now) c.new-parts.ensures.items
     ∙ c.parts.ensures in
-    opens_ring c.args.left s.key s.width (set_in sets s) (members_at sets s.key) (near_at sets s.key) (parts_in sets (parts_at sets s.key))
+    opens_blossom c.args.left s.key s.dual (set_in sets s) (members_at sets s.key) (near_at sets s.key) (parts_in sets (parts_at sets
+    s.key))
     (parts_in sets c.turned_to.result.items) (part_in sets c.in-Some.p) (parts_in sets (into_iter_items c.next.new.self)) _
     (set_made sets s c.requires.set) (is_made sets s.key c.requires.set) c.requires.there
     (subst (λ (ps : List Part). IsTurned (parts_in sets ps) (parts_in sets c.turned_to.result.items)) copied c.turned_to.ensures.turned)
     c.turned_to.ensures.first
     (ap (λ (ps : List Part). parts_in sets ps) (sym c.into_iter-rest.ensures.rest ∙ c.in-Some.ensures.items))
-    (c.in_ok-couples-in-Some.ensures sets)
+    (c.in_ok-matches-in-Some.ensures sets)

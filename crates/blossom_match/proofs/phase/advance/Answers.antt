@@ -1,31 +1,33 @@
 use Rattle.blossom_match.specs.States.{search_value}
-use Rattle.blossom_match.proofs.EndLemmas.{can_step, can_widen_now, goes}
+use Rattle.blossom_match.proofs.EndLemmas.{can_step, can_adjust_now, goes}
 use Rattle.blossom_match.proofs.LoweredLemmas.{still_reaches}
 use Rattle.blossom_match.proofs.MaskLemmas.{masks_same}
 use Rattle.blossom_match.proofs.phase.advance.Goals as goal
 
-pub widen-wide-requires : goal.widen-wide-requires
-widen-wide-requires c = can_widen_now c.args.t.now (search_value c.args.s) c.least-change.result c.requires.metric c.requires.search
+pub adjust-adjusted-requires : goal.adjust-adjusted-requires
+adjust-adjusted-requires c = can_adjust_now c.args.t.now (search_value c.args.s) c.least-change.result c.requires.metric c.requires.search
     c.least-change.ensures
 
 pub take_step-requires-clause-step : goal.take_step-requires-clause-step
-take_step-requires-clause-step c = can_step c.args.t.now (search_value c.args.s) (search_value c.widen-wide.result) c.least-change.result
+take_step-requires-clause-step c = can_step c.args.t.now (search_value c.args.s) (search_value c.adjust-adjusted.result)
+    c.least-change.result
     c.requires.metric
-    c.requires.search c.least-change.ensures c.widen-wide.ensures.widens
+    c.requires.search c.least-change.ensures c.adjust-adjusted.ensures.adjusts
 
 pub take_step-requires-clause-reaches : goal.take_step-requires-clause-reaches
 take_step-requires-clause-reaches c =
-    still_reaches c.args.t.now c.least-change.result.by (search_value c.args.s) (search_value c.widen-wide.result) c.args.reach.now
+    still_reaches c.args.t.now c.least-change.result.by (search_value c.args.s) (search_value c.adjust-adjusted.result) c.args.reach.now
     c.lower_reach.new.reach
-    c.requires.metric.table c.requires.search.search c.widen-wide.ensures.changes c.requires.reaches c.lower_reach.auto.reach
+    c.requires.metric.table c.requires.search.search c.adjust-adjusted.ensures.changes c.requires.reaches c.lower_reach.auto.reach
     c.lower_reach.ensures
 
 pub take_step-requires-clause-masks : goal.take_step-requires-clause-masks
 take_step-requires-clause-masks c =
-    masks_same c.args.t.now (search_value c.args.s) (search_value c.widen-wide.result) c.args.mask.now c.widen-wide.ensures.changes.rest
+    masks_same c.args.t.now (search_value c.args.s) (search_value c.adjust-adjusted.result) c.args.mask.now
+    c.adjust-adjusted.ensures.changes.rest
     c.requires.masks
 
 pub returns-clause-goes : goal.returns-clause-goes
-returns-clause-goes c = goes c.args.t.now (search_value c.args.s) (search_value c.widen-wide.result) c.least-change.result
+returns-clause-goes c = goes c.args.t.now (search_value c.args.s) (search_value c.adjust-adjusted.result) c.least-change.result
     c.in_ok-next.next c.requires.metric
-    c.requires.search c.least-change.ensures c.widen-wide.ensures.widens c.in_ok-next.ensures.leads
+    c.requires.search c.least-change.ensures c.adjust-adjusted.ensures.adjusts c.in_ok-next.ensures.leads

@@ -1,7 +1,7 @@
 use Rattle.std.proofs.Common.{◌≡◌, arith, length}
-use Rattle.blossom_match.specs.Couples.{couple_members}
+use Rattle.blossom_match.specs.Matches.{match_members}
 use Rattle.blossom_match.specs.Searches.{height_at}
-use Rattle.blossom_match.specs.Slots.{couples_in}
+use Rattle.blossom_match.specs.Slots.{matches_in}
 use Rattle.blossom_match.specs.States.{search_value}
 use Rattle.blossom_match.proofs.EndLemmas.{begins, place_there}
 use Rattle.blossom_match.proofs.LoweredLemmas.{searched}
@@ -9,7 +9,7 @@ use Rattle.blossom_match.proofs.MaskLemmas.{have_cells, masks_anew}
 use Rattle.blossom_match.proofs.phase.pair_up.Goals as goal
 
 pub begin-requires-clause-cell : goal.begin-requires-clause-cell
-begin-requires-clause-cell c = place_there c.args.t.now c.args.place (couples_in c.args.from.sets c.args.from.couples.items)
+begin-requires-clause-cell c = place_there c.args.t.now c.args.place (matches_in c.args.from.sets c.args.from.matches.items)
     c.args.from.free.items
     c.args.from.heights.items c.requires.stands
 
@@ -18,14 +18,14 @@ begin-requires-clause-within c =
     omega (
       arith,
       c.requires.stands.size,
-      place_there c.args.t.now c.args.place (couples_in c.args.from.sets c.args.from.couples.items) c.args.from.free.items
+      place_there c.args.t.now c.args.place (matches_in c.args.from.sets c.args.from.matches.items) c.args.from.free.items
           c.args.from.heights.items
           c.requires.stands,
     )
 
 pub reach_anew-requires : goal.reach_anew-requires
 reach_anew-requires c =
-    let s = begins c.args.t.now c.args.place (couples_in c.args.from.sets c.args.from.couples.items) c.args.from.free.items
+    let s = begins c.args.t.now c.args.place (matches_in c.args.from.sets c.args.from.matches.items) c.args.from.free.items
     c.args.from.heights.items (search_value c.in_ok-now.now)
     c.requires.stands c.requires.some c.in_ok-now.ensures in
     record { t = c.args.t.now; can = searched c.args.t.now (search_value c.in_ok-now.now) s.search; size = c.requires.size }
@@ -33,13 +33,13 @@ reach_anew-requires c =
 pub show_from-requires-clause-cells : goal.show_from-requires-clause-cells
 show_from-requires-clause-cells c =
     let r = search_value c.in_ok-now.now in
-    let s = begins c.args.t.now c.args.place (couples_in c.args.from.sets c.args.from.couples.items) c.args.from.free.items
+    let s = begins c.args.t.now c.args.place (matches_in c.args.from.sets c.args.from.matches.items) c.args.from.free.items
     c.args.from.heights.items r c.requires.stands c.requires.some c.in_ok-now.ensures in
     have_cells c.args.t.now (height_at r) r 0 c.reset.new.reach s.search (omega (arith, c.reset.auto.reach, c.requires.masked))
 
 pub steps-init : goal.steps-init
 steps-init c =
-    let s = begins c.args.t.now c.args.place (couples_in c.args.from.sets c.args.from.couples.items) c.args.from.free.items
+    let s = begins c.args.t.now c.args.place (matches_in c.args.from.sets c.args.from.matches.items) c.args.from.free.items
     c.args.from.heights.items (search_value c.in_ok-now.now)
     c.requires.stands c.requires.some c.in_ok-now.ensures in
     let r = search_value c.in_ok-now.now in
@@ -53,7 +53,7 @@ steps-init c =
           (omega (arith, c.reach_anew.auto.reach, c.requires.size));
       masks = record {
         size = masked;
-        masks = masks_anew (couple_members r.rest) c.reset.new.reach c.show_from.new.mask
+        masks = masks_anew (match_members r.rest) c.reset.new.reach c.show_from.new.mask
             (have_cells c.args.t.now (height_at r) r 0 c.show_from.new.mask s.search masked) c.show_from.auto.mask c.reset.ensures
             c.show_from.ensures;
       };

@@ -6,7 +6,7 @@ use Rattle.blossom_match.specs.Searches.{size_of}
 use Rattle.blossom_match.specs.States.{search_value}
 use Rattle.blossom_match.proofs.phase.pair_up.Given as goal
 
--- a search that is not over, what its outer places leave, and its coupled places
+-- a search that is not over, what its outer places leave, and its matched places
 abbrev pub invariant-steps : goal.invariant-steps
 invariant-steps l = record {
   search : CanSearch l.t (search_value l.now);

@@ -2,9 +2,9 @@ use Rattle.blossom_match.specs.declared.search.Step.TheVariants as step
 use Rattle.std.proofs.Common.{arith, ap, List, [], ◌∷◌, ℕ, ◌-◌, drop, length, length-append, subst, sym, take}
 use Rattle.std.proofs.lemmas.List.{length-map}
 use Rattle.blossom_match.specs.Reaches.{ReachesOn}
-use Rattle.blossom_match.specs.Slots.{branch_in, branches_in, couple_in, couples_in}
+use Rattle.blossom_match.specs.Slots.{branch_in, branches_in, match_in, matches_in}
 use Rattle.blossom_match.specs.States.{search_value}
-use Rattle.blossom_match.specs.Values.{BranchValue, CoupleValue}
+use Rattle.blossom_match.specs.Values.{BranchValue, MatchValue}
 use Rattle.blossom_match.specs.Searches.{height_at, Advances}
 use Rattle.blossom_match.specs.declared.search.Step.{Step}
 use Rattle.blossom_match.proofs.ReachLemmas.{grown_past, grown_size}
@@ -92,18 +92,18 @@ show_from-requires-clause-within c =
     let apart = c.in_ok-expanded-in-Expand.ensures.apart in
     omega (
       arith,
-      c.len-coupled.ensures,
-      ap (λ (cs : List CoupleValue). length cs) apart.rest,
-      length-append (couples_in s.sets s.rest.items) apart.more,
-      length-map s.rest.items (couple_in s.sets),
-      length-map r.rest.items (couple_in r.sets),
+      c.len-matched.ensures,
+      ap (λ (cs : List MatchValue). length cs) apart.rest,
+      length-append (matches_in s.sets s.rest.items) apart.more,
+      length-map s.rest.items (match_in s.sets),
+      length-map r.rest.items (match_in r.sets),
     )
 
 pub show_from-requires-clause-cells : goal.show_from-requires-clause-cells
 show_from-requires-clause-cells c =
     let s = search_value c.args.s in
     let r = search_value c.in_ok-expanded-in-Expand.expanded in
-    have_cells c.args.t.now (height_at s) r c.len-coupled.result c.args.mask.now
+    have_cells c.args.t.now (height_at s) r c.len-matched.result c.args.mask.now
     (next_search c.args.t.now s r c.args.step (step.Expand c.in-Expand.at) c.in-Expand.is c.requires.step
     c.in_ok-expanded-in-Expand.ensures.advances) c.requires.masks.size
 
@@ -111,10 +111,10 @@ pub returns-in_ok-expanded-in-Expand-clause-masks : goal.returns-in_ok-expanded-
 returns-in_ok-expanded-in-Expand-clause-masks c =
     let s = search_value c.args.s in
     let r = search_value c.in_ok-expanded-in-Expand.expanded in
-    masks_apart c.args.t.now (height_at s) s r c.in-Expand.at c.len-coupled.result c.args.mask.now c.show_from.new.mask
+    masks_apart c.args.t.now (height_at s) s r c.in-Expand.at c.len-matched.result c.args.mask.now c.show_from.new.mask
     (next_search c.args.t.now s r c.args.step (step.Expand c.in-Expand.at) c.in-Expand.is c.requires.step
     c.in_ok-expanded-in-Expand.ensures.advances) c.in_ok-expanded-in-Expand.ensures.apart
-    (omega (arith, c.len-coupled.ensures, length-map c.args.s.rest.items (couple_in c.args.s.sets))) c.requires.masks
+    (omega (arith, c.len-matched.ensures, length-map c.args.s.rest.items (match_in c.args.s.sets))) c.requires.masks
     c.show_from.auto.mask c.show_from.ensures
 
 pub reach_anew-requires : goal.reach_anew-requires

@@ -7,7 +7,7 @@ is_tight-requires-clause-other_in c = c.requires.lies.others (get_or c.args.free
     (count_at c.args.free.now c.loop-other.other-index c.loop-other-test.true)
 
 pub is_tight-requires-clause-low : goal.is_tight-requires-clause-low
-is_tight-requires-clause-low c = c.requires.lies.room (get_or c.args.free.now c.loop-other.other-index 0)
+is_tight-requires-clause-low c = c.requires.lies.slack (get_or c.args.free.now c.loop-other.other-index 0)
     (c.requires.lies.others (get_or c.args.free.now c.loop-other.other-index 0)
     (count_at c.args.free.now c.loop-other.other-index c.loop-other-test.true))
 

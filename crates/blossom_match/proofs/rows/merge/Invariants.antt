@@ -5,6 +5,6 @@ use Rattle.blossom_match.proofs.rows.merge.Given as goal
 -- the cells so far, and those that are left
 abbrev pub invariant-loop-x : goal.invariant-loop-x
 invariant-loop-x l = record {
-  done : (x : ℕ) → x < l.x → get_or l.cells x 0 ≡ min (lowered l.width (get_or l.near x 0)) (get_or l.fn.cells x 0);
+  done : (x : ℕ) → x < l.x → get_or l.cells x 0 ≡ min (lowered l.dual (get_or l.near x 0)) (get_or l.fn.cells x 0);
   rest : (x : ℕ) → l.x ≤ x → get_or l.cells x 0 ≡ get_or l.fn.cells x 0;
 }

@@ -18,12 +18,12 @@ loop-a-preserved c =
       c.requires (get_or c.args.places.now c.loop-a.a-index 0) (count_at c.args.places.now c.loop-a.a-index c.loop-a-test.true),
     ) in
     record {
-      on = put_next c.args.places.now c.loop-a.cells c.loop-a.a-index c.args.room c.loop-a-test.true low c.loop-a.invariant.on;
-      off = put_others c.args.places.now c.loop-a.cells c.args.cells.now c.loop-a.a-index c.args.room c.loop-a-test.true
+      on = put_next c.args.places.now c.loop-a.cells c.loop-a.a-index c.args.left c.loop-a-test.true low c.loop-a.invariant.on;
+      off = put_others c.args.places.now c.loop-a.cells c.args.cells.now c.loop-a.a-index c.args.left c.loop-a-test.true
           c.loop-a.invariant.off;
       size = omega (
         arith,
         c.loop-a.invariant.size,
-        length-set c.loop-a.cells (get_or c.args.places.now c.loop-a.a-index 0) c.args.room,
+        length-set c.loop-a.cells (get_or c.args.places.now c.loop-a.a-index 0) c.args.left,
       );
     }

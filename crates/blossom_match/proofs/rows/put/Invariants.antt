@@ -5,7 +5,7 @@ use Rattle.blossom_match.proofs.rows.put.Given as goal
 -- the places so far
 abbrev pub invariant-loop-a : goal.invariant-loop-a
 invariant-loop-a l = record {
-  on : (x : ℕ) → 1 ≤ count x (take l.a-index l.places) → get_or l.cells x 0 ≡ l.room;
+  on : (x : ℕ) → 1 ≤ count x (take l.a-index l.places) → get_or l.cells x 0 ≡ l.left;
   off : (x : ℕ) → count x (take l.a-index l.places) ≡ 0 → get_or l.cells x 0 ≡ get_or l.fn.cells x 0;
   size : length l.cells ≡ length l.fn.cells;
 }

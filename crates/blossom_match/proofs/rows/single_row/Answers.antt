@@ -7,6 +7,6 @@ use Rattle.blossom_match.proofs.rows.single_row.Goals as goal
 pub loop-x-preserved : goal.loop-x-preserved
 loop-x-preserved c =
     let f = single_cell c.args.t.now c.args.place in
-    c.in_ok-push.ensures.items ∙ ap (λ (xs : List ℕ). xs ++ c.single_room.result ∷ []) c.loop-x.invariant
-    ∙ ap (λ (v : ℕ). map f (range_with_len 0 c.loop-x.x) ++ v ∷ []) c.single_room.ensures
+    c.in_ok-push.ensures.items ∙ ap (λ (xs : List ℕ). xs ++ c.cell_for.result ∷ []) c.loop-x.invariant
+    ∙ ap (λ (v : ℕ). map f (range_with_len 0 c.loop-x.x) ++ v ∷ []) c.cell_for.ensures
     ∙ sym (map-range_with_len_more f 0 c.loop-x.x c.loop-x.x (omega arith))

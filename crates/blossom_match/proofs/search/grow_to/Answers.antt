@@ -1,5 +1,5 @@
 use Rattle.std.proofs.Common.{refl}
-use Rattle.blossom_match.specs.Slots.{branches_in, couple_in, couples_in, set_in}
+use Rattle.blossom_match.specs.Slots.{branches_in, match_in, matches_in, set_in}
 use Rattle.blossom_match.specs.States.{search_value}
 use Rattle.blossom_match.specs.Trees.{hung_by}
 use Rattle.blossom_match.proofs.SearchLemmas.{hung}
@@ -8,12 +8,12 @@ use Rattle.blossom_match.proofs.search.grow_to.Goals as goal
 
 pub returns-clause-advances : goal.returns-clause-advances
 returns-clause-advances c =
-    hung c.args.link (search_value c.args.s) _ (couple_in c.args.s.sets c.take_couple-couple.result) c.take_couple-couple.ensures
+    hung c.args.link (search_value c.args.s) _ (match_in c.args.s.sets c.take_match-matched.result) c.take_match-matched.ensures
     c.in_ok-grow.ensures refl refl refl
 
 pub returns-clause-hangs : goal.returns-clause-hangs
 returns-clause-hangs c = record {
-  branch = hung_by c.args.link (couple_in c.args.s.sets c.take_couple-couple.result);
+  branch = hung_by c.args.link (match_in c.args.s.sets c.take_match-matched.result);
   tree = c.in_ok-grow.ensures;
   root = refl;
 }
@@ -23,7 +23,7 @@ invariant_of-result c =
     let s = c.args.s in
     record {
       stand = grown_sets s.sets c.args.link.to c.args.link (set_in s.sets s.root) (branches_in s.sets s.tree.items) _
-          (couples_in s.sets s.rest.items) _ (couple_in s.sets c.take_couple-couple.result) c.take_couple-couple.ensures
+          (matches_in s.sets s.rest.items) _ (match_in s.sets c.take_match-matched.result) c.take_match-matched.ensures
           c.in_ok-grow.ensures
           s.stand;
     }

@@ -1,7 +1,7 @@
 use Rattle.std.proofs.Common.{ℕ, List, ap, get_or, refl, ◌∙◌}
 use Rattle.blossom_match.specs.Bands.{NestValue}
-use Rattle.blossom_match.specs.Rings.{single_of}
-use Rattle.blossom_match.specs.Slots.{couples_in, set_in}
+use Rattle.blossom_match.specs.Blossoms.{single_of}
+use Rattle.blossom_match.specs.Slots.{matches_in, set_in}
 use Rattle.blossom_match.specs.States.{search_value}
 use Rattle.blossom_match.proofs.FreeLemmas.{met}
 use Rattle.blossom_match.proofs.StandLemmas.{all_stay, augmenting_new, augments_old, can_augment, met_sets}
@@ -21,7 +21,7 @@ returns c =
     let m = set_in c.single.new.sets c.in_ok-met.met in
     met c.args.t.now c.args.link (search_value s) _ m c.requires
     (augments_old s.sets c.single.new.sets s.root s.tree.items s.rest.items m c.args.link
-    (couples_in c.single.new.sets c.augment.new.rest.items)
+    (matches_in c.single.new.sets c.augment.new.rest.items)
     (all_stay s.sets c.single.new.sets c.in_ok-met.met.key s.root s.tree.items s.rest.items c.in_ok-met.ensures.inserts s.stand)
     c.in_ok-augment.ensures)
     c.in_ok-met.ensures.table
@@ -36,10 +36,10 @@ invariant_of-result c =
     let m = set_in c.single.new.sets c.in_ok-met.met in
     record {
       stand = met_sets s.sets c.single.new.sets c.args.link v.root m v.tree v.rest
-          (couples_in c.single.new.sets c.augment.new.rest.items) c.in_ok-met.ensures.inserts
+          (matches_in c.single.new.sets c.augment.new.rest.items) c.in_ok-met.ensures.inserts
           (ap (λ (n : NestValue). n.below) c.in_ok-met.ensures.is)
           (augments_old s.sets c.single.new.sets s.root s.tree.items s.rest.items m c.args.link
-          (couples_in c.single.new.sets c.augment.new.rest.items)
+          (matches_in c.single.new.sets c.augment.new.rest.items)
           (all_stay s.sets c.single.new.sets c.in_ok-met.met.key s.root s.tree.items s.rest.items c.in_ok-met.ensures.inserts s.stand)
           c.in_ok-augment.ensures) s.stand;
     }

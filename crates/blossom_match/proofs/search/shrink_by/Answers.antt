@@ -4,7 +4,7 @@ use Rattle.blossom_match.specs.Trees.{all_bands}
 use Rattle.blossom_match.proofs.SearchLemmas.{can_shrink, shrunk}
 use Rattle.blossom_match.proofs.ShrunkLemmas.{all_uses}
 use Rattle.blossom_match.proofs.SlotLemmas.{sets_fewer}
-use Rattle.blossom_match.proofs.StandLemmas.{closed_sets, couples_stay}
+use Rattle.blossom_match.proofs.StandLemmas.{closed_sets, matches_stay}
 use Rattle.blossom_match.proofs.search.shrink_by.Goals as goal
 
 pub shrink-requires-clause-can : goal.shrink-requires-clause-can
@@ -21,14 +21,14 @@ returns-clause-advances c =
     let s = search_value c.args.s in
     let e = c.in_ok-top.ensures in
     shrunk e.0 c.args.link s _ e.2
-    (couples_stay c.args.s.sets c.shrink.new.sets e.0 (all_bands s.root s.tree s.rest) c.args.s.rest.items e.1 c.args.s.stand
+    (matches_stay c.args.s.sets c.shrink.new.sets e.0 (all_bands s.root s.tree s.rest) c.args.s.rest.items e.1 c.args.s.stand
     (λ k. omega (arith, all_uses k s.root s.tree s.rest))) refl refl
 
 pub returns-clause-rest : goal.returns-clause-rest
 returns-clause-rest c =
     let s = search_value c.args.s in
     let e = c.in_ok-top.ensures in
-    couples_stay c.args.s.sets c.shrink.new.sets e.0 (all_bands s.root s.tree s.rest) c.args.s.rest.items e.1 c.args.s.stand
+    matches_stay c.args.s.sets c.shrink.new.sets e.0 (all_bands s.root s.tree s.rest) c.args.s.rest.items e.1 c.args.s.stand
     (λ k. omega (arith, all_uses k s.root s.tree s.rest))
 
 pub invariant_of-result : goal.invariant_of-result
@@ -37,6 +37,6 @@ invariant_of-result c =
     let e = c.in_ok-top.ensures in
     record {
       stand = closed_sets c.args.s.sets c.shrink.new.sets e.0 c.args.link s.root _ s.tree _ s.rest _ e.1 e.2
-          (couples_stay c.args.s.sets c.shrink.new.sets e.0 (all_bands s.root s.tree s.rest) c.args.s.rest.items e.1 c.args.s.stand
+          (matches_stay c.args.s.sets c.shrink.new.sets e.0 (all_bands s.root s.tree s.rest) c.args.s.rest.items e.1 c.args.s.stand
           (λ k. omega (arith, all_uses k s.root s.tree s.rest))) c.args.s.stand;
     }

@@ -7,7 +7,7 @@ use Rattle.blossom_match.specs.declared.nest.Part.{Part}
 use Rattle.blossom_match.proofs.ChainLemmas.{chaining_start}
 use Rattle.blossom_match.proofs.ListLemmas.{mapped_last}
 use Rattle.blossom_match.proofs.ShrinkLemmas.{closable, closable_root}
-use Rattle.blossom_match.proofs.ShrunkLemmas.{last_kept, ring_sets, root_sets, shrunk_inside, shrunk_root}
+use Rattle.blossom_match.proofs.ShrunkLemmas.{last_kept, blossom_sets, root_sets, shrunk_inside, shrunk_root}
 use Rattle.blossom_match.proofs.shrinking.shrink.Goals as goal
 
 pub loop-b-init : goal.loop-b-init
@@ -41,7 +41,7 @@ pub close-requires-clause-sets : goal.close-requires-clause-sets
 close-requires-clause-sets c =
     let sets = c.loop-b.sets in
     let i = c.loop-b.invariant in
-    ring_sets sets c.args.link _ _ (branches_in sets c.loop-b.tree.items) (branches_in sets c.pop.new.self.items)
+    blossom_sets sets c.args.link _ _ (branches_in sets c.loop-b.tree.items) (branches_in sets c.pop.new.self.items)
     (branch_in sets c.in-Some.b) _ _ _ _ i.goes (mapped_last (branch_in sets) _ _ _ c.in-Some.ensures.items) i.stand
 
 pub returns-then-ends_in : goal.returns-then-ends_in
@@ -98,13 +98,14 @@ returns c =
     let i = c.loop-b.invariant in
     let none : length (branches_in sets c.loop-b.tree.items) ≡ 0 =
     omega (arith, c.in_default.ensures.cases, length-map c.loop-b.tree.items (branch_in sets)) in
-    let key = c.in_ok-ring.ring.key in (
+    let key = c.in_ok-blossom.blossom.key in (
       key,
-      subst (λ (s : Slots). Inserts s c.close-2.new.sets key) i.same c.in_ok-ring.ensures.inserts,
-      subst (λ (s : Slots). Shrinks key c.args.link (set_in s c.args.root) (set_in c.close-2.new.sets c.in_ok-ring.ring)
+      subst (λ (s : Slots). Inserts s c.close-2.new.sets key) i.same c.in_ok-blossom.ensures.inserts,
+      subst (λ (s : Slots). Shrinks key c.args.link (set_in s c.args.root) (set_in c.close-2.new.sets c.in_ok-blossom.blossom)
           (branches_in s c.args.tree.now.items) (branches_in c.close-2.new.sets c.give_back-2.new.tree.items)) i.same
           (shrunk_root sets c.close-2.new.sets c.args.link c.args.root c.args.tree.now.items c.loop-b.tree.items c.pop.new.self.items
-          c.loop-b.aside.items c.loop-b.chain.parts.items c.loop-b.chain.way c.loop-b.chain.to c.in_ok-ring.ring c.pop.new.self.items _ _
-          i.can i.goes none i.stand c.in_ok-ring.ensures.inserts c.in_ok-ring.ensures.is c.in_default.ensures.items
+          c.loop-b.aside.items c.loop-b.chain.parts.items c.loop-b.chain.way c.loop-b.chain.to c.in_ok-blossom.blossom c.pop.new.self.items
+          _ _
+          i.can i.goes none i.stand c.in_ok-blossom.ensures.inserts c.in_ok-blossom.ensures.is c.in_default.ensures.items
           c.in_ok-give_back-2.ensures),
     )

@@ -1,6 +1,6 @@
 use Rattle.std.proofs.Common.{List, [], ◌∷◌, ◌++◌, ◌≡◌, ap, refl, ◌∙◌}
 use Rattle.blossom_match.specs.Slots.{branch_in, part_in, parts_in, set_in}
-use Rattle.blossom_match.specs.Rings.{back_of}
+use Rattle.blossom_match.specs.Blossoms.{back_of}
 use Rattle.blossom_match.specs.declared.nest.Link.{Link}
 use Rattle.blossom_match.specs.declared.nest.Part.{Part}
 use Rattle.blossom_match.proofs.ChainLemmas.{chaining_left, chaining_right, chaining_aside, chaining_ends, no_other}

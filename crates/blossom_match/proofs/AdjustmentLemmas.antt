@@ -1,0 +1,363 @@
+-- After a change of duals the step can be done, and all holds that held before.
+use Rattle.std.proofs.Common.{◌≡◌, ◌≢◌, ℕ, ◌+◌, ◌*◌, ◌^◌, ◌≤◌, ◌<◌, suc, zero, List, [], ◌∷◌, flat_map, length, drop, arith, refl, sym, ap, subst, ◌∙◌}
+use Rattle.blossom_match.specs.Lists.{Each}
+use Rattle.blossom_match.specs.Bands.{Band, NestValue, apart, bands, count, height, load}
+use Rattle.blossom_match.specs.Matches.{match_members, match_bands, IsJoined}
+use Rattle.blossom_match.specs.Sound.{IsFirm, IsFirmMatch, IsSound, IsTight}
+use Rattle.blossom_match.specs.Trees.{around, both, branch_bands, inner_bands, inner_members, inner_sets, outer_members, outer_sets, IsGrown}
+use Rattle.blossom_match.specs.Lays.{FirstComesApart}
+use Rattle.blossom_match.specs.Searches.{height_at, height_of, holding_both, outers, IsReady, IsSearch}
+use Rattle.blossom_match.specs.Bounds.{Bounds, CanSearch, FirstIsDue, IsDue, DualIsEnough}
+use Rattle.blossom_match.specs.Duals.{all_changed, CanChange, CanChangeHeights, CanAdjust, Changes, StepsOn, Adjusts}
+use Rattle.blossom_match.specs.TableValue.{TableValue}
+use Rattle.blossom_match.specs.Tables.{entry, IsMetric, IsTable, KeepsTriangles}
+use Rattle.blossom_match.specs.declared.table.TheConstants.{MAX_DISTANCE}
+use Rattle.blossom_match.specs.declared.nest.Link.{Link}
+use Rattle.blossom_match.specs.Values.{BranchValue, MatchValue, SearchValue}
+use Rattle.blossom_match.specs.declared.search.Step.{Step}
+use Rattle.blossom_match.specs.declared.search.Step.TheVariants.{Meet, Grow, Shrink, Expand}
+use Rattle.blossom_match.specs.declared.least.Change.{Change}
+use Rattle.blossom_match.proofs.ListLemmas.{each-right}
+use Rattle.blossom_match.proofs.SumLemmas.{count-append, members-append, some_member}
+use Rattle.blossom_match.proofs.TreeLemmas.{base_in}
+use Rattle.blossom_match.proofs.ExpandLemmas.{grown-right}
+use Rattle.blossom_match.proofs.ScanLemmas.{apart_from}
+use Rattle.blossom_match.proofs.SearchLemmas.{in_place, is_one, place_in}
+use Rattle.blossom_match.proofs.FreeLemmas.{load_of, load_of-comm, under}
+use Rattle.blossom_match.proofs.BoundLemmas.{height_limit, loads_apart}
+use Rattle.blossom_match.proofs.TableLemmas.{entry-comm}
+use Rattle.blossom_match.proofs.DualLemmas.{around-comm, around_same_all, between_in, between_out, branches_load, branches_tall, counted, matches_same, drop_changed, each_split, firm_changed, grown_same, inner_same, inside, more_wide, one_place, outer_limit, outer_same, set_limit, sizes_same, sound_up, times_by, wide_tall, within}
+
+-- the inner blossom at which the step is due has dual 0 after the change
+due_comes_apart : (by : ℕ) (bs : List BranchValue) → FirstIsDue by bs → FirstComesApart (all_changed by bs)
+due_comes_apart by [] due = due
+due_comes_apart by (b ∷ bs) due = (omega (arith, due.0), due.1)
+
+none_below : (v : ℕ) (bs : List Band) → length bs ≡ 0 → height v bs ≡ 0
+none_below v [] e = refl
+none_below v (b ∷ bs) e = absurd (omega arith)
+
+narrow_case : (n : ℕ) (t : TableValue) (h : ℕ → ℕ) (by : ℕ) (b : BranchValue) → length b.inner.below ≡ n → DualIsEnough by b → IsFirm t h b
+    → count b.up.to b.inner.members ≡ 1 → count b.pair.from b.inner.members ≡ 1 →
+    entry t b.up.from b.pair.to ≤ entry t b.up.from b.up.to + entry t b.up.to b.pair.to
+    → h b.up.from + h b.pair.to + 2 * by ≤ 2 * entry t b.up.from b.pair.to → by ≤ b.inner.dual
+narrow_case (suc n) t h by b e blossom f to from triangle slack = blossom (omega (arith, e))
+narrow_case zero t h by b e blossom f to from triangle slack =
+    let v = b.up.to in
+    let same : v ≡ b.pair.from = one_place v b.pair.from b.inner.members (f.inner.kept.single e) (omega (arith, to)) (omega (arith, from))
+    in
+    let pair : 2 * entry t v b.pair.to ≡ h v + h b.pair.to = subst (λ (x : ℕ). 2 * entry t x b.pair.to ≡ h x + h b.pair.to)
+    (sym same) f.pair in
+    let tall : height v (bands b.inner) ≡ h v = f.inner.local v (omega (arith, to)) in
+    omega (arith, f.up, pair, triangle, slack, tall, none_below v b.inner.below e, ap (λ (k : ℕ). b.inner.dual * k) to)
+
+-- each inner set has the dual of the change: a blossom by the bound on blossoms, a single place by the triangles
+can_change : (t : TableValue) (h : ℕ → ℕ) (s : SearchValue) (c : Change) → IsTable t → KeepsTriangles t → IsSearch t h s → Bounds t h s c
+    → 1 ≤ length s.free → Each (CanChange c.by) s.tree
+can_change t h s c is tri i b some =
+    let f = some_member s.free some in
+    each_split (CanChange c.by) s.tree s.tree [] refl (λ bs k after e.
+    let grown = grown-right s.root.members bs (k ∷ after) (subst (λ (ks : List BranchValue). IsGrown s.root.members ks) e i.grown) in
+    let firm = (each-right (IsFirm t h) bs (k ∷ after) (subst (λ (ks : List BranchValue). Each (IsFirm t h) ks) e i.tree)).0 in
+    let blossom = (each-right (DualIsEnough c.by) bs (k ∷ after) (subst (λ (ks : List BranchValue). Each (DualIsEnough c.by) ks) e
+    b.blossoms)).0 in
+    let at = λ (x : ℕ). ap (λ (ks : List BranchValue). count x (outer_members s.root.members ks)) e
+    ∙ members-append outer_sets x s.root.members bs (k ∷ after) in
+    let on = λ (x : ℕ). count-append x k.outer.members (outer_members [] after) in
+    let deep = λ (x : ℕ). ap (λ (ks : List BranchValue). count x (inner_members ks)) e ∙ members-append inner_sets x [] bs (k ∷ after) in
+    let under = λ (x : ℕ). count-append x k.inner.members (inner_members after) in
+    let from : 1 ≤ count k.up.from (outers s) = omega (arith, at k.up.from, grown.0) in
+    let to : 1 ≤ count k.pair.to (outers s) = omega (arith, at k.pair.to, on k.pair.to, grown.3) in
+    let apart : holding_both k.up.from k.pair.to s ≡ 0 = subst (λ (ks : List BranchValue). both k.up.from k.pair.to s.root
+    + around k.up.from k.pair.to ks ≡ 0) (sym e)
+    (apart_from k.up.from k.pair.to s.root bs k after (λ x. omega
+    (arith, i.places x, is_one t x, ap (λ (ks : List BranchValue). count x (outer_members s.root.members ks)) e)) grown.0
+    (omega (arith, grown.3))) in
+    record {
+      fits = set_limit t h k.outer c.by firm.outer (λ x. omega (arith, i.places x, is_one t x, at x, on x))
+          (λ x here. outer_limit t h s c x f.0 is i b f.1 (omega (arith, at x, on x, here)));
+      wide = narrow_case (length k.inner.below) t h c.by k refl blossom firm grown.1 grown.2
+          (tri k.up.from k.up.to (place_in t k.up.from (omega (arith, i.places k.up.from, from)))
+          (place_in t k.up.to (omega (arith, i.places k.up.to, deep k.up.to, under k.up.to, grown.1)))
+          k.pair.to (place_in t k.pair.to (omega (arith, i.places k.pair.to, to))))
+          (b.two k.up.from k.pair.to from to apart);
+    })
+
+rise_case : (n by w limit : ℕ) → (o : ℕ) → o ≡ n → o ≤ 1 → w ≤ limit → (1 ≤ o → w + by ≤ limit) → w + by * o ≤ limit
+rise_case zero by w limit o e few low up = omega (arith, low, ap (λ (k : ℕ). by * k) e)
+rise_case (suc n) by w limit o e few low up =
+    let one : o ≡ 1 = omega (arith, e, few) in
+    omega (arith, up (omega (arith, one)), ap (λ (k : ℕ). by * k) one)
+
+fall_case : (n by w : ℕ) → (i : ℕ) → i ≡ n → (1 ≤ i → by * i ≤ w) → by * i ≤ w
+fall_case zero by w i e down = omega (arith, ap (λ (k : ℕ). by * k) e)
+fall_case (suc n) by w i e down = down (omega (arith, e))
+
+-- the cells of the places of the tree
+can_change_heights : (t : TableValue) (s : SearchValue) (c : Change) → IsMetric t → CanSearch t s → Bounds t (height_at s) s c
+    → Each (CanChange c.by) s.tree → CanChangeHeights c.by s.root s.tree s.heights
+can_change_heights t s c m can b wide = record {
+  cells = λ x here. omega (arith, can.size, place_in t x (omega (arith, can.search.places x, here)));
+  rise = λ x.
+      let f = some_member s.free can.some in
+      let i = can.search in
+      omega (
+        arith,
+        rise_case (count x (outers s)) c.by (height_at s x) (2 * MAX_DISTANCE) (count x (outers s)) refl
+            (omega (arith, i.places x, is_one t x)) (height_limit t (height_at s) s x f.0 m.table i f.1)
+            (λ here. outer_limit t (height_at s) s c x f.0 m.table i b f.1 here),
+      );
+  fall = λ x. fall_case (count x (inner_members s.tree)) c.by (height_at s x) (count x (inner_members s.tree)) refl (λ here.
+      let i = can.search in
+      let no : count x (outer_members [] s.tree) ≡ 0 = omega
+      (arith, i.places x, is_one t x, here, members-append outer_sets x s.root.members [] s.tree) in
+      omega (
+        arith,
+        branches_tall x c.by s.tree wide,
+        ap (λ (k : ℕ). c.by * k) no,
+        i.tall x
+            (omega (arith, i.places x, is_one t x, here)),
+      ));
+}
+
+pub can_adjust : (s : SearchValue) (c : Change) → CanAdjust s c →
+    (s.root.dual + c.by < 2 ^ 32) × Each (CanChange c.by) s.tree × CanChangeHeights c.by s.root s.tree s.heights
+can_adjust s c w =
+    let i = w.can.search in
+    let f = some_member s.free w.can.some in
+    let wide = can_change w.t (height_at s) s c w.metric.table w.metric.triangles i w.bounds w.can.some in (
+      set_limit w.t (height_at s) s.root c.by i.root (λ x. omega
+          (arith, i.places x, is_one w.t x, base_in x s.root.members s.tree))
+          (λ x here. outer_limit w.t (height_at s) s c x f.0 w.metric.table i w.bounds f.1
+          (omega (arith, base_in x s.root.members s.tree, here))),
+      wide,
+      can_change_heights w.t s c w.metric w.can w.bounds wide,
+    )
+
+-- how the heights move
+moved : (by : ℕ) (s r : SearchValue) → Changes by s r → Each (CanChange by) s.tree → (x : ℕ) →
+    height_of r x + by * count x (inner_members s.tree) ≡ height_of s x + by * count x (outers s)
+moved by s r ch can x =
+    omega (
+      arith,
+      branches_tall x by s.tree can,
+      wide_tall x by s.root,
+      ap (λ (v : NestValue). height x (bands v)) ch.root,
+      ap (λ (ks : List BranchValue). height x (branch_bands ks)) ch.tree,
+      ap (λ (cs : List MatchValue). height x (match_bands cs)) ch.rest,
+      times_by by _ _ _ (members-append outer_sets x s.root.members [] s.tree),
+    )
+
+-- the bound on a place of an outer set and any other that no set holds with it
+slack_case : (n : ℕ) (t : TableValue) (h : ℕ → ℕ) (s : SearchValue) (c : Change) (a b : ℕ) → IsSearch t h s → Bounds t h s c → b < t.places
+    → 1 ≤ count a (outers s) → count b (inner_members s.tree) ≡ 0 → holding_both a b s ≡ 0 →
+    count b (outers s) ≡ n → h a + h b + c.by ≤ 2 * entry t a b
+slack_case zero t h s c a b i bd lb ha none apart e = bd.one a b ha (omega (arith, i.places b, in_place t b lb, none, e))
+slack_case (suc n) t h s c a b i bd lb ha none apart e = omega (arith, bd.two a b ha (omega (arith, e)) apart)
+
+one_slack : (t : TableValue) (h : ℕ → ℕ) (s : SearchValue) (c : Change) (a b : ℕ) → IsSearch t h s → Bounds t h s c → b < t.places
+    → 1 ≤ count a (outers s) → count b (inner_members s.tree) ≡ 0 → holding_both a b s ≡ 0 →
+    h a + h b + c.by ≤ 2 * entry t a b
+one_slack t h s c a b i bd lb ha none apart = slack_case (count b (outers s)) t h s c a b i bd lb ha none apart refl
+
+abbrev apart_of : ℕ → ℕ → NestValue → ℕ
+apart_of a b n = apart (count a n.members) (count b n.members)
+
+sum_all : (by r1 r2 r3 s1 s2 s3 c2 ao bo bi : ℕ) → r1 ≡ s1 + by * ao → r2 ≡ c2 → r3 ≡ s3 → c2 + by * bi ≡ s2 + by * bo
+    → r1 + r2 + r3 + by * bi ≡ s1 + s2 + s3 + by * (ao + bo)
+sum_all by r1 r2 r3 s1 s2 s3 c2 ao bo bi e f g k = omega arith
+
+-- exactly one of the two places, or each, is in an outer set
+one_case : (n : ℕ) (t : TableValue) (h : ℕ → ℕ) (s : SearchValue) (c : Change) (a b : ℕ) → IsSearch t h s → Bounds t h s c → a < t.places
+    → b < t.places → count a (outers s) ≡ n → 1 ≤ count a (outers s) + count b (outers s) →
+    count a (inner_members s.tree) + count b (inner_members s.tree) ≡ 0 → holding_both a b s ≡ 0
+    → load_of s a b + c.by ≤ 2 * entry t a b
+one_case (suc n) t h s c a b i bd la lb e some none apart =
+    omega (
+      arith,
+      loads_apart t h s a b i (omega (arith, e)) apart,
+      under t h s a i,
+      under t h s b i,
+      one_slack t h s c a b i bd lb
+          (omega (arith, e)) (omega (arith, none)) apart,
+    )
+one_case zero t h s c a b i bd la lb e some none apart =
+    let other : holding_both b a s ≡ 0 = omega (arith, apart, around-comm a b s.tree) in
+    omega (
+      arith,
+      load_of-comm s a b,
+      loads_apart t h s b a i (omega (arith, some, e)) other,
+      under t h s a i,
+      under t h s b i,
+      one_slack t h
+          s c b a i bd la (omega (arith, some, e)) (omega (arith, none)) other,
+      entry-comm t a b,
+    )
+
+-- the load between two places stays within its bound
+loads_stay : (t : TableValue) (h : ℕ → ℕ) (s r : SearchValue) (c : Change) → IsSearch t h s → Bounds t h s c → Changes c.by s r
+    → Each (CanChange c.by) s.tree → (a b : ℕ) → a < t.places → b < t.places → a ≢ b →
+    load_of r a b ≤ 2 * entry t a b
+loads_stay t h s r c i bd ch can a b la lb ne =
+    let by = c.by in
+    let tree = s.tree in
+    let bo = apart_of a b s.root + between_out a b tree in
+    let root : load a b (bands r.root) ≡ load a b (bands s.root) + by * apart_of a b s.root =
+    ap (λ (v : NestValue). load a b (bands v)) ch.root ∙ more_wide s.root.dual by (apart_of a b s.root) (load a b s.root.below) _
+    (load a b (bands s.root)) refl refl in
+    let branches = ap (λ (ks : List BranchValue). load a b (branch_bands ks)) ch.tree in
+    let rest = ap (λ (cs : List MatchValue). load a b (match_bands cs)) ch.rest in
+    let oa = members-append outer_sets a s.root.members [] tree in
+    let ob = members-append outer_sets b s.root.members [] tree in
+    let pa = i.places a in
+    let pb = i.places b in
+    within (2 * entry t a b) (load_of s a b) (load_of r a b) by bo (between_in a b tree) (holding_both a b s) (inside a b tree)
+    (count a (outers s)) (count b (outers s)) (count a (inner_members tree)) (count b (inner_members tree))
+    (sum_all by (load a b (bands r.root)) (load a b (branch_bands r.tree)) (load a b (match_bands r.rest))
+    (load a b (bands s.root)) (load a b (branch_bands tree)) (load a b (match_bands s.rest))
+    (load a b (branch_bands (all_changed by tree))) (apart_of a b s.root) (between_out a b tree) (between_in a b tree) root branches rest
+    (branches_load a b by tree can))
+    (omega (arith, counted a b (flat_map outer_sets tree), oa, ob)) (counted a b (flat_map inner_sets tree))
+    (omega (arith, pa, is_one t a)) (omega (arith, pb, is_one t b)) (i.loads a b la lb ne)
+    (λ some none apart. one_case (count a (outers s)) t h s c a b i bd la lb refl some none apart)
+    (λ two apart. omega (
+      arith,
+      loads_apart t h s a b i (omega (arith, two, pb, is_one t b)) apart,
+      under t h s a i,
+      under t h s b i,
+      bd.two
+          a b (omega (arith, two, pb, is_one t b)) (omega (arith, two, pa, is_one t a)) apart,
+    ))
+
+-- a tight link after the change
+tight_after : (d : TableValue) (k : ℕ → ℕ) (l : Link) → k l.from + k l.to ≡ 2 * entry d l.from l.to → IsTight d k l
+tight_after d k l e = sym e
+
+due_ready : (step : Step) (t : TableValue) (h k : ℕ → ℕ) (s r : SearchValue) (by : ℕ) → Changes by s r
+    → ((x : ℕ) → 1 ≤ count x (outers s) → k x ≡ h x + by) →
+    ((x : ℕ) → 1 ≤ count x (match_members s.rest) + count x s.free → k x ≡ h x)
+    → ((x : ℕ) → count x (outers r) ≡ count x (outers s)) →
+    IsDue t h s by step → IsReady t k r step
+due_ready (Meet l) t h k s r by ch up same outer due = (
+  omega (arith, due.0, outer l.from),
+  omega (arith, due.1, ap (λ (xs : List ℕ). count l.to xs) ch.free),
+  tight_after t k l
+      (omega (arith, due.2, up l.from due.0, same l.to (omega (arith, due.1)))),
+)
+due_ready (Grow l) t h k s r by ch up same outer due = (
+  omega (arith, due.0, outer l.from),
+  omega (arith, due.1, ap (λ (cs : List MatchValue). count l.to (match_members cs)) ch.rest),
+  tight_after t k l (omega (arith, due.2, up l.from due.0, same l.to (omega (arith, due.1)))),
+)
+due_ready (Shrink l) t h k s r by ch up same outer due = (
+  omega (arith, due.0, outer l.from),
+  omega (arith, due.1, outer l.to),
+  omega (
+    arith,
+    due.2,
+    ap (λ (v : NestValue). both l.from l.to v) ch.root,
+    ap
+        (λ (ks : List BranchValue). around l.from l.to ks) ch.tree,
+    around_same_all by l.from l.to s.tree,
+  ),
+  tight_after t k l (omega (arith, due.3, up l.from due.0, up l.to due.1)),
+)
+due_ready (Expand at) t h k s r by ch up same outer due =
+    subst (λ (ks : List BranchValue). FirstComesApart (drop at ks)) (sym ch.tree)
+    (subst FirstComesApart (sym (drop_changed by at s.tree)) (due_comes_apart by (drop at s.tree) due))
+
+rise : (by k h i o : ℕ) → k + by * i ≡ h + by * o → i ≡ 0 → o ≡ 1 → k ≡ h + by
+rise by k h i o e g j = omega (arith, e, ap (λ (x : ℕ). by * x) g, ap (λ (x : ℕ). by * x) j)
+
+fall : (by k h i o : ℕ) → k + by * i ≡ h + by * o → i ≡ 1 → o ≡ 0 → k + by ≡ h
+fall by k h i o e g j = omega (arith, e, ap (λ (x : ℕ). by * x) g, ap (λ (x : ℕ). by * x) j)
+
+stay : (by k h i o : ℕ) → k + by * i ≡ h + by * o → i ≡ 0 → o ≡ 0 → k ≡ h
+stay by k h i o e g j = omega (arith, e, ap (λ (x : ℕ). by * x) g, ap (λ (x : ℕ). by * x) j)
+
+-- a place of an outer set, of an inner set, or of none of them
+at_most : (n m : ℕ) (P : Type 0) → n + m ≤ 1 → (n ≡ 1 → P) → (m ≡ 1 → P) → (n + m ≡ 0 → P) → P
+at_most zero zero P few out inn rest = rest refl
+at_most zero (suc m) P few out inn rest = inn (omega (arith, few))
+at_most (suc n) m P few out inn rest = out (omega (arith, few))
+
+steps_on : (t : TableValue) (s r : SearchValue) (c : Change) → Changes c.by s r → IsMetric t → CanSearch t s → Bounds t (height_at s) s c
+    → StepsOn t c r
+steps_on t s r c ch m cs b =
+    let by = c.by in
+    let h = height_at s in
+    let k = height_at r in
+    let i = cs.search in
+    let can = can_change t h s c m.table m.triangles i b cs.some in
+    let move = ch.heights in
+    let one = λ (x : ℕ). is_one t x in
+    let outer : (x : ℕ) → count x (outers r) ≡ count x (outers s) =
+    λ x. ap (λ (v : NestValue). count x (outer_members v.members r.tree)) ch.root
+    ∙ ap (λ (ks : List BranchValue). count x (outer_members s.root.members ks)) ch.tree
+    ∙ ap (λ (xs : List ℕ). count x xs) (outer_same by s.root.members s.tree) in
+    let inner : (x : ℕ) → count x (inner_members r.tree) ≡ count x (inner_members s.tree) =
+    λ x. ap (λ (ks : List BranchValue). count x (inner_members ks)) ch.tree ∙ ap (λ (xs : List ℕ). count x xs) (inner_same by s.tree) in
+    let up : (x : ℕ) → 1 ≤ count x (outers s) → k x ≡ h x + by =
+    λ x here. rise by (k x) (h x) (count x (inner_members s.tree)) (count x (outers s)) (move x)
+    (omega (arith, i.places x, one x, here)) (omega (arith, i.places x, one x, here)) in
+    let down : (x : ℕ) → 1 ≤ count x (inner_members s.tree) → k x + by ≡ h x =
+    λ x here. fall by (k x) (h x) (count x (inner_members s.tree)) (count x (outers s)) (move x)
+    (omega (arith, i.places x, one x, here)) (omega (arith, i.places x, one x, here)) in
+    let same : (x : ℕ) → 1 ≤ count x (match_members s.rest) + count x s.free → k x ≡ h x =
+    λ x here. stay by (k x) (h x) (count x (inner_members s.tree)) (count x (outers s)) (move x)
+    (omega (arith, i.places x, one x, here)) (omega (arith, i.places x, one x, here)) in
+    record {
+      search = record {
+        tall = λ x none. omega (
+          arith,
+          move x,
+          moved by s r ch can x,
+          i.tall x
+              (omega (arith, none, ap (λ (xs : List ℕ). count x xs) ch.free)),
+        );
+        slack = λ a f la hf ne.
+            let hs : 1 ≤ count f s.free = omega (arith, hf, ap (λ (xs : List ℕ). count f xs) ch.free) in
+            let was = i.slack a f la hs ne in
+            let still = same f (omega (arith, hs)) in
+            at_most (count a (outers s)) (count a (inner_members s.tree)) (k a + k f ≤ 2 * entry t a f)
+            (omega (arith, i.places a, one a))
+            (λ out. omega (arith, still, up a (omega (arith, out)), b.one a f (omega (arith, out)) (omega (arith, hs))))
+            (λ inn. omega (arith, still, down a (omega (arith, inn)), was))
+            (λ none. omega (arith, still, same a (omega (arith, none, i.places a, in_place t a la)), was));
+        places = λ x. omega (
+          arith,
+          i.places x,
+          outer x,
+          inner x,
+          ap (λ (cs : List MatchValue). count x (match_members cs)) ch.rest,
+          ap
+              (λ (xs : List ℕ). count x xs) ch.free,
+        );
+        grown = subst (λ (v : NestValue). IsGrown v.members r.tree) (sym ch.root)
+            (subst (λ (ks : List BranchValue). IsGrown s.root.members ks) (sym ch.tree) (grown_same by s.root.members s.tree i.grown));
+        joined = subst (λ (cs : List MatchValue). Each IsJoined cs) (sym ch.rest) i.joined;
+        root = subst (λ (v : NestValue). IsSound t k v) (sym ch.root)
+            (sound_up t h k by s.root (λ x. omega (arith, i.places x, one x, base_in x s.root.members s.tree))
+            (λ x here. up x (omega (arith, here, base_in x s.root.members s.tree))) i.root);
+        tree = subst (λ (ks : List BranchValue). Each (IsFirm t k) ks) (sym ch.tree)
+            (firm_changed t h k by s.root.members s.tree i.grown can i.tree (λ x. omega (arith, i.places x, one x)) up down);
+        rest = subst (λ (cs : List MatchValue). Each (IsFirmMatch t k) cs) (sym ch.rest)
+            (matches_same t h k s.rest i.joined i.rest (λ x here. same x (omega (arith, here))));
+        loads = loads_stay t h s r c i b ch can;
+      };
+      ready = due_ready c.step t h k s r by ch up same outer b.due;
+      size = ch.size ∙ cs.size;
+    }
+
+pub adjusts : (s r : SearchValue) (c : Change) → Changes c.by s r → Adjusts s c r
+adjusts s r c ch = record {
+  search = λ t m can b. steps_on t s r c ch m can b;
+  size = omega (
+    arith,
+    ap (λ (ks : List BranchValue). length (inner_bands ks)) ch.tree,
+    sizes_same c.by s.tree,
+    ap
+        (λ (cs : List MatchValue). length (match_bands cs)) ch.rest,
+  );
+  free = ch.free;
+}

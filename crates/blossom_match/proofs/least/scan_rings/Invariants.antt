@@ -1,7 +1,0 @@
-use Rattle.blossom_match.specs.Slots.{branches_in}
-use Rattle.blossom_match.proofs.ScanLemmas.{Narrowing}
-use Rattle.blossom_match.proofs.least.scan_rings.Given as goal
-
--- the least width of the rings so far
-abbrev pub invariant-loop-i : goal.invariant-loop-i
-invariant-loop-i l = Narrowing (branches_in l.sets l.tree) l.i l.fn.best l.least

@@ -1,0 +1,88 @@
+-- The duals of the outermost sets change: those of outer sets rise and those of inner sets fall.
+use Rattle.std.specs.Prelude.{◌≡◌, ℕ, ◌+◌, ◌-◌, ◌*◌, ◌^◌, ◌<◌, ◌≤◌, List, length, map, slice_index}
+use Rattle.blossom_match.specs.Bands.{NestValue, count, with_dual}
+use Rattle.blossom_match.specs.Trees.{inner_members, outer_members}
+use Rattle.blossom_match.specs.Heights.{CanFall, CanRise, HasCells}
+use Rattle.blossom_match.specs.Searches.{height_at, size_of, IsReady, IsSearch}
+use Rattle.blossom_match.specs.Bounds.{Bounds, CanSearch}
+use Rattle.blossom_match.specs.TableValue.{TableValue}
+use Rattle.blossom_match.specs.Tables.{IsMetric}
+use Rattle.blossom_match.specs.Values.{BranchValue, SearchValue}
+use Rattle.blossom_match.specs.declared.branches.Branch.{Branch}
+use Rattle.blossom_match.specs.declared.least.Change.{Change}
+
+-- the branch with a greater dual outside and a lesser one inside
+abbrev pub changed_by : ℕ → BranchValue → BranchValue
+changed_by by b = record {
+  up = b.up;
+  inner = with_dual (b.inner.dual - by) b.inner;
+  pair =
+      b.pair;
+  outer = with_dual (b.outer.dual + by) b.outer;
+}
+
+-- all branches so
+abbrev pub all_changed : ℕ → List BranchValue → List BranchValue
+all_changed by bs = map (changed_by by) bs
+
+-- the outer dual stays a number of 32 bits, and the inner one is no less than the change
+pub record CanChange (by : ℕ) (b : BranchValue) : Type 0 where
+  pub fits : b.outer.dual + by < 2 ^ 32
+  pub wide : by ≤ b.inner.dual
+
+-- so for the seats of a branch
+abbrev pub resized : ℕ → Branch → Branch
+resized by b = record {
+  up = b.up;
+  inner = record { key = b.inner.key; dual = b.inner.dual - by };
+  pair = b.pair;
+  outer = record { key = b.outer.key; dual = b.outer.dual + by };
+}
+
+pub record CanResize (by : ℕ) (b : Branch) : Type 0 where
+  pub fits : b.outer.dual + by < 2 ^ 32
+  pub wide : by ≤ b.inner.dual
+
+-- the heights of outer places rise, and those of inner places fall
+abbrev pub Moves : ℕ → NestValue → List BranchValue → List ℕ → List ℕ → Type 0
+Moves by root tree old new =
+    (x : ℕ) → slice_index new x + by * count x (inner_members tree)
+    ≡ slice_index old x + by * count x (outer_members root.members tree)
+
+-- each place of the tree has a cell, that of an outer set can rise by the change, and that of an
+-- inner set has its height
+pub record CanChangeHeights (by : ℕ) (root : NestValue) (tree : List BranchValue)
+    (heights : List ℕ) : Type 0 where
+  pub cells : HasCells (λ x. count x (outer_members root.members tree)
+      + count x (inner_members tree)) heights
+  pub rise : CanRise (λ x. by * count x (outer_members root.members tree)) heights
+  pub fall : CanFall (λ x. by * count x (inner_members tree)) heights
+
+-- the search with all its duals changed
+pub record Changes (by : ℕ) (s r : SearchValue) : Type 0 where
+  pub heights : Moves by s.root s.tree s.heights r.heights
+  pub size : length r.heights ≡ length s.heights
+  pub root : r.root ≡ with_dual (s.root.dual + by) s.root
+  pub tree : r.tree ≡ all_changed by s.tree
+  pub rest : r.rest ≡ s.rest
+  pub free : r.free ≡ s.free
+
+-- a search at which the change leaves no slack negative
+pub record CanAdjust (s : SearchValue) (c : Change) : Type 0 where
+  pub t : TableValue
+  pub metric : IsMetric t
+  pub can : CanSearch t s
+  pub bounds : Bounds t (height_at s) s c
+
+-- a search with other heights at which the step can be done
+pub record StepsOn (t : TableValue) (c : Change) (r : SearchValue) : Type 0 where
+  pub search : IsSearch t (height_at r) r
+  pub ready : IsReady t (height_at r) r c.step
+  pub size : length r.heights ≡ t.places
+
+-- after the change the step can be done
+pub record Adjusts (s : SearchValue) (c : Change) (r : SearchValue) : Type 0 where
+  pub search : (t : TableValue) → IsMetric t → CanSearch t s → Bounds t (height_at s) s c
+      → StepsOn t c r
+  pub size : size_of r ≡ size_of s
+  pub free : r.free ≡ s.free

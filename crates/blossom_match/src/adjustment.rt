@@ -1,0 +1,75 @@
+ghost use Rattle.std.specs.Prelude.{◌≡◌, ◌+◌, ◌^◌, ◌<◌, length, map};
+ghost use Rattle.blossom_match.specs.Lists.{Each};
+ghost use Rattle.blossom_match.specs.Slots.{branches_in, set_in};
+ghost use Rattle.blossom_match.specs.States.{search_value};
+ghost use Rattle.blossom_match.specs.Duals.{resized, CanChange, CanChangeHeights, CanResize, CanAdjust, Changes, Moves, Adjusts};
+
+use crate::branches::Branch;
+use crate::heights::{lower_inners, raise, raise_outers};
+use crate::least::Change;
+use crate::nest::{Seat, Sets};
+use crate::state::Search;
+
+/// Raises the duals of the outer sets and lowers those of the inner ones, so that the step of the change can be
+/// done.
+pub fn adjust(s: Search, change: Change) -> Search
+    requires { CanAdjust (search_value s) change }
+    ensures adjusts { Adjusts (search_value s) change (search_value result) }
+    ensures changes { Changes change.by (search_value s) (search_value result) }
+{
+    change_duals(s, change.by)
+}
+
+fn change_duals(s: Search, by: u32) -> Search
+    requires root { s.root.dual + by < 2 ^ 32 }
+    requires tree { Each (CanChange by) (branches_in s.sets s.tree.items) }
+    requires heights { CanChangeHeights by (set_in s.sets s.root) (branches_in s.sets s.tree.items)
+        s.heights.items }
+    ensures { Changes by (search_value s) (search_value result) }
+{
+    let Search {
+        sets,
+        root,
+        tree,
+        rest,
+        free,
+        heights,
+    } = s;
+    let mut changed_heights = heights;
+    change_heights(&sets, root, &tree, by, &mut changed_heights);
+    let mut changed = tree;
+    change_branches(&mut changed, by);
+    Search {
+        sets,
+        root: Seat {
+            key: root.key,
+            dual: root.dual + by,
+        },
+        tree: changed,
+        rest,
+        free,
+        heights: changed_heights,
+    }
+}
+
+/// Raises the places of the outer sets, and lowers those of the inner sets.
+fn change_heights(sets: &Sets, root: Seat, tree: &[Branch], by: u32, heights: &mut [u32])
+    requires { CanChangeHeights by (set_in sets.now root) (branches_in sets.now tree.now) heights.old }
+    ensures moves { Moves by (set_in sets.now root) (branches_in sets.now tree.now) heights.old heights.new }
+    ensures size { length heights.new ≡ length heights.old }
+{
+    raise(root.members(sets), by, heights);
+    raise_outers(sets, tree, by, heights);
+    lower_inners(sets, tree, by, heights);
+}
+
+/// Raises the dual of the outer set of each branch and lowers that of the inner one.
+fn change_branches(tree: &mut [Branch], by: u32)
+    requires { Each (CanResize by) tree.old }
+    ensures { tree.new ≡ map (resized by) tree.old }
+{
+    for i in 0..tree.len() {
+        tree[i].inner.dual -= by;
+        tree[i].outer.dual += by;
+    }
+}

@@ -1,0 +1,60 @@
+ghost use Rattle.std.specs.Prelude.{◌≡◌, ◌≤◌, ◌<◌, ◌+◌, length, IfOk};
+ghost use Rattle.std.specs.Vec.Iter.{into_iter_items};
+ghost use Rattle.blossom_match.specs.Bands.{count};
+ghost use Rattle.blossom_match.specs.Matches.{match_members, matches_along, MatchHolds};
+ghost use Rattle.blossom_match.specs.Slots.{match_in, matches_in, parts_in, Slots};
+ghost use Rattle.blossom_match.specs.Trees.{TakesOut};
+
+use crate::nest::{Link, Part, Seat, Sets};
+use design_model::Memory;
+use std::alloc::Global;
+
+/// Two sets that are matched by a link from the first to the second.
+#[derive(Clone, Copy, Drop)]
+pub struct Match {
+    pub first: Seat,
+    pub second: Seat,
+    pub link: Link,
+}
+
+/// The parts two by two.
+pub fn pair_off(alloc: Global, parts: std::vec::IntoIter<Part>) -> Result<Vec<Match>, Memory>
+    ensures { IfOk result (λ cs. (sets : Slots) → matches_in sets cs.items
+        ≡ matches_along (parts_in sets (into_iter_items parts))) }
+{
+    let mut left = parts;
+    let mut out = Vec::new(alloc);
+    while let Some(p) = left.next() {
+        if let Some(q) = left.next() {
+            out.push(Match {
+                first: p.seat,
+                second: q.seat,
+                link: p.next,
+            })?;
+        }
+    }
+    Ok(out)
+}
+
+fn match_with(sets: &Sets, matches: &[Match], place: u32) -> usize
+    requires { 1 ≤ count place (match_members (matches_in sets.now matches.now)) }
+    ensures within { result < length matches.now }
+    ensures there { MatchHolds place (matches_in sets.now matches.now) result }
+{
+    for (i, c) in matches.iter().enumerate() {
+        if c.first.holds(sets, place) || c.second.holds(sets, place) {
+            return i;
+        }
+    }
+    unreachable!()
+}
+
+/// Takes out the match that holds the place.
+pub fn take_match(sets: &Sets, matches: &mut Vec<Match>, place: u32) -> Match
+    requires { 1 ≤ count place (match_members (matches_in sets.now matches.old.items)) }
+    ensures { TakesOut place (matches_in sets.now matches.old.items)
+        (matches_in sets.now matches.new.items) (match_in sets.now result) }
+{
+    let at = match_with(sets, matches, place);
+    matches.remove(at)
+}
