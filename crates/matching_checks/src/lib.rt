@@ -1,6 +1,8 @@
 //! The five properties of a matching by plain programs, and tables whose matchings are known from elsewhere.
 #![tactic(auto)]
 
+mod ends;
+mod moats;
 mod properties;
 #[cfg(test)]
 mod tests;

@@ -1,13 +1,25 @@
-use blossom_match::{DistTable, Matching, Moat};
+ghost use Rattle.std.specs.Prelude.{◌≡◌, ◌*◌, ◌-◌, ◌^◌, ◌<◌, [], IsTrue, min};
+ghost use Rattle.blossom_match.specs.Matchings.{cost_of, IsMatching, width_of};
+ghost use Rattle.blossom_match.specs.Tables.{entry};
+ghost use Rattle.matching_checks.specs.Ends.{EndsBelow};
+
+use crate::ends::pairs_each;
+use crate::moats::{all_laminar, all_odd, keeps_loads, width};
+use blossom_match::{DistTable, Matching};
 
 /// The entry of two places, and 0 where there is none.
-pub(crate) fn distance(t: &DistTable, a: u32, b: u32) -> u32 {
+pub(crate) fn distance(t: &DistTable, a: u32, b: u32) -> u32
+    ensures { a < t.now.places → b < t.now.places → result ≡ entry t.now a b }
+{
     let n = t.places();
     if a < n && b < n { t.get(a, b) } else { 0 }
 }
 
-/// The distances of all pairs, in steps.
-pub fn cost(t: &DistTable, m: &Matching) -> u64 {
+/// The distances of all pairs, in steps, as far as they fit.
+pub fn cost(t: &DistTable, m: &Matching) -> u64
+    ensures { EndsBelow t.now.places m.now.pairs
+        → result ≡ min (cost_of t.now m.now.pairs) (2 ^ 64 - 1) }
+{
     let mut sum: u64 = 0;
     for p in m.pairs.as_slice() {
         sum = sum.saturating_add(distance(t, p.a, p.b) as u64);
@@ -15,121 +27,32 @@ pub fn cost(t: &DistTable, m: &Matching) -> u64 {
     sum
 }
 
+/// Whether widths in halves of a step pay for a cost in steps, where both fit.
+fn is_paid(widths: u64, cost: u64) -> bool
+    ensures twice { IsTrue result → (widths ≡ 2 * cost) }
+    ensures fit { IsTrue result → widths < 2 ^ 64 - 1 }
+{
+    cost < u64::MAX / 2 && widths == 2 * cost
+}
+
 /// The property that does not hold, in words, or nothing.
-pub fn fault(t: &DistTable, m: &Matching) -> &'static str {
-    if !pairs_each(t.places(), m) {
+pub fn fault(t: &DistTable, m: &Matching) -> &'static str
+    ensures { result.now ≡ [] → IsMatching t.now m.now.pairs m.now.moats }
+{
+    if !pairs_each(t.places(), m.pairs.as_slice()) {
         return "a place is not in exactly one pair";
     }
-    if !all_odd(t.places(), m) {
+    if !all_odd(t.places(), m.moats.as_slice()) {
         return "a moat is even, or without a width, or holds a place twice";
     }
-    if !all_laminar(m) {
+    if !all_laminar(m.moats.as_slice()) {
         return "two moats are alike, or neither nested nor disjoint";
     }
-    if !keeps_loads(t, m) {
+    if !keeps_loads(t, m.moats.as_slice()) {
         return "two places carry too much";
     }
-    if width(m) != cost(t, m).saturating_mul(2) {
+    if !is_paid(width(m.moats.as_slice()), cost(t, m)) {
         return "the widths are not twice the cost";
     }
     ""
-}
-
-fn pairs_each(n: u32, m: &Matching) -> bool {
-    for x in 0..n {
-        let mut ends: u32 = 0;
-        for p in m.pairs.as_slice() {
-            if p.a == x {
-                ends = ends.saturating_add(1);
-            }
-            if p.b == x {
-                ends = ends.saturating_add(1);
-            }
-        }
-        if ends != 1 {
-            return false;
-        }
-    }
-    m.pairs.len() == (n / 2) as usize
-}
-
-fn has(m: &Moat, x: u32) -> bool {
-    m.members.as_slice().contains(&x)
-}
-
-fn is_odd(n: u32, m: &Moat) -> bool {
-    for (i, x) in m.members.as_slice().iter().enumerate() {
-        for (j, y) in m.members.as_slice().iter().enumerate() {
-            if i != j && x == y {
-                return false;
-            }
-        }
-        if *x >= n {
-            return false;
-        }
-    }
-    m.members.len() % 2 == 1 && m.width > 0
-}
-
-fn all_odd(n: u32, m: &Matching) -> bool {
-    for moat in m.moats.as_slice() {
-        if !is_odd(n, moat) {
-            return false;
-        }
-    }
-    true
-}
-
-/// How many members of the first are members of the second.
-fn common(m: &Moat, k: &Moat) -> usize {
-    let mut count: usize = 0;
-    for x in m.members.as_slice() {
-        if has(k, *x) {
-            count = count.saturating_add(1);
-        }
-    }
-    count
-}
-
-fn all_laminar(m: &Matching) -> bool {
-    for (i, s) in m.moats.as_slice().iter().enumerate() {
-        for (j, u) in m.moats.as_slice().iter().enumerate() {
-            let both = common(s, u);
-            let all = both == s.members.len();
-            let whole = both == u.members.len();
-            if i != j && (all && whole || both != 0 && !all && !whole) {
-                return false;
-            }
-        }
-    }
-    true
-}
-
-fn load(m: &Matching, a: u32, b: u32) -> u64 {
-    let mut sum: u64 = 0;
-    for moat in m.moats.as_slice() {
-        if has(moat, a) != has(moat, b) {
-            sum = sum.saturating_add(moat.width as u64);
-        }
-    }
-    sum
-}
-
-fn keeps_loads(t: &DistTable, m: &Matching) -> bool {
-    for a in 0..t.places() {
-        for b in 0..a {
-            if load(m, a, b) > 2 * distance(t, a, b) as u64 {
-                return false;
-            }
-        }
-    }
-    true
-}
-
-fn width(m: &Matching) -> u64 {
-    let mut sum: u64 = 0;
-    for moat in m.moats.as_slice() {
-        sum = sum.saturating_add(moat.width as u64);
-    }
-    sum
 }

@@ -1,0 +1,44 @@
+ghost use Rattle.std.specs.Prelude.{◌≡◌, ◌==◌, ◌+◌, ◌-◌, ◌^◌, IsTrue, if◌then◌else◌, min};
+ghost use Rattle.blossom_match.specs.Matchings.{ends_at, PairsEach};
+ghost use Rattle.matching_checks.specs.Ends.{EndsBelow};
+
+use blossom_match::Pair;
+
+/// Whether each place is an end of exactly one pair, and no other number is an end.
+pub fn pairs_each(n: u32, pairs: &[Pair]) -> bool
+    ensures below { IsTrue result → EndsBelow n pairs.now }
+    ensures each { IsTrue result → PairsEach n pairs.now }
+{
+    if !are_below(n, pairs) {
+        return false;
+    }
+    for x in 0..n {
+        if ends(pairs, x) != 1 {
+            return false;
+        }
+    }
+    true
+}
+
+fn are_below(n: u32, pairs: &[Pair]) -> bool
+    ensures { IsTrue result → EndsBelow n pairs.now }
+{
+    pairs.iter().all(|p| p.a < n && p.b < n)
+}
+
+/// How many ends of the pairs the place is, as far as that fits.
+fn ends(pairs: &[Pair], x: u32) -> u64
+    ensures { result ≡ min (ends_at pairs.now x) (2 ^ 64 - 1) }
+{
+    let mut count: u64 = 0;
+    for p in pairs {
+        count = count.saturating_add(ends_of(*p, x));
+    }
+    count
+}
+
+fn ends_of(p: Pair, x: u32) -> u64
+    ensures { result ≡ (if x == p.a then 1 else 0) + (if x == p.b then 1 else 0) }
+{
+    u64::from(x == p.a) + u64::from(x == p.b)
+}
