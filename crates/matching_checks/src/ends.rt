@@ -1,4 +1,4 @@
-ghost use Rattle.std.specs.Prelude.{◌≡◌, ◌==◌, ◌+◌, ◌-◌, ◌^◌, IsTrue, if◌then◌else◌, min};
+ghost use Rattle.std.specs.Prelude.{◌≡◌, ◌==◌, ◌↔◌, ◌+◌, ◌-◌, ◌^◌, IsTrue, if◌then◌else◌, min};
 ghost use Rattle.blossom_match.specs.Matchings.{ends_at, PairsEach};
 ghost use Rattle.matching_checks.specs.Ends.{EndsBelow};
 
@@ -6,8 +6,7 @@ use blossom_match::Pair;
 
 /// Whether each place is an end of exactly one pair, and no other number is an end.
 pub fn pairs_each(n: u32, pairs: &[Pair]) -> bool
-    ensures below { IsTrue result → EndsBelow n pairs.now }
-    ensures each { IsTrue result → PairsEach n pairs.now }
+    ensures { IsTrue result ↔ PairsEach n pairs.now }
 {
     if !are_below(n, pairs) {
         return false;
@@ -21,7 +20,7 @@ pub fn pairs_each(n: u32, pairs: &[Pair]) -> bool
 }
 
 fn are_below(n: u32, pairs: &[Pair]) -> bool
-    ensures { IsTrue result → EndsBelow n pairs.now }
+    ensures { IsTrue result ↔ EndsBelow n pairs.now }
 {
     pairs.iter().all(|p| p.a < n && p.b < n)
 }

@@ -1,4 +1,4 @@
-ghost use Rattle.std.specs.Prelude.{◌≡◌, ◌≢◌, ◌*◌, ◌-◌, ◌^◌, ◌<◌, ◌≤◌, ℕ, All, IsTrue, false, true, if◌then◌else◌, min};
+ghost use Rattle.std.specs.Prelude.{◌≡◌, ◌≢◌, ◌↔◌, ◌*◌, ◌-◌, ◌^◌, ◌<◌, ◌≤◌, ℕ, All, IsTrue, false, true, if◌then◌else◌, min};
 ghost use Rattle.std.specs.List.{AllPairs};
 ghost use Rattle.blossom_match.specs.Matchings.{AreLaminar, crosses, holds, IsOddMoat, KeepsLoads, LiesBeside, LiesIn, load_on, width_of};
 ghost use Rattle.blossom_match.specs.Tables.{entry};
@@ -13,26 +13,26 @@ fn has(m: &Moat, x: u32) -> bool
 
 /// Whether each moat is odd, of different places below n, and has a width.
 pub fn all_odd(n: u32, moats: &[Moat]) -> bool
-    ensures { IsTrue result → All (IsOddMoat n) moats.now }
+    ensures { IsTrue result ↔ All (IsOddMoat n) moats.now }
 {
     moats.iter().all(|m| is_odd(n, m))
 }
 
 fn is_odd(n: u32, m: &Moat) -> bool
-    ensures { IsTrue result → IsOddMoat n m.now }
+    ensures { IsTrue result ↔ IsOddMoat n m.now }
 {
     let members = m.members.as_slice();
     members.len() % 2 == 1 && m.width > 0 && are_below(n, members) && all_differ(members)
 }
 
 fn are_below(n: u32, members: &[u32]) -> bool
-    ensures { IsTrue result → All (λ x. x < n) members.now }
+    ensures { IsTrue result ↔ All (λ x. x < n) members.now }
 {
     members.iter().all(|x| *x < n)
 }
 
 fn all_differ(members: &[u32]) -> bool
-    ensures { IsTrue result → AllPairs (λ x y. x ≢ y) members.now }
+    ensures { IsTrue result ↔ AllPairs (λ x y. x ≢ y) members.now }
 {
     for i in 0..members.len() {
         if members[..i].contains(&members[i]) {
@@ -44,7 +44,7 @@ fn all_differ(members: &[u32]) -> bool
 
 /// Whether each two moats differ, and are nested or disjoint.
 pub fn all_laminar(moats: &[Moat]) -> bool
-    ensures { IsTrue result → AllPairs AreLaminar moats.now }
+    ensures { IsTrue result ↔ AllPairs AreLaminar moats.now }
 {
     for i in 0..moats.len() {
         if !is_laminar_to(&moats[..i], &moats[i]) {
@@ -56,29 +56,39 @@ pub fn all_laminar(moats: &[Moat]) -> bool
 
 /// Whether a moat is laminar to each of those before it.
 fn is_laminar_to(before: &[Moat], m: &Moat) -> bool
-    ensures { IsTrue result → All (λ k. AreLaminar k m.now) before.now }
+    ensures { IsTrue result ↔ All (λ k. AreLaminar k m.now) before.now }
 {
     before.iter().all(|k| are_laminar(k, m))
 }
 
 fn are_laminar(m: &Moat, k: &Moat) -> bool
-    ensures { IsTrue result → AreLaminar m.now k.now }
+    ensures { IsTrue result ↔ AreLaminar m.now k.now }
 {
-    match (lies(m, k, true), lies(k, m, true)) {
+    match (lies_in(m, k), lies_in(k, m)) {
         (true, true) => false,
-        (false, false) => lies(m, k, false),
+        (false, false) => lies_beside(m, k),
         _ => true,
     }
 }
 
-/// Whether each member of the first is a member of the second, or none is.
-fn lies(m: &Moat, k: &Moat, inside: bool) -> bool
-    ensures yes { IsTrue result
-        → (x : ℕ) → holds m.now x ≡ true → holds k.now x ≡ inside }
-    ensures no { result ≡ false → (x : ℕ) × (holds m.now x ≡ true) × (holds k.now x ≢ inside) }
+/// Whether each member of the first is a member of the second.
+fn lies_in(m: &Moat, k: &Moat) -> bool
+    ensures yes { IsTrue result → LiesIn m.now k.now }
+    ensures no { result ≡ false → (x : ℕ) × (holds m.now x ≡ true) × (holds k.now x ≡ false) }
 {
     for x in m.members.as_slice() {
-        if has(k, *x) != inside {
+        if !has(k, *x) {
+            return false;
+        }
+    }
+    true
+}
+
+fn lies_beside(m: &Moat, k: &Moat) -> bool
+    ensures { IsTrue result ↔ LiesBeside m.now k.now }
+{
+    for x in m.members.as_slice() {
+        if has(k, *x) {
             return false;
         }
     }
@@ -87,7 +97,7 @@ fn lies(m: &Moat, k: &Moat, inside: bool) -> bool
 
 /// Whether no two places carry more than two halves for each step between them.
 pub fn keeps_loads(t: &DistTable, moats: &[Moat]) -> bool
-    ensures { IsTrue result → KeepsLoads t.now moats.now }
+    ensures { IsTrue result ↔ KeepsLoads t.now moats.now }
 {
     for a in 0..t.places() {
         if !keeps_loads_from(t, moats, a) {
@@ -100,7 +110,7 @@ pub fn keeps_loads(t: &DistTable, moats: &[Moat]) -> bool
 fn keeps_loads_from(t: &DistTable, moats: &[Moat], a: u32) -> bool
     requires { a < t.now.places }
     ensures { IsTrue result
-        → (b : ℕ) → b < t.now.places → load_on moats.now a b ≤ 2 * entry t.now a b }
+        ↔ ((b : ℕ) → b < t.now.places → load_on moats.now a b ≤ 2 * entry t.now a b) }
 {
     for b in 0..t.places() {
         if load(moats, a, b) > 2 * t.get(a, b) as u64 {

@@ -1,7 +1,6 @@
-ghost use Rattle.std.specs.Prelude.{◌≡◌, ◌*◌, ◌-◌, ◌^◌, ◌<◌, [], IsTrue, min};
-ghost use Rattle.blossom_match.specs.Matchings.{cost_of, IsMatching, width_of};
+ghost use Rattle.std.specs.Prelude.{◌≡◌, ◌↔◌, ◌-◌, ◌^◌, ◌<◌, [], min};
+ghost use Rattle.blossom_match.specs.Matchings.{cost_of, IsMatching, PairsEach};
 ghost use Rattle.blossom_match.specs.Tables.{entry};
-ghost use Rattle.matching_checks.specs.Ends.{EndsBelow};
 
 use crate::ends::pairs_each;
 use crate::moats::{all_laminar, all_odd, keeps_loads, width};
@@ -17,7 +16,7 @@ pub(crate) fn distance(t: &DistTable, a: u32, b: u32) -> u32
 
 /// The distances of all pairs, in steps, as far as they fit.
 pub fn cost(t: &DistTable, m: &Matching) -> u64
-    ensures { EndsBelow t.now.places m.now.pairs
+    ensures { PairsEach t.now.places m.now.pairs
         → result ≡ min (cost_of t.now m.now.pairs) (2 ^ 64 - 1) }
 {
     let mut sum: u64 = 0;
@@ -27,17 +26,9 @@ pub fn cost(t: &DistTable, m: &Matching) -> u64
     sum
 }
 
-/// Whether widths in halves of a step pay for a cost in steps, where both fit.
-fn is_paid(widths: u64, cost: u64) -> bool
-    ensures twice { IsTrue result → (widths ≡ 2 * cost) }
-    ensures fit { IsTrue result → widths < 2 ^ 64 - 1 }
-{
-    cost < u64::MAX / 2 && widths == 2 * cost
-}
-
 /// The property that does not hold, in words, or nothing.
 pub fn fault(t: &DistTable, m: &Matching) -> &'static str
-    ensures { result.now ≡ [] → IsMatching t.now m.now.pairs m.now.moats }
+    ensures { (result.now ≡ []) ↔ IsMatching t.now m.now.pairs m.now.moats }
 {
     if !pairs_each(t.places(), m.pairs.as_slice()) {
         return "a place is not in exactly one pair";
@@ -51,7 +42,7 @@ pub fn fault(t: &DistTable, m: &Matching) -> &'static str
     if !keeps_loads(t, m.moats.as_slice()) {
         return "two places carry too much";
     }
-    if !is_paid(width(m.moats.as_slice()), cost(t, m)) {
+    if width(m.moats.as_slice()) != cost(t, m).saturating_mul(2) {
         return "the widths are not twice the cost";
     }
     ""
