@@ -1,4 +1,4 @@
--- After a change of duals the step can be done, and all holds that held before.
+-- After a change of duals the step can be made, and the invariants still hold.
 use Rattle.std.proofs.Common.{◌≡◌, ◌≢◌, ℕ, ◌+◌, ◌*◌, ◌^◌, ◌≤◌, ◌<◌, suc, zero, List, [], ◌∷◌, flat_map, length, drop, arith, refl, sym, ap, subst, ◌∙◌}
 use Rattle.blossom_match.specs.Lists.{Each}
 use Rattle.blossom_match.specs.Bands.{Band, NestValue, apart, bands, count, height, load}
@@ -229,7 +229,7 @@ loads_stay t h s r c i bd ch can a b la lb ne =
           a b (omega (arith, two, pb, is_one t b)) (omega (arith, two, pa, is_one t a)) apart,
     ))
 
--- a tight link after the change
+-- an edge that is tight after the change
 tight_after : (d : TableValue) (k : ℕ → ℕ) (l : Link) → k l.from + k l.to ≡ 2 * entry d l.from l.to → IsTight d k l
 tight_after d k l e = sym e
 

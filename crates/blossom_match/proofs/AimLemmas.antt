@@ -1,4 +1,4 @@
--- The place to which a link becomes tight by the least change of duals.
+-- The vertex to which an edge becomes tight by the least change of duals.
 use Rattle.std.proofs.Common.{◌≡◌, ℕ, ◌+◌, ◌≤◌, ◌<◌, ◌⊎◌, inl, inr, suc, zero, List, [], ◌∷◌, length, take, drop, get_or, None, arith, refl, sym, ap, subst, ◌∙◌}
 use Rattle.std.proofs.lemmas.List.{drop_all}
 use Rattle.blossom_match.specs.Bands.{NestValue, count}
@@ -71,7 +71,7 @@ pub reached : (t : TableValue) (hs : List ℕ) (root : NestValue) (tree : List B
 reached t hs root tree reach aim c =
     reached_case t hs root tree aim.to (get_or reach aim.to 0) c.near (c.reaches.is aim.to c.within)
 
--- one of the branches' outer places leaves so much
+-- one of the branches' outer vertices has that slack
 pub record IsBelow (t : TableValue) (hs : List ℕ) (tree : List BranchValue) (x left : ℕ) : Type 0 where
   pub a : ℕ
   pub here : 1 ≤ count a (outer_members [] tree)

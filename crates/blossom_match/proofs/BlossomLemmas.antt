@@ -1,4 +1,4 @@
--- Blossoms told from another part.
+-- Blossoms rotated to another part.
 use Rattle.std.proofs.Common.{◌≡◌, ℕ, ◌+◌, ◌≤◌, ◌<◌, ◌%◌, suc, List, [], ◌∷◌, ◌++◌, length, map, take, drop, get_or, drop-cons, add-one, arith, refl, sym, ap, subst, ◌∙◌, append_assoc, length-append}
 use Rattle.std.proofs.lemmas.List.{append-nil, map-append, take-append-drop}
 use Rattle.blossom_match.specs.TableValue.{TableValue}
@@ -30,7 +30,7 @@ paid_by_one d p (q ∷ qs) l = paid_on d q p q qs l.1 l.0
 shifted : (xs ys : List PartValue) (x : PartValue) → (ys ++ x ∷ []) ++ xs ≡ ys ++ (x ∷ xs)
 shifted xs ys x = append_assoc ys (x ∷ []) xs
 
--- a blossom stays linked when it is told from another part
+-- a rotated cycle of parts is a cycle
 pub blossom_turned : (xs ys : List PartValue) → IsLinkedBlossom (xs ++ ys) → IsLinkedBlossom (ys ++ xs)
 blossom_turned [] ys l = subst IsLinkedBlossom (sym (append-nil ys)) l
 blossom_turned (x ∷ xs) ys l =
@@ -54,7 +54,7 @@ held_later x ps i p lt is none some =
     let g : count x (get_or ps i p).nest.members ≡ 0 = subst (λ (q : PartValue). count x q.nest.members ≡ 0) is none in
     omega arith
 
--- what adds up over the parts is the same from whichever part they are told
+-- an additive quantity of the parts doesn't change when they are rotated
 pub sum_turned : (G : List PartValue → ℕ) → ((ps qs : List PartValue) → G (ps ++ qs) ≡ G ps + G qs) → (i : ℕ) (ps : List PartValue)
     → G (drop i ps ++ take i ps) ≡ G ps
 sum_turned G add i ps =
@@ -87,7 +87,7 @@ pub holds_here : (x : ℕ) (ps : List PartValue) (i : ℕ) (p : PartValue) → i
     → HoldsAt x ps i
 holds_here x ps i p low is here = subst (FirstHolds x) (sym (drop_here ps i p low is)) here
 
--- a list told from another item, by what is seen of each
+-- a rotated list, by the value of each item
 turned_list : {X Y : Type 0} (f : X → Y) (old new : List X) (at : ℕ) → new ≡ drop at old ++ take at old
     → map f new ≡ drop at (map f old) ++ take at (map f old)
 turned_list {X} {Y} f old new at is =

@@ -226,7 +226,7 @@ goal_there kind.Meet t h s x i here = place_in t x (omega (arith, i.places x, he
 goal_there kind.Grow t h s x i here = place_in t x (omega (arith, i.places x, here))
 goal_there kind.Shrink t h s x i here = place_in t x (omega (arith, i.places x, here))
 
--- outer places reach the last aim
+-- an outer vertex has the slack of the last candidate
 pub leads_on : (t : TableValue) (h : ℕ → ℕ) (s : SearchValue) (hs reach : List ℕ) (first met grown crossed : Aim)
     → IsAimedAt t h s hs reach first met grown crossed → CanLead t hs s.root s.tree reach crossed
 leads_on t h s hs reach first met grown crossed a =
@@ -243,7 +243,7 @@ leads_on t h s hs reach first met grown crossed a =
       near = on.near;
     }
 
--- an outer place of another set reaches the place
+-- an outer vertex of another set has the slack to the vertex
 pub is_near : (t : TableValue) (h : ℕ → ℕ) (s : SearchValue) (hs reach : List ℕ) (a b : ℕ) → IsTable t → IsSearch t h s
     → Reaches t hs s.root s.tree reach → 1 ≤ count a (outers s) → b < t.places → holding_both a b s ≡ 0
     → (get_or reach b 0 < FAR) × (get_or reach b 0 ≤ 2 * entry t a b - get_or hs a 0)
@@ -292,7 +292,7 @@ due_now : (t : TableValue) (h : ℕ → ℕ) (s : SearchValue) (old new : Change
 due_now t h s old new due (inl e) = subst (λ (c : Change). IsDue t h s c.by c.step) (sym e) due
 due_now t h s old new due (inr f) = due_blossom t h s new f
 
--- the least of all changes leaves no slack negative, and its step is due
+-- after the least of all changes no slack is negative, and its step can be made
 pub bounds_of : (t : TableValue) (h : ℕ → ℕ) (s : SearchValue) (hs reach : List ℕ) (first met grown crossed : Aim) (c new : Change)
     → IsAimedAt t h s hs reach first met grown crossed → LeadsTo t hs s.root s.tree reach crossed c
     → Narrows s.tree c new → Bounds t h s new

@@ -1,4 +1,4 @@
--- The chain of the sets between the two ends of a link.
+-- The chain of the sets between the two ends of an edge.
 use Rattle.std.proofs.Common.{◌≡◌, ℕ, ◌+◌, ◌≤◌, List, [], ◌∷◌, ◌++◌, length, reverse, arith, refl, sym, ap, subst, ◌∙◌, length-append}
 use Rattle.std.proofs.lemmas.List.{reverse-append}
 use Rattle.blossom_match.specs.TableValue.{TableValue}

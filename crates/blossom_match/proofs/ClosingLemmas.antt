@@ -41,7 +41,7 @@ IsLocal h p = (x : ℕ) → 1 ≤ count x p.nest.members → height x (bands p.n
 abbrev pub AllLocal : (ℕ → ℕ) → List PartValue → Type 0
 AllLocal h ps = Each (IsLocal h) ps
 
--- the links of a chain, but for the last part's
+-- the edges of a chain, but for that of the last part
 abbrev pub ChainTight : TableValue → (ℕ → ℕ) → PartValue → List PartValue → Type 0
 ChainTight d h p [] = Unit {0}
 ChainTight d h p (q ∷ qs) = IsTight d h p.next × ChainTight d h q qs
@@ -67,7 +67,7 @@ AllLocal_on : (h : ℕ → ℕ) (qs : List PartValue) (p : PartValue) → AllLoc
 AllLocal_on h [] p a b = (b, tt)
 AllLocal_on h (q ∷ qs) p a b = (a.0, AllLocal_on h qs p a.1 b)
 
--- the tolls of a new blossom are paid where all its links are tight
+-- the blossom edges of a new blossom are tight where all edges of its cycle are
 pub blossom_is_paid : (d : TableValue) (h : ℕ → ℕ) (p : PartValue) (ps : List PartValue) → IsLinkedBlossom (p ∷ ps) → AllLocal h (p ∷ ps)
     → Each (λ (k : PartValue). IsTight d h k.next) (p ∷ ps) → IsPaid d (blossom_tolls (p ∷ ps))
 blossom_is_paid d h p ps l a t = tight_is_paid d h p (ps ++ p ∷ []) l a.0 (AllLocal_on h ps p a.1 a.0) (chain_on d h p p ps t)

@@ -1,4 +1,4 @@
--- A change of duals keeps what holds between two steps.
+-- A change of duals preserves the invariants of a search.
 use Rattle.std.proofs.Common.{◌≡◌, ℕ, ◌+◌, ◌-◌, ◌*◌, ◌^◌, ◌≤◌, ◌<◌, suc, zero, List, [], ◌∷◌, ◌++◌, flat_map, length, map, take, drop, get_or, set, set-set, get_or-set_same, arith, refl, sym, ap, ◌∙◌, append_assoc}
 use Rattle.blossom_match.specs.Lists.{Each, sum_over}
 use Rattle.blossom_match.specs.Bands.{NestValue, apart, bands, count, height, load, members_onto, uses, with_dual}
@@ -236,7 +236,7 @@ pub around-comm : (a b : ℕ) (bs : List BranchValue) → around a b bs ≡ arou
 around-comm a b [] = refl
 around-comm a b (c ∷ cs) = omega (arith, around-comm a b cs)
 
--- an item behind those before it
+-- an item after those before it
 pub each_split : {X : Type 0} (P : X → Type 0) (all rest before : List X) → all ≡ before ++ rest
     → ((bs : List X) (b : X) (after : List X) → all ≡ bs ++ b ∷ after → P b) → Each P rest
 each_split P all [] before e f = tt
@@ -269,7 +269,7 @@ one_place x y [] one hx hy = absurd (omega arith)
 one_place x y (m ∷ []) one hx hy = hit_is x m (omega (arith, hx)) ∙ sym (hit_is y m (omega (arith, hy)))
 one_place x y (m ∷ n ∷ ms) one hx hy = absurd (omega arith)
 
--- the seats of a branch are written one after the other
+-- the handles of a branch are written one after the other
 abbrev inner_resized : ℕ → Branch → Branch
 inner_resized by b = record { up = b.up; inner = record { key = b.inner.key; dual = b.inner.dual - by }; pair = b.pair; outer = b.outer }
 

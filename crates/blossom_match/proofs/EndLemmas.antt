@@ -103,7 +103,7 @@ goes t s wide c (Done r) m can bounds w l =
           (arith, l.fewer, ap (λ (xs : List ℕ). length xs) w.free),
     )
 
--- each match's links are paid
+-- the edges of each match are tight
 settled : (d : TableValue) (h : ℕ → ℕ) (cs : List MatchValue) → Each IsJoined cs → Each (IsFirmMatch d h) cs → Each (IsSettled d) cs
 settled d h [] j f = tt
 settled d h (c ∷ cs) j f = (

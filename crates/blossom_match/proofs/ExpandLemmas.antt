@@ -1,4 +1,4 @@
--- An inner set that comes apart, between the branches before and after it.
+-- An inner blossom that is expanded, between the branches before and after it.
 use Rattle.std.proofs.Common.{◌≡◌, ℕ, ◌+◌, ◌%◌, ◌≤◌, ◌<◌, suc, zero, List, [], ◌∷◌, ◌++◌, length, take, drop, arith, refl, sym, ap, subst, ◌∙◌, append_assoc, length-append}
 use Rattle.std.proofs.lemmas.List.{length-take, take-append-drop}
 use Rattle.blossom_match.specs.TableValue.{TableValue}

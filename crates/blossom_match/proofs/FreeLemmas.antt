@@ -1,4 +1,4 @@
--- Free places and their prices: a search begins at one, and ends at another.
+-- Free vertices and their initial duals: a search begins at one, and ends at another.
 use Rattle.std.proofs.Common.{◌≡◌, ◌≢◌, ℕ, ◌+◌, ◌*◌, ◌≤◌, ◌<◌, suc, zero, List, [], ◌∷◌, ◌++◌, length, Bool, true, false, cond, eqb, arith, refl, sym, ap, subst, ◌∙◌}
 use Rattle.std.proofs.lemmas.Bool.{eqb-true}
 use Rattle.blossom_match.proofs.RowLemmas.{single_near}

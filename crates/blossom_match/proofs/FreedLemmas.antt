@@ -1,4 +1,4 @@
--- The slot of a set that comes apart.
+-- The slot of a set that is expanded.
 use Rattle.std.proofs.Common.{◌≡◌, ℕ, ◌+◌, ◌≤◌, ◌<◌, List, [], ◌∷◌, ◌++◌, take, drop, length, ltb, Option, Some, None, arith, sym, ap, subst, ◌∙◌}
 use Rattle.std.proofs.lemmas.List.{length-map, map-append}
 use Rattle.std.proofs.lemmas.Bool.{lt-ltb, ltb-true}
@@ -57,7 +57,7 @@ split_uses k key root tree bs b later rest ps near is made =
       ap (λ (v : NestValue). uses k (bands v)) made,
     )
 
--- the inner set stands in a slot
+-- the inner set has a slot
 inner_used : (k : ℕ) (root : NestValue) (tree bs : List BranchValue) (b : BranchValue) (later : List BranchValue) (rest : List MatchValue)
     → tree ≡ (bs ++ b ∷ []) ++ later → uses k (bands b.inner) ≤ uses k (all_bands root tree rest)
 inner_used k root tree bs b later rest is =

@@ -35,7 +35,7 @@ each-take P zero xs p = tt
 each-take P (suc i) [] p = p
 each-take P (suc i) (x ∷ xs) p = (p.0, each-take P i xs p.1)
 
--- the list told from another item
+-- the rotated list
 pub each-turned : {X : Type 0} (P : X → Type 0) (i : ℕ) (xs : List X) → Each P xs → Each P (drop i xs ++ take i xs)
 each-turned P i xs p = each-append P (drop i xs) (take i xs) (each-drop P i xs p) (each-take P i xs p)
 
@@ -84,7 +84,7 @@ number_here xs i low = rw add-one (number_suc xs i low)
 pub each_here : {X : Type 0} (P : X → Type 0) (xs : List X) (i : ℕ) (x : X) → Each P xs → i < length xs → x ≡ get_or xs i x → P x
 each_here {X} P xs i x p low is = (subst (λ (ks : List X). Each P ks) (drop_here xs i x low is) (each-drop P i xs p)).0
 
--- what a vector has behind a call on its slice
+-- the items of a vector after a call on its slice
 pub written : {X : Type 0} (len : ℕ) (new old : List X) → length new ≡ len → take len (new ++ drop (length new) old) ≡ new
 written len new old size = subst (λ (n : ℕ). take n (new ++ drop (length new) old) ≡ new) size (take-append_seam new (drop (length new)
     old))

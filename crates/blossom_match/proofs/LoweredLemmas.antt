@@ -1,4 +1,4 @@
--- What the outer places leave after a change of duals.
+-- The slacks from the outer vertices after a change of duals.
 use Rattle.std.proofs.Common.{◌≡◌, ℕ, ◌+◌, ◌-◌, ◌*◌, ◌≤◌, ◌<◌, ◌⊎◌, inl, inr, List, [], ◌∷◌, length, get_or, arith, sym, ap, subst, ◌∙◌, take, drop}
 use Rattle.blossom_match.proofs.ReachLemmas.{reaches_apart}
 use Rattle.blossom_match.specs.Bands.{NestValue, count}
@@ -127,7 +127,7 @@ pub is_reachable : (t : TableValue) (s r : SearchValue) (st now : Step) (reach :
     → SearchReaches t s reach → IsReachable r reach
 is_reachable t s r st now reach e k adv reaches = record { t = t; can = can_take_at t s r st now e k adv; size = reaches.size }
 
--- its outer sets are taken in anew
+-- the slacks from the outer sets are computed again
 pub anew : (t : TableValue) (s r : SearchValue) (st now : Step) (old new : List ℕ) → st ≡ now → CanStepAt t s st → Advances s now r
     → SearchReaches t s old → length new ≡ length old → ReachesOuters r.root r.tree new → SearchReaches t r new
 anew t s r st now old new e k adv reaches size all = all t r.heights (can_take_at t s r st now e k adv) (size ∙ reaches.size)

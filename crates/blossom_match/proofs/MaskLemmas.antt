@@ -58,7 +58,7 @@ match_within x cs i c low is =
       count-append,
     )
 
--- a mask made anew
+-- a mask computed from the beginning
 pub masks_anew : (places old new : List ℕ) → ((x : ℕ) → 1 ≤ count x places → x < length new) → length new ≡ length old
     → ((x : ℕ) → x < length old → get_or old x 0 ≡ FAR) → Puts 0 places old new → Masks places new
 masks_anew places old new within size far k = record {
@@ -146,14 +146,14 @@ last_here : {Y : Type 0} (ys : List Y) (y d : Y) → get_or (ys ++ y ∷ []) (le
 last_here [] y d = refl
 last_here (z ∷ ys) y d = last_here ys y d
 
--- the item behind those of before
+-- the item after those before it
 pub newest_is : {X Y : Type 0} (f : X → Y) (xs : List X) (i : ℕ) (x : X) (ys : List Y) (y : Y) → x ≡ get_or xs i x → map f xs ≡ ys ++ y ∷ []
     → i ≡ length ys → f x ≡ y
 newest_is {X} {Y} f xs i x ys y is e at =
     mapped_at f xs i x is ∙ ap (λ (zs : List Y). get_or zs i (f x)) e
     ∙ subst (λ (n : ℕ). get_or (ys ++ y ∷ []) n (f x) ≡ y) (sym at) (last_here ys y (f x))
 
--- a match that hangs in the tree was shown
+-- a match that moved into the tree was shown
 pub hides_there : (t : TableValue) (s r : SearchValue) (st now : Step) (b : BranchValue) (mask : List ℕ) → st ≡ now → CanStepAt t s st
     → Advances s now r → (hangs : HangsOn s r) → b ≡ hangs.branch → SearchMasks t s mask → (x : ℕ) → 1 ≤ count x (branch_members b)
     → x < length mask

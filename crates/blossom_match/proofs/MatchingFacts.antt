@@ -135,7 +135,7 @@ known_unpaid is = half is.paid
     half : Differ 2 4
     half is = omega (arith, is)
 
--- so many places with these cells
+-- a table of n places with these cells
 abbrev table : ℕ → List ℕ → TableValue
 table places cells = record { places = places; cells = cells }
 

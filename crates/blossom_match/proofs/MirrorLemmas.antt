@@ -1,4 +1,4 @@
--- Blossoms told the other way round, and the parity of their parts.
+-- Reversed blossoms, and the parity of their parts.
 use Rattle.std.proofs.Common.{◌≡◌, ℕ, ◌+◌, ◌%◌, ◌≤◌, ◌<◌, inl, inr, List, [], ◌∷◌, ◌++◌, length, take, drop, arith, refl, sym, ap, subst, ◌∙◌, append_assoc, length-append}
 use Rattle.std.proofs.lemmas.List.{length-take, take-append-drop}
 use Rattle.std.specs.List.{flat_map}
@@ -162,7 +162,7 @@ told_append l (p ∷ ps) told =
     told_append p.next ps (part_of p (back_of l) ∷ told) ∙ sym (append_assoc (told_back p.next ps []) (part_of p (back_of l) ∷ []) told)
     ∙ ap (λ (qs : List PartValue). qs ++ told) (sym (told_append p.next ps (part_of p (back_of l) ∷ [])))
 
--- the part behind those before it stands before them in the chain told back
+-- a part after others comes before them in the reversed chain
 record ToldAt (l : Link) (before : List PartValue) (p : PartValue) (after told : List PartValue) : Type 0 where
   link : Link
   rest : List PartValue
@@ -185,13 +185,13 @@ mirror_held x (a ∷ before) p after odd all here =
     subst (λ (qs : List PartValue). EvenlyHolds x (top ∷ qs)) (sym t.is)
     (evenly x (top ∷ told_back p.next after []) (part_of p t.link) t.rest (omega (arith, told_size p.next after [])) here)
 
--- a blossom with an odd way to the part is told so that the way is even
+-- a blossom with the part at an odd index is reversed, which makes the index even
 mirror_evenly : (x : ℕ) (ps : List PartValue) (i : ℕ) → length ps % 2 ≡ 1 → i % 2 ≡ 1 → HeldAt x ps i → EvenlyHolds x (mirror_of ps)
 mirror_evenly x ps i odd way h = subst (λ (qs : List PartValue). EvenlyHolds x (mirror_of qs)) (sym h.is)
     (mirror_held x h.before h.part h.after (omega (arith, h.size))
     (omega (arith, odd, ap (λ (qs : List PartValue). length qs) h.is, length-append h.before (h.part ∷ h.after))) h.here)
 
--- a blossom told from the part that is entered, an even way from that which is left
+-- a blossom rotated to the part that is entered, with the part that is left at an even index
 pub goes_on : (entry exit : ℕ) (old blossom : List PartValue) (i : ℕ) → IsBlossom old → IsTurned old blossom → FirstHolds entry blossom
     → i < length
     blossom
@@ -236,7 +236,7 @@ goes_back entry exit old blossom back i is turned first low holds odd e =
 pub turned_places : (x : ℕ) (old blossom : List PartValue) → IsTurned old blossom → count x (members_in blossom) ≡ count x (members_in old)
 turned_places x old blossom turned = ap (λ (qs : List PartValue). count x (members_in qs)) turned.is ∙ members_turned x turned.at old
 
--- nothing is left, and the first part goes before what is told
+-- no part remains, and the first part comes before the reversed ones
 pub told_whole : (link : Link) (v : NestValue) (left told all : List PartValue) → length left ≡ 0
     → with_link v (back_of (last_link link left)) ∷ told_back link left told ≡ all → with_link v (back_of link) ∷ told ≡ all
 told_whole link v [] told all none e = e

@@ -31,7 +31,7 @@ pub members_matched : (x : ℕ) (ps : List PartValue) → length ps % 2 ≡ 0 �
     (match_members (matches_along ps))
 members_matched x ps even = ap (λ (ss : List NestValue). count x (members_onto [] ss)) (sets_matched ps even)
 
--- the links inside the parts are paid from whichever part the blossom is told
+-- the blossom edges inside the parts stay tight when the blossom is rotated
 tolls_turned : (d : TableValue) (i : ℕ) (ps : List PartValue) → IsPaid d (tolls_in ps) → IsPaid d (tolls_in (drop i ps ++ take i ps))
 tolls_turned d i ps paid =
     let tolls = λ (p : PartValue). p.nest.tolls in
@@ -87,7 +87,7 @@ opens_single left key w ms near one there = record {
 pub length_turned : (i : ℕ) (old : List PartValue) → length (drop i old ++ take i old) ≡ length old
 length_turned i old = sum_turned (λ (qs : List PartValue). length qs) length-append i old
 
--- what adds up over the sets of a blossom adds up over its first part and the matches behind it
+-- an additive quantity of a blossom is that of its first part and of the matches after it
 sums_turned : (F : List Band → ℕ) → Adds F → (old : List PartValue) (p : PartValue) (ps : List PartValue) (i : ℕ) → p ∷ ps ≡ drop i old ++
     take i old →
     length ps % 2 ≡ 0 → F (bands_in old) ≡ F (bands p.nest) + F (match_bands (matches_along ps))
@@ -116,7 +116,7 @@ paid_turned_all d old p ps i e even all =
       paid_along d p p ps even blossom (each-right (TollIsPaid d) p.nest.tolls (tolls_in ps) parts),
     )
 
--- the blossom told from another part is a blossom
+-- a rotated blossom is a blossom
 pub turned_is_blossom : (old : List PartValue) (i : ℕ) → IsBlossom old → IsBlossom (drop i old ++ take i old)
 turned_is_blossom old i r = record {
   odd = omega (arith, length_turned i old, r.odd);
@@ -125,7 +125,7 @@ turned_is_blossom old i r = record {
   kept = each-turned (λ (p : PartValue). Kept p.nest) i old r.kept;
 }
 
--- the matches behind the first part hold some place
+-- the matches after the first part hold some vertex
 matched_some : (ps : List PartValue) → 2 ≤ length ps → AllKept ps → (x : ℕ) × (1 ≤ count x (match_members (matches_along ps)))
 matched_some [] two kept = absurd (omega arith)
 matched_some (p ∷ []) two kept = absurd (omega arith)

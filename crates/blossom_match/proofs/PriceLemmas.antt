@@ -1,4 +1,4 @@
--- A price that rises, and two places that are paired at their prices.
+-- The initial dual of a vertex rises, and two vertices are matched by a tight edge.
 use Rattle.std.proofs.Common.{◌≡◌, ◌≢◌, ℕ, ◌+◌, ◌*◌, ◌≤◌, ◌<◌, List, [], ◌∷◌, ◌++◌, length, get_or, set, Bool, true, false, cond, eqb, ltb, arith, refl, sym, ap, subst, ◌∙◌}
 use Rattle.std.proofs.Math.ListN.{get_or-eq_default}
 use Rattle.std.proofs.lemmas.Bool.{eqb-true, eqb-false, ltb-false}
@@ -45,7 +45,7 @@ half_free t matches free heights e places half size = record {
   size = size;
 }
 
--- at its price a free place has no negative slack to others
+-- at its initial dual a free vertex has no negative slack to others
 pub free_lies : (t : TableValue) (matches : List MatchValue) (free heights : List ℕ) (place : ℕ) → Stands t matches free heights
     → 1 ≤ count place free → Lies t heights free place
 free_lies t matches free heights place st here =
@@ -81,7 +81,7 @@ slack_case false false t hs place price a f e g low la lf ne slack old =
     let u : get_or (set hs place price) f 0 ≡ get_or hs f 0 = get_or-set_other hs place f price 0 (eqb-false f place g) in
     omega (arith, o, u, old)
 
--- a free place may have any price that leaves no slack negative
+-- a free vertex may have any initial dual that makes no slack negative
 pub risen : (t : TableValue) (matches : List MatchValue) (free heights new : List ℕ) (place price : ℕ) → Stands t matches free heights
     → 1 ≤ count place free → LeavesSlack t heights place price → new ≡ set heights place price →
     length new ≡ length heights → Stands t matches free new

@@ -1,4 +1,4 @@
--- What the outer places leave for each place.
+-- The least slack from the outer vertices to each vertex.
 use Rattle.std.proofs.Common.{◌≡◌, ◌≢◌, ℕ, ◌+◌, ◌-◌, ◌≤◌, ◌<◌, ◌⊎◌, inl, inr, suc, zero, List, [], ◌∷◌, ◌++◌, length, take, drop, get_or, arith, refl, sym, ap, subst, ◌∙◌, length-append, append_assoc}
 use Rattle.std.proofs.lemmas.List.{take-append-drop}
 use Rattle.std.proofs.Math.Seq.{drop-append_seam, take-append_seam}
@@ -21,7 +21,7 @@ use Rattle.blossom_match.proofs.ScanLemmas.{split_here}
 use Rattle.blossom_match.proofs.ChainLemmas.{around_append}
 use Rattle.blossom_match.proofs.TreeLemmas.{base_in}
 
--- the place that leaves so much is one of those after
+-- the vertex with that slack is one of those after
 pub left_more : (t : TableValue) (hs xs : List ℕ) (i x left : ℕ) → i < length xs → left_by t hs (get_or xs i 0) x ≢ left
     → IsLeft t hs (drop i xs) x left → IsLeft t hs (drop (i + 1) xs) x left
 left_more t hs xs i x left low differs l =
@@ -208,7 +208,7 @@ grown_size at old new g =
       length-append g.added (g.last ∷ g.later),
     )
 
--- the branches more stand from the index on
+-- the inserted branches begin at the index
 pub grown_past : (at : ℕ) (old new : List BranchValue) → GrowsAt at old new → at + (length new - length old) ≤ length new
 grown_past at old new g =
     omega (

@@ -1,4 +1,4 @@
--- Worked rows.
+-- Worked values of slack rows.
 use Rattle.std.proofs.Common.{◌≡◌, ℕ, [], ◌∷◌, map, refl}
 use Rattle.blossom_match.specs.Masks.{shown}
 use Rattle.blossom_match.specs.Blossoms.{single_of}

@@ -1,4 +1,4 @@
--- What sets leave for the places outside them.
+-- The slacks from sets to the vertices outside them.
 use Rattle.std.proofs.Common.{◌≡◌, ◌≢◌, ℕ, ◌+◌, ◌-◌, ◌*◌, ◌≤◌, ◌<◌, ◌⊎◌, inl, inr, suc, zero, List, [], ◌∷◌, ◌++◌, length, take, get_or, set, map, min, Bool, true, false, cond, eqb, ltb, arith, refl, sym, ap, subst, ◌∙◌, get_or-set_other, get_or-set_same}
 use Rattle.std.proofs.lemmas.Bool.{cases_lt, eqb-false, eqb-true, ltb-true, ltb-false}
 use Rattle.std.proofs.lemmas.Grind.{same_number_lists}
@@ -108,7 +108,7 @@ single_near t place is low =
       is = λ x none lx. record { a = place; here = omega (arith, hit_same place); exact = omega (arith, other x none lx) };
     }
 
--- one of the places leaves so much for x over its height
+-- a value is the slack to x from one of the vertices, less the height of that vertex
 record IsLeftAt (t : TableValue) (h : ℕ → ℕ) (xs : List ℕ) (x left : ℕ) : Type 0 where
   a : ℕ
   here : 1 ≤ count a xs
@@ -121,7 +121,7 @@ times_one by n e = omega (arith, ap (λ (k : ℕ). by * k) e)
 over : (t : TableValue) (h : ℕ → ℕ) (s : NestValue) (a : ℕ) → IsSound t h s → count a s.members ≡ 1 → s.dual + height a s.below ≡ h a
 over t h s a k one = omega (arith, k.local a (omega (arith, one)), times_one s.dual (count a s.members) one)
 
--- over its dual a set leaves no more for x than a member does
+-- the slack from a set to x, less its dual, is at most that from each member
 pub near_least : (t : TableValue) (h : ℕ → ℕ) (s : NestValue) (a x : ℕ) → IsSound t h s → count a s.members ≡ 1
     → count x s.members ≡ 0 → x < t.places → lowered s.dual (get_or s.near x 0) ≤ 2 * entry t a x - h a
 near_least t h s a x k one none lx =
@@ -132,7 +132,7 @@ near_least t h s a x k one none lx =
       over t h s a k one,
     )
 
--- and some member leaves so much
+-- some member has that slack
 near_is : (t : TableValue) (h : ℕ → ℕ) (s : NestValue) (x : ℕ) → IsSound t h s → ((y : ℕ) → count y s.members ≤ 1)
     → count x s.members ≡ 0 → x < t.places → IsLeftAt t h s.members x (lowered s.dual (get_or s.near x 0))
 near_is t h s x k once none lx =
@@ -154,7 +154,7 @@ least_case : (n : ℕ) (t : TableValue) (h : ℕ → ℕ) (p : PartValue) (rest 
 least_case zero t h p rest a x e few k none lx later = omega (arith, later refl)
 least_case (suc n) t h p rest a x e few k none lx later = omega (arith, near_least t h p.nest a x k (omega (arith, e, few)) none lx)
 
--- no member of the parts leaves less
+-- no member of the parts has a lesser slack
 least_low : (t : TableValue) (h : ℕ → ℕ) (ps : List PartValue) (a x : ℕ) → Each (IsFirmPart t h) ps → count a (members_in ps) ≤ 1
     → 1 ≤ count a (members_in ps) → count x (members_in ps) ≡ 0 → x < t.places → least_of ps x ≤ 2 * entry t a x - h a
 least_low t h [] a x f once here none lx = absurd (omega (arith, here))
@@ -193,7 +193,7 @@ least_rest t h (p ∷ ps) x f once none lx =
     inr (least_with t h p ps x f.0.nest once none lx
     (least_rest t h ps x f.1 (λ y. omega (arith, once y, c y)) (omega (arith, none, c x)) lx))
 
--- some member leaves so much
+-- some member has that slack
 least_is : (t : TableValue) (h : ℕ → ℕ) (p : PartValue) (ps : List PartValue) (x : ℕ) → Each (IsFirmPart t h) (p ∷ ps)
     → ((y : ℕ) → count y (members_in (p ∷ ps)) ≤ 1) → count x (members_in (p ∷ ps)) ≡ 0 → x < t.places
     → IsLeftAt t h (members_in (p ∷ ps)) x (least_of (p ∷ ps) x)

@@ -300,7 +300,7 @@ taken_place x xs new i place low is e =
       ap (λ (ys : List ℕ). count x ys) here,
     )
 
--- the link closes a blossom
+-- the edge closes a blossom
 pub can_shrink : (link : Link) (s : SearchValue) → CanStep s (Shrink link) → Shrinking link s.root s.tree
 can_shrink link s k =
     let i = k.can.search in

@@ -12,7 +12,7 @@ use Rattle.blossom_match.specs.declared.nest.Part.{Part}
 abbrev link : ℕ → ℕ → Link
 link from to = record { from = from; to = to }
 
--- one place under its own number, so many halves of a step wide
+-- one vertex under its own number, with a dual in halves of a step
 abbrev place : ℕ → ℕ → NestValue
 place x dual = nest_of x (x ∷ []) dual (x ∷ []) []
 

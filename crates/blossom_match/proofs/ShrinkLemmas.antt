@@ -30,7 +30,7 @@ pub all_moved : (xs left ys : List PartValue) → length left ≡ 0 → xs ++ le
 all_moved xs [] ys none e = sym (append-nil xs) ∙ e
 all_moved xs (p ∷ left) ys none e = absurd (omega arith)
 
--- a link whose ends no set at the top holds both closes no empty chain
+-- an edge whose ends aren't both in the set at the top closes no empty chain
 not_empty : (link : Link) (s : NestValue) (way : Link) (to : ℕ) (chain : List PartValue)
     → (length chain ≡ 0 → (way.from ≡ link.from) × (to ≡ link.to)) →
     both link.from link.to s ≡ 0 → 1 ≤ count way.from s.members → 1 ≤ count to s.members → 1 ≤ length chain

@@ -1,4 +1,4 @@
--- Sets in slots: what a slot more and a slot less leave.
+-- Sets in slots, after a slot is inserted or removed.
 use Rattle.std.proofs.Common.{◌≡◌, ℕ, zero, suc, ◌+◌, ◌≤◌, ◌<◌, List, [], ◌∷◌, ◌++◌, map, length, ltb, Option, Some, None, IsSome, arith, length-append, refl, sym, ap, subst, ◌∙◌}
 use Rattle.std.proofs.lemmas.Bool.{lt-ltb}
 use Rattle.slab.specs.Slab.{get, ContainsKey, Updates}
@@ -20,7 +20,7 @@ use Rattle.blossom_match.specs.declared.branches.Branch.{Branch}
 use Rattle.blossom_match.proofs.ListLemmas.{each-map, each-mapped}
 use Rattle.blossom_match.proofs.SumLemmas.{hit_is, hit_same, uses-append}
 
--- a part has fewer members than the whole
+-- a part has fewer members than its blossom
 many : (ps : List PartValue) → AllKept ps → length ps ≤ length (members_in ps)
 many [] kept = omega arith
 many (p ∷ ps) kept = omega (arith, kept.0.odd, many ps kept.1, length-append p.nest.members (members_in ps))
@@ -82,7 +82,7 @@ each_both : {X : Type 0} (P Q R : X → Type 0) (f : (x : X) → P x → Q x →
 each_both P Q R f [] p q = tt
 each_both P Q R f (x ∷ xs) p q = (f x p.0 q.0, each_both P Q R f xs p.1 q.1)
 
--- so many levels are enough
+-- as many levels as members are enough
 to_all : (a : ℕ) (sets : Slots) (k : ℕ) → IsSetTo a sets k → (n : ℕ) → length (members_at sets k) ≤ n → IsSetTo n sets k
 to_all zero sets k is n low = absurd is
 to_all (suc a) sets k is zero low = absurd (omega (arith, low, made_some (members_at sets k) (parts_in sets (parts_at sets k)) is.1))
@@ -144,7 +144,7 @@ inside_to (suc a) sets s j is some =
 pub inside : (sets : Slots) (s : Seat) (j : ℕ) → IsSet sets s.key → 1 ≤ uses j (bands (set_in sets s)) → IsSet sets j
 inside sets s j is = inside_to (length (members_at sets s.key)) sets s j (levels_of sets s.key is)
 
--- a seat finds the same set in other slots
+-- a handle refers to an equal set in other slots
 pub record IsKept (old new : Slots) (s : Seat) : Type 0 where
   pub set : IsSet new s.key
   pub same : set_in new s ≡ set_in old s

@@ -1,4 +1,4 @@
--- The slots that a step leaves.
+-- The slots after a step.
 use Rattle.std.proofs.Common.{◌≡◌, ℕ, zero, suc, ◌+◌, ◌≤◌, List, [], ◌∷◌, ◌++◌, Bool, true, false, cond, ltb, None, arith, refl, sym, ap, subst, ◌∙◌}
 use Rattle.slab.specs.Slab.{get}
 use Rattle.blossom_match.specs.Bands.{Band, NestValue, bands, count, hit, uses}
@@ -26,7 +26,7 @@ unused_case zero sets key bs e are fresh = e
 unused_case (suc n) sets key bs e are fresh =
     absurd (no_slot sets key key (has_slot sets key (are.each key (omega (arith, e)))) refl fresh)
 
--- a vacant key stands for no set
+-- a vacant key is that of no set
 pub unused : (sets : Slots) (key : ℕ) (bs : List Band) → AreSets sets bs → get sets key ≡ None → uses key bs ≡ 0
 unused sets key bs are fresh = unused_case (uses key bs) sets key bs refl are fresh
 
@@ -51,7 +51,7 @@ more_sets old new key was now ins are sum = record {
       (λ e. ap (λ (j : ℕ). uses j was) e ∙ unused old key was are ins.fresh);
 }
 
--- sets that were there stay where one more stands
+-- the other sets stay when one is inserted
 pub seat_stays : (old new : Slots) (key : ℕ) (bs : List Band) (s : Seat) → Inserts old new key → AreSets old bs
     → ((k : ℕ) → uses k (bands (set_in old s)) ≤ uses k bs) → set_in new s ≡ set_in old s
 seat_stays old new key bs s ins are low =
@@ -70,7 +70,7 @@ branches_stay old new key bs ks ins are low =
     (keep_branches old new ks (inserted_keeps old new key (branch_bands (branches_in old ks)) ins.fresh ins.others
     (λ k u. are.each k (omega (arith, u, low k))))).same
 
--- a search where one more set stands
+-- a search after a set was inserted
 pub record AllStay (old new : Slots) (root : Seat) (tree : List Branch) (rest : List Match) : Type 0 where
   pub same_root : set_in new root ≡ set_in old root
   pub same_tree : branches_in new tree ≡ branches_in old tree
@@ -103,7 +103,7 @@ augments_old old new root tree rest m link now stay aug =
     (subst (λ (ks : List BranchValue). Augments (set_in new root) m link ks (matches_in old rest) now) stay.same_tree
     (subst (λ (ks : List MatchValue). Augments (set_in new root) m link (branches_in new tree) ks now) stay.same_rest aug))
 
--- a match hangs in the tree
+-- a match moved into the tree
 hung_uses : (b : Bool) (k : ℕ) (up : Link) (c : MatchValue) (h : BranchValue)
     → h ≡ cond b (record { up = up; inner = c.first; pair = c.link; outer = c.second })
     (record { up = up; inner = c.second; pair = back_of c.link; outer = c.first })

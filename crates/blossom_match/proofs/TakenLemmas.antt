@@ -245,7 +245,7 @@ pub rest_of : (left : ℕ) (s : NestValue) (core : Option NestValue) (cs : List 
 rest_of left s core cs o once =
     record { once = λ x. omega (arith, o.places x, once x); fewer = omega (arith, o.sums (λ (bs : List Band). length bs) size-append) }
 
--- each set of the part that is left, and of the matches, is one inside the whole
+-- each set of the part that is left, and of the matches, is inside the opened set
 pub core_uses : (left : ℕ) (s p : NestValue) (core : Option NestValue) (cs : List MatchValue) → core ≡ Some p → OpensAt left s core cs
     → (k : ℕ) → uses k (bands p) ≤ uses k (bands s)
 core_uses left s p core cs e open_ k =

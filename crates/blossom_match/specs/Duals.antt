@@ -1,4 +1,4 @@
--- The duals of the outermost sets change: those of outer sets rise and those of inner sets fall.
+-- The change of the duals of a tree: those of outer sets rise and those of inner sets fall.
 use Rattle.std.specs.Prelude.{◌≡◌, ℕ, ◌+◌, ◌-◌, ◌*◌, ◌^◌, ◌<◌, ◌≤◌, List, length, map, slice_index}
 use Rattle.blossom_match.specs.Bands.{NestValue, count, with_dual}
 use Rattle.blossom_match.specs.Trees.{inner_members, outer_members}
@@ -11,7 +11,7 @@ use Rattle.blossom_match.specs.Values.{BranchValue, SearchValue}
 use Rattle.blossom_match.specs.declared.branches.Branch.{Branch}
 use Rattle.blossom_match.specs.declared.least.Change.{Change}
 
--- the branch with a greater dual outside and a lesser one inside
+-- A branch whose outer dual has risen and whose inner dual has fallen.
 abbrev pub changed_by : ℕ → BranchValue → BranchValue
 changed_by by b = record {
   up = b.up;
@@ -21,16 +21,17 @@ changed_by by b = record {
   outer = with_dual (b.outer.dual + by) b.outer;
 }
 
--- all branches so
+-- All branches of a tree with their duals changed.
 abbrev pub all_changed : ℕ → List BranchValue → List BranchValue
 all_changed by bs = map (changed_by by) bs
 
--- the outer dual stays a number of 32 bits, and the inner one is no less than the change
+-- The duals of a branch can change: the outer one fits 32 bits, and the inner one is at least the
+-- change.
 pub record CanChange (by : ℕ) (b : BranchValue) : Type 0 where
   pub fits : b.outer.dual + by < 2 ^ 32
   pub wide : by ≤ b.inner.dual
 
--- so for the seats of a branch
+-- A branch whose handles have their duals changed.
 abbrev pub resized : ℕ → Branch → Branch
 resized by b = record {
   up = b.up;
@@ -39,18 +40,19 @@ resized by b = record {
   outer = record { key = b.outer.key; dual = b.outer.dual + by };
 }
 
+-- The duals of a branch's handles can change.
 pub record CanResize (by : ℕ) (b : Branch) : Type 0 where
   pub fits : b.outer.dual + by < 2 ^ 32
   pub wide : by ≤ b.inner.dual
 
--- the heights of outer places rise, and those of inner places fall
+-- The heights of outer vertices rise, and those of inner vertices fall.
 abbrev pub Moves : ℕ → NestValue → List BranchValue → List ℕ → List ℕ → Type 0
 Moves by root tree old new =
     (x : ℕ) → slice_index new x + by * count x (inner_members tree)
     ≡ slice_index old x + by * count x (outer_members root.members tree)
 
--- each place of the tree has a cell, that of an outer set can rise by the change, and that of an
--- inner set has its height
+-- The heights of a tree can change: each vertex has a cell, outer ones can rise, and inner ones can
+-- fall.
 pub record CanChangeHeights (by : ℕ) (root : NestValue) (tree : List BranchValue)
     (heights : List ℕ) : Type 0 where
   pub cells : HasCells (λ x. count x (outer_members root.members tree)
@@ -58,7 +60,7 @@ pub record CanChangeHeights (by : ℕ) (root : NestValue) (tree : List BranchVal
   pub rise : CanRise (λ x. by * count x (outer_members root.members tree)) heights
   pub fall : CanFall (λ x. by * count x (inner_members tree)) heights
 
--- the search with all its duals changed
+-- A search with all its duals and heights changed.
 pub record Changes (by : ℕ) (s r : SearchValue) : Type 0 where
   pub heights : Moves by s.root s.tree s.heights r.heights
   pub size : length r.heights ≡ length s.heights
@@ -67,20 +69,20 @@ pub record Changes (by : ℕ) (s r : SearchValue) : Type 0 where
   pub rest : r.rest ≡ s.rest
   pub free : r.free ≡ s.free
 
--- a search at which the change leaves no slack negative
+-- A search and a change of duals after which no slack is negative.
 pub record CanAdjust (s : SearchValue) (c : Change) : Type 0 where
   pub t : TableValue
   pub metric : IsMetric t
   pub can : CanSearch t s
   pub bounds : Bounds t (height_at s) s c
 
--- a search with other heights at which the step can be done
+-- A search in which the step of a change can be made.
 pub record StepsOn (t : TableValue) (c : Change) (r : SearchValue) : Type 0 where
   pub search : IsSearch t (height_at r) r
   pub ready : IsReady t (height_at r) r c.step
   pub size : length r.heights ≡ t.places
 
--- after the change the step can be done
+-- After a change of duals its step can be made.
 pub record Adjusts (s : SearchValue) (c : Change) (r : SearchValue) : Type 0 where
   pub search : (t : TableValue) → IsMetric t → CanSearch t s → Bounds t (height_at s) s c
       → StepsOn t c r

@@ -1,4 +1,4 @@
--- An inner set that comes apart: a way of parts is laid into the tree.
+-- Expanding: an inner blossom of dual 0 is replaced by its parts, as branches and matches.
 use Rattle.std.specs.Prelude.{◌≡◌, ℕ, ◌+◌, ◌%◌, ◌<◌, ◌≤◌, ◌⊎◌, List, [], ◌∷◌, ◌++◌, length, drop}
 use Rattle.blossom_match.specs.TableValue.{TableValue}
 use Rattle.blossom_match.specs.Lists.{Each}
@@ -10,30 +10,32 @@ use Rattle.blossom_match.specs.Trees.{outer_members, inner_members, branch_bands
 use Rattle.blossom_match.specs.declared.nest.Link.{Link}
 use Rattle.blossom_match.specs.Values.{BranchValue, MatchValue, PartValue}
 
--- a chain told from its end, before `told`; each part takes the link before it, from its other end
+-- A path of parts reversed, before the parts `told`. Each part takes the edge before it, in the
+-- other direction.
 abbrev pub told_back : Link → List PartValue → List PartValue → List PartValue
 told_back link [] told = told
 told_back link (p ∷ ps) told = told_back p.next ps
     (record { nest = p.nest; next = back_of link } ∷ told)
 
--- the last link of a chain that begins with the link
+-- The last edge of a path of parts that begins with the given edge.
 abbrev pub last_link : Link → List PartValue → Link
 last_link link [] = link
 last_link link (p ∷ ps) = last_link p.next ps
 
--- the blossom told the other way round from the same first part
+-- A cycle of parts reversed, with the first part kept first.
 abbrev pub mirror_of : List PartValue → List PartValue
 mirror_of [] = []
 mirror_of (p ∷ ps) = record { nest = p.nest; next = back_of (last_link p.next ps) }
     ∷ told_back p.next ps []
 
--- an even number of parts, and then one that holds the place
+-- A part at an even index holds a vertex.
 abbrev pub EvenlyHolds : ℕ → List PartValue → Type 0
 EvenlyHolds x [] = ⊥
 EvenlyHolds x (p ∷ []) = 1 ≤ count x p.nest.members
 EvenlyHolds x (p ∷ q ∷ ps) = (1 ≤ count x p.nest.members) ⊎ EvenlyHolds x ps
 
--- the blossom as it is told from the part that is entered, an even way from the part that is left
+-- A blossom rotated to the part that is entered, and oriented so that the part that is left has an
+-- even index.
 pub record GoesEvenly (entry exit : ℕ) (old new : List PartValue) : Type 0 where
   pub blossom : IsBlossom new
   pub first : FirstHolds entry new
@@ -43,12 +45,13 @@ pub record GoesEvenly (entry exit : ℕ) (old new : List PartValue) : Type 0 whe
   pub firm : (d : TableValue) (h : ℕ → ℕ) → IsSymmetric d → Each (IsFirmPart d h) old
       → Each (IsFirmPart d h) new
 
--- the way leads into the first part, and each link to the next
+-- An edge leads into the first part, and each part's edge to the next.
 abbrev pub WayInto : Link → List PartValue → Type 0
 WayInto way [] = ⊥
 WayInto way (p ∷ ps) = (count way.to p.nest.members ≡ 1) × Linked p ps
 
--- a way from the tree into a blossom, and a pair out of it
+-- A blossom can be split along the tree: an edge leads into it, and a matched edge leads out of a
+-- part at an even index.
 pub record CanLay (root : NestValue) (tree : List BranchValue) (blossom : List PartValue)
     (way pair : Link) (outer : NestValue) : Type 0 where
   pub grown : IsGrown root.members tree
@@ -59,7 +62,8 @@ pub record CanLay (root : NestValue) (tree : List BranchValue) (blossom : List P
   pub to : count pair.to outer.members ≡ 1
   pub once : (x : ℕ) → count x (members_in blossom) ≤ 1
 
--- the parts up to the pair's end are branches, and the rest are matches
+-- The result of splitting a blossom: the parts up to the matched edge are branches, and the others
+-- are matches.
 pub record Lays (root : NestValue) (old : List BranchValue) (blossom : List PartValue)
     (way pair : Link) (outer : NestValue) (new : List BranchValue)
     (cs : List MatchValue) : Type 0 where
@@ -83,18 +87,18 @@ pub record Lays (root : NestValue) (old : List BranchValue) (blossom : List Part
       → IsTight d h pair → Each (IsFirmPart d h) blossom → IsSound d h outer →
       Each (IsFirm d h) new × Each (IsFirmMatch d h) cs
 
--- the first branch has an inner blossom of dual 0
+-- The first branch has an inner blossom of dual 0.
 abbrev pub FirstComesApart : List BranchValue → Type 0
 FirstComesApart [] = ⊥
 FirstComesApart (b ∷ bs) = (b.inner.dual ≡ 0) × (0 < length b.inner.below)
 
--- the inner set at the index is a blossom of dual 0
+-- The inner set of the branch at an index is a blossom of dual 0.
 pub record Expanding (root : NestValue) (tree : List BranchValue) (at : ℕ) : Type 0 where
   pub grown : IsGrown root.members tree
   pub once : (x : ℕ) → count x (outer_members root.members tree) + count x (inner_members tree) ≤ 1
   pub apart : FirstComesApart (drop at tree)
 
--- branches are added before that at the index, whose outer set stays
+-- Branches are inserted before the branch at an index, whose outer set stays.
 pub record GrowsAt (at : ℕ) (old new : List BranchValue) : Type 0 where
   pub before : List BranchValue
   pub branch : BranchValue
@@ -106,7 +110,7 @@ pub record GrowsAt (at : ℕ) (old new : List BranchValue) : Type 0 where
   pub same : last.outer ≡ branch.outer
   pub size : length before ≡ at
 
--- the parts of the inner set under the key are branches and matches
+-- The result of expanding: the parts of the inner set under a key are branches and matches.
 pub record Expands (key : ℕ) (root : NestValue) (old new : List BranchValue)
     (was now : List MatchValue) : Type 0 where
   pub grown : IsGrown root.members new

@@ -1,9 +1,9 @@
--- read this one first: what a matching with moats is
+-- Read this one first: a perfect matching with moats that prove it optimal.
 pub mod Matchings
 pub mod Leasts
 pub mod Tables
 pub mod TableValue
--- the rest is for the search alone
+-- The modules of the search.
 pub mod Lists
 pub mod Bands
 pub mod Values

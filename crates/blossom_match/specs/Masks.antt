@@ -1,4 +1,4 @@
--- A mask over all places shows some of them: 0 at each of these, FAR at all others.
+-- Masks over all vertices: a mask is 0 at the vertices that it shows, and FAR at all others.
 use Rattle.std.specs.Prelude.{◌≡◌, ℕ, ◌<◌, ◌≤◌, List, ◌++◌, length, max, slice_index}
 use Rattle.blossom_match.specs.Bands.{count}
 use Rattle.blossom_match.specs.Matches.{match_members}
@@ -10,33 +10,33 @@ use Rattle.blossom_match.specs.declared.least.Aim.{Aim}
 use Rattle.blossom_match.specs.declared.least.Kind.TheVariants as kind
 use Rattle.blossom_match.specs.declared.table.TheConstants.{FAR}
 
--- the mask shows the places alone
+-- A mask shows the given vertices alone.
 pub record Masks (places mask : List ℕ) : Type 0 where
   pub within : (x : ℕ) → 1 ≤ count x places → x < length mask
   pub on : (x : ℕ) → 1 ≤ count x places → slice_index mask x ≡ 0
   pub off : (x : ℕ) → x < length mask → count x places ≡ 0 → slice_index mask x ≡ FAR
 
--- over all places of the table it shows those of the search's matches
+-- A mask shows the vertices of a search's matches outside the tree.
 pub record SearchMasks (t : TableValue) (s : SearchValue) (mask : List ℕ) : Type 0 where
   pub size : length mask ≡ t.places
   pub masks : Masks (match_members s.rest) mask
 
--- the places of a branch
+-- The vertices of a branch.
 abbrev pub branch_members : BranchValue → List ℕ
 branch_members b = b.inner.members ++ b.outer.members
 
--- what is left for a place above its height, or FAR where the mask doesn't show it
+-- The slack to a vertex, or FAR where the mask doesn't show the vertex.
 abbrev pub shown : List ℕ → List ℕ → List ℕ → ℕ → ℕ
 shown hs reach mask x =
     max (lowered (slice_index hs x) (slice_index reach x)) (slice_index mask x)
 
--- so much slack is shown at a place
+-- A slack is that of some vertex under the mask.
 pub record IsShown (hs reach mask : List ℕ) (slack : ℕ) : Type 0 where
   pub place : ℕ
   pub within : place < length reach
   pub exact : slack ≡ shown hs reach mask place
 
--- the lesser of an aim and the nearest of the places that the mask shows
+-- The lesser of a candidate and the best of the vertices that the mask shows.
 abbrev pub AimsShown : List ℕ → List ℕ → List ℕ → Aim → Aim → Type 0
 AimsShown hs reach mask old new =
     (places : List ℕ) → Masks places mask → Aims hs reach kind.Grow places old new

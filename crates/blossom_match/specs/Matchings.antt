@@ -1,6 +1,7 @@
--- Perfect matchings with moats, after J. Edmonds, "Maximum matching and a polyhedron with
--- 0,1-vertices", Journal of Research of the National Bureau of Standards 69B (1965). Distances
--- count steps; widths of moats count halves of a step.
+-- Perfect matchings with an optimal dual solution, after J. Edmonds, "Maximum matching and a
+-- polyhedron with 0,1-vertices", Journal of Research of the National Bureau of Standards 69B
+-- (1965). A place is a vertex, and a moat is an odd set with its dual variable, called its width.
+-- Distances count steps; widths of moats count halves of a step.
 use Rattle.std.specs.Prelude.{◌≡◌, ◌≢◌, ◌==◌, ℕ, ◌+◌, ◌*◌, ◌%◌, ◌<◌, ◌≤◌, ◌⊎◌, Bool, true, false, not, List, length, nat_lt, if◌then◌else◌}
 use Rattle.std.specs.List.{All, AllPairs, list_any, sum_by}
 use Rattle.blossom_match.specs.Tables.{entry}
@@ -8,60 +9,62 @@ use Rattle.blossom_match.specs.TableValue.{TableValue}
 use Rattle.blossom_match.specs.declared.matching.Moat.{Moat}
 use Rattle.blossom_match.specs.declared.matching.Pair.{Pair}
 
--- how many of the pairs' ends the place is
+-- The number of pairs' ends that a place is.
 abbrev pub ends_at : List Pair → ℕ → ℕ
 ends_at pairs x = sum_by (λ (p : Pair). (if x == p.a then 1 else 0) + (if x == p.b then 1 else 0))
     pairs
 
--- each place below n is an end of exactly one pair, and no other number is an end
+-- A perfect matching: each place below n is an end of exactly one pair, and no other number is an
+-- end.
 abbrev pub PairsEach : ℕ → List Pair → Type 0
 PairsEach n pairs = (x : ℕ) → ends_at pairs x ≡ (if nat_lt x n then 1 else 0)
 
--- the place is a member of the moat
+-- A place is a member of a moat.
 abbrev pub holds : Moat → ℕ → Bool
 holds m x = list_any (λ y. x == y) m.members
 
--- an odd number of different places below n, and a width
+-- A moat over n places: an odd number of different places below n, with a width of at least 1.
 pub record IsOddMoat (n : ℕ) (m : Moat) : Type 0 where
   pub odd : length m.members % 2 ≡ 1
   pub different : AllPairs (λ x y. x ≢ y) m.members
   pub below : All (λ x. x < n) m.members
   pub wide : 1 ≤ m.width
 
--- the moat holds exactly one of the two places
+-- A moat holds exactly one of two places.
 abbrev pub crosses : ℕ → ℕ → Moat → Bool
 crosses a b m = if holds m a then not (holds m b) else holds m b
 
--- each member of the one is a member of the other
+-- Each member of the first moat is a member of the second.
 abbrev pub LiesIn : Moat → Moat → Type 0
 LiesIn m k = (x : ℕ) → holds m x ≡ true → holds k x ≡ true
 
--- no place is a member of both
+-- Two moats have no common member.
 abbrev pub LiesBeside : Moat → Moat → Type 0
 LiesBeside m k = (x : ℕ) → holds m x ≡ true → holds k x ≡ false
 
--- two moats differ in some place, and are nested or disjoint
+-- Two moats have different members, and are nested or disjoint.
 pub record AreLaminar (m k : Moat) : Type 0 where
   pub differ : (x : ℕ) × (holds m x ≢ holds k x)
   pub lie : LiesIn m k ⊎ LiesIn k m ⊎ LiesBeside m k
 
--- the widths of the moats that hold exactly one of the two places
+-- The load on two places: the widths of the moats that hold exactly one of them, added up.
 abbrev pub load_on : List Moat → ℕ → ℕ → ℕ
 load_on moats a b = sum_by (λ (m : Moat). if crosses a b m then m.width else 0) moats
 
--- no two places carry more than two halves for each step between them
+-- A dual feasible list of moats: no load exceeds two halves for each step of the distance.
 abbrev pub KeepsLoads : TableValue → List Moat → Type 0
 KeepsLoads t moats = (a b : ℕ) → a < t.places → b < t.places → load_on moats a b ≤ 2 * entry t a b
 
--- the distances of all pairs
+-- The cost of a list of pairs: the distances of all pairs, added up.
 abbrev pub cost_of : TableValue → List Pair → ℕ
 cost_of t pairs = sum_by (λ (p : Pair). entry t p.a p.b) pairs
 
--- all widths
+-- The total width of a list of moats.
 abbrev pub width_of : List Moat → ℕ
 width_of moats = sum_by (λ (m : Moat). m.width) moats
 
--- a matching of all places with moats that use up twice its cost
+-- A perfect matching whose moats are a feasible dual solution of twice its cost. By duality no
+-- perfect matching costs less.
 pub record IsMatching (t : TableValue) (pairs : List Pair) (moats : List Moat) : Type 0 where
   pub paired : PairsEach t.places pairs
   pub odd : All (IsOddMoat t.places) moats

@@ -1,4 +1,4 @@
--- One search after another, until no place is free.
+-- One search after another, until no vertex is free.
 use Rattle.std.specs.Prelude.{◌≡◌, ℕ, ◌+◌, ◌<◌, List, [], length, slice_index}
 use Rattle.blossom_match.specs.Blossoms.{single_of}
 use Rattle.blossom_match.specs.Searches.{size_of, Advances, Ends, IsStanding}
@@ -15,22 +15,22 @@ use Rattle.blossom_match.specs.declared.state.Standing.{Standing}
 use Rattle.blossom_match.specs.declared.phase.Stepped.{Stepped}
 use Rattle.blossom_match.specs.declared.phase.Stepped.TheVariants.{More, Done}
 
--- matches and free places with the heights that they make
+-- A dual feasible partial matching with stored heights, one for each vertex of the table.
 pub record Stands (t : TableValue) (matches : List MatchValue)
     (free heights : List ℕ) : Type 0 where
   pub standing : IsStanding t (λ x. slice_index heights x) matches free
   pub size : length heights ≡ t.places
 
--- so does what stands between two searches
+-- A dual feasible partial matching between two searches.
 abbrev pub StandsAt : TableValue → Standing → Type 0
 StandsAt t s = Stands t (matches_in s.sets s.matches.items) s.free.items s.heights.items
 
--- matches that hold all places
+-- Matches that hold all vertices.
 pub record IsMatched (t : TableValue) (matches : List MatchValue) : Type 0 where
   pub heights : List ℕ
   pub stands : Stands t matches [] heights
 
--- the search of a single place
+-- A search whose tree is a single free vertex, the root.
 pub record Begins (t : TableValue) (place : ℕ) (matches : List MatchValue) (places prices : List ℕ)
     (s : SearchValue) : Type 0 where
   pub table : IsTable t
@@ -40,23 +40,24 @@ pub record Begins (t : TableValue) (place : ℕ) (matches : List MatchValue) (pl
   pub rest : s.rest ≡ matches
   pub free : s.free ≡ places
 
--- what the step leads to
+-- The result of a step: another search, or a partial matching at its end.
 abbrev pub Leads : TableValue → SearchValue → Step → Stepped → Type 0
 Leads t s step (More r) = Advances s step (search_value r)
 Leads t s step (Done r) = Ends t s step (standing_value r)
 
--- a search with fewer sets outside the outer ones, or its end
+-- The progress of a step: a search with fewer sets outside the outer ones, or the end of the
+-- search.
 abbrev pub Goes : TableValue → SearchValue → Stepped → Type 0
 Goes t s (More r) = CanSearch t (search_value r) × (size_of (search_value r) < size_of s)
     × (r.free.items ≡ s.free)
 Goes t s (Done r) = StandsAt t r × (length r.free.items + 1 ≡ length s.free)
 
--- the matches that the mask shows after the step
+-- After a step the mask shows the matches outside the tree, unless the search has ended.
 abbrev pub StepMasks : TableValue → Stepped → List ℕ → Type 0
 StepMasks t (More r) mask = SearchMasks t (search_value r) mask
 StepMasks t (Done r) mask = Unit {0}
 
--- what is left for each place after the step
+-- After a step the array has the least slacks from the outer vertices, unless the search has ended.
 abbrev pub StepReaches : TableValue → Stepped → List ℕ → Type 0
 StepReaches t (More r) reach = SearchReaches t (search_value r) reach
 StepReaches t (Done r) reach = length reach ≡ t.places

@@ -1,4 +1,5 @@
--- Prices at which free places begin, in halves of a step.
+-- The initial duals of vertices, in halves of a step. The initial dual of a free vertex is named
+-- `price`.
 use Rattle.std.specs.Prelude.{◌≡◌, ◌≢◌, ℕ, ◌+◌, ◌*◌, ◌<◌, ◌≤◌, List, length, slice_index}
 use Rattle.blossom_match.specs.Bands.{count}
 use Rattle.blossom_match.specs.Phases.{Stands}
@@ -6,39 +7,40 @@ use Rattle.blossom_match.specs.TableValue.{TableValue}
 use Rattle.blossom_match.specs.Tables.{entry}
 use Rattle.blossom_match.specs.Values.{StandingValue}
 
--- at the price the slack between the place and each other isn't negative
+-- With the given dual the slack between the vertex and each other isn't negative.
 abbrev pub LeavesSlack : TableValue → List ℕ → ℕ → ℕ → Type 0
 LeavesSlack t heights place price = (b : ℕ) → b < t.places → place ≢ b
     → price + slice_index heights b ≤ 2 * entry t place b
 
--- no price is more than a distance
+-- No dual exceeds the distance to any other vertex.
 abbrev pub AreHalves : TableValue → List ℕ → Type 0
 AreHalves t prices = (a b : ℕ) → a < t.places → b < t.places → a ≢ b
     → slice_index prices a ≤ entry t a b
 
--- the place and the free ones are places, and the slack between them isn't negative
+-- The given vertex and the free ones are vertices of the table, and the slack between them isn't
+-- negative.
 pub record Lies (t : TableValue) (heights free : List ℕ) (place : ℕ) : Type 0 where
   pub within : place < t.places
   pub others : (b : ℕ) → 1 ≤ count b free → b < t.places
   pub slack : LeavesSlack t heights place (slice_index heights place)
 
--- the prices of two different places use up their distance
+-- Two different vertices whose heights add up to twice their distance.
 pub record IsTightPair (t : TableValue) (heights : List ℕ) (a b : ℕ) : Type 0 where
   pub differ : a ≢ b
   pub tight : slice_index heights a + slice_index heights b ≡ 2 * entry t a b
 
--- a free place to which the prices leave no slack
+-- A free vertex with a tight edge to the given vertex.
 pub record FindsTight (t : TableValue) (heights free : List ℕ) (place other : ℕ) : Type 0 where
   pub here : 1 ≤ count other free
   pub pair : IsTightPair t heights place other
 
--- two free places whose prices use up their distance
+-- Two free vertices with a tight edge between them.
 pub record CanPair (t : TableValue) (place other : ℕ) (s : StandingValue) : Type 0 where
   pub stands : Stands t s.matches s.free s.heights
   pub here : 1 ≤ count place s.free
   pub found : FindsTight t s.heights s.free place other
 
--- both places are in a match
+-- Both vertices are matched, and two free ones fewer are left.
 pub record Pairs (t : TableValue) (s r : StandingValue) : Type 0 where
   pub stands : Stands t r.matches r.free r.heights
   pub fewer : length r.free + 2 ≡ length s.free

@@ -1,4 +1,6 @@
--- How near the outer places are to each place, in halves of a step.
+-- The least slack from the outer vertices to each vertex, in halves of a step. A slack here is
+-- twice the distance less the height of the outer vertex; the height of the far vertex is not yet
+-- taken. The array of these slacks is named `reach`.
 use Rattle.std.specs.Prelude.{◌≡◌, ℕ, ◌-◌, ◌*◌, ◌<◌, ◌≤◌, ◌⊎◌, List, ◌++◌, length, slice_index}
 use Rattle.blossom_match.specs.Lists.{Each}
 use Rattle.blossom_match.specs.Bands.{NestValue, count}
@@ -10,18 +12,18 @@ use Rattle.blossom_match.specs.Tables.{entry}
 use Rattle.blossom_match.specs.declared.table.TheConstants.{FAR}
 use Rattle.blossom_match.specs.Values.{BranchValue, SearchValue}
 
--- what the height of a leaves for x
+-- The slack from a to x, before the height of x is taken.
 abbrev pub left_by : TableValue → List ℕ → ℕ → ℕ → ℕ
 left_by t hs a x = 2 * entry t a x - slice_index hs a
 
--- one of the places leaves so much for x
+-- A value is the slack from one of the given vertices to x.
 pub record IsLeft (t : TableValue) (hs xs : List ℕ) (x left : ℕ) : Type 0 where
   pub a : ℕ
   pub here : 1 ≤ count a xs
   pub exact : left ≡ left_by t hs a x
 
--- each cell outside the set of the places becomes the least of what it was and what the places
--- leave; those of the set stay
+-- Each cell outside a set becomes the minimum of its old value and of the slacks from the set; the
+-- cells of the set stay.
 pub record TakesSet (t : TableValue) (hs xs old new : List ℕ) : Type 0 where
   pub size : length new ≡ length old
   pub kept : (x : ℕ) → x < t.places → 1 ≤ count x xs → slice_index new x ≡ slice_index old x
@@ -31,7 +33,7 @@ pub record TakesSet (t : TableValue) (hs xs old new : List ℕ) : Type 0 where
   pub is : (x : ℕ) → x < t.places → count x xs ≡ 0
       → (slice_index new x ≡ slice_index old x) ⊎ IsLeft t hs xs x (slice_index new x)
 
--- an outer place that no outer set holds together with x leaves so much for it
+-- A value is the slack to x from an outer vertex that shares no outer set with x.
 pub record IsReached (t : TableValue) (hs : List ℕ) (root : NestValue) (tree : List BranchValue)
     (x left : ℕ) : Type 0 where
   pub a : ℕ
@@ -39,7 +41,7 @@ pub record IsReached (t : TableValue) (hs : List ℕ) (root : NestValue) (tree :
   pub apart : holding a x root tree ≡ 0
   pub exact : left ≡ left_by t hs a x
 
--- each cell has the least that the outer places of other sets leave
+-- Each cell has the least slack from the outer vertices of other sets, or FAR.
 pub record Reaches (t : TableValue) (hs : List ℕ) (root : NestValue) (tree : List BranchValue)
     (reach : List ℕ) : Type 0 where
   pub size : length reach ≡ t.places
@@ -49,44 +51,44 @@ pub record Reaches (t : TableValue) (hs : List ℕ) (root : NestValue) (tree : L
   pub is : (x : ℕ) → x < t.places
       → (slice_index reach x ≡ FAR) ⊎ IsReached t hs root tree x (slice_index reach x)
 
--- so has each cell over the sets of a search
+-- Each cell has the least slack from the outer vertices of a search.
 abbrev pub SearchReaches : TableValue → SearchValue → List ℕ → Type 0
 SearchReaches t s reach = Reaches t s.heights s.root s.tree reach
 
--- heights for all places of the table, and different outer places
+-- The heights have a cell for each vertex of the table, and the outer vertices are different.
 pub record CanReach (t : TableValue) (hs : List ℕ) (root : NestValue)
     (tree : List BranchValue) : Type 0 where
   pub cells : length hs ≡ t.places
   pub within : (x : ℕ) → 1 ≤ count x (outer_members root.members tree) → x < t.places
   pub once : (x : ℕ) → count x (outer_members root.members tree) ≤ 1
 
--- different outer places, and sound sets
+-- The outer vertices are different, and the root and all branches are sound.
 pub record CanTake (t : TableValue) (hs : List ℕ) (root : NestValue)
     (tree : List BranchValue) : Type 0 where
   pub once : (x : ℕ) → count x (outer_members root.members tree) ≤ 1
   pub sound : IsSound t (λ x. slice_index hs x) root
   pub firm : Each (IsFirm t (λ x. slice_index hs x)) tree
 
--- so has a search
+-- The outer sets of a search are sound and disjoint.
 abbrev pub CanTakeAll : TableValue → SearchValue → Type 0
 CanTakeAll t s = CanTake t s.heights s.root s.tree
 
--- the set's row has n cells
+-- The slack row of a set has n cells.
 abbrev pub HasRow : ℕ → NestValue → Type 0
 HasRow n s = length s.near ≡ n
 
--- so it has for some table, with a cell for each place
+-- For some table the outer sets of a search are sound, and the array has a cell for each vertex.
 pub record IsReachable (s : SearchValue) (cells : List ℕ) : Type 0 where
   pub t : TableValue
   pub can : CanTakeAll t s
   pub size : length cells ≡ t.places
 
--- the root and the outer sets are taken in
+-- The array has the least slacks from the root and the outer sets of the tree.
 abbrev pub ReachesOuters : NestValue → List BranchValue → List ℕ → Type 0
 ReachesOuters root tree new = (t : TableValue) (hs : List ℕ) → CanTake t hs root tree
     → length new ≡ t.places → Reaches t hs root tree new
 
--- the outer sets of the branches are taken in beside those of others
+-- The slacks from the outer sets of the added branches are merged into the array.
 abbrev pub ReachesOn : List BranchValue → List ℕ → List ℕ → Type 0
 ReachesOn added old new = (t : TableValue) (hs : List ℕ) (root : NestValue)
     (tree : List BranchValue)

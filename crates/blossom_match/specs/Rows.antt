@@ -1,5 +1,7 @@
--- What a set leaves for each place outside it, in halves of a step. A row has a cell for each place
--- of the table; it is made with its set and never changes, whatever duals do.
+-- The slacks from a set to each vertex outside it, in halves of a step. A slack of a row is twice
+-- the distance, less the duals inside the set. The set's own dual and the height of the far vertex
+-- are not yet taken. A row has a cell for each vertex of the table. Rows are made with their set
+-- and never change, whatever the duals do.
 use Rattle.std.specs.Prelude.{◌≡◌, ℕ, ◌-◌, ◌*◌, ◌==◌, ◌<◌, ◌≤◌, List, length, map, min, nat_lt, slice_index, if◌then◌else◌}
 use Rattle.std.specs.List.{range_with_len}
 use Rattle.blossom_match.specs.Bands.{Row, count, height}
@@ -7,27 +9,27 @@ use Rattle.blossom_match.specs.TableValue.{TableValue}
 use Rattle.blossom_match.specs.Tables.{entry}
 use Rattle.blossom_match.specs.declared.table.TheConstants.{FAR}
 
--- what is left once the dual is taken; FAR stays
+-- A slack less a dual, at least 0; FAR stays FAR.
 abbrev pub lowered : ℕ → ℕ → ℕ
 lowered by left = if nat_lt left FAR then left - by else left
 
--- each cell becomes the lesser of what it was and what the row leaves over the dual
+-- Each cell becomes the minimum of its old value and of the row's slack less the dual.
 abbrev pub Merges : List ℕ → ℕ → List ℕ → List ℕ → Type 0
 Merges near dual old new = (x : ℕ) → x < length near
     → slice_index new x ≡ min (lowered dual (slice_index near x)) (slice_index old x)
 
--- so much is left for each of the places, and no other cell changes
+-- The cells of the given vertices have the given value, and no other cell changes.
 pub record Puts (left : ℕ) (places old new : List ℕ) : Type 0 where
   pub on : (x : ℕ) → 1 ≤ count x places → slice_index new x ≡ left
   pub off : (x : ℕ) → count x places ≡ 0 → slice_index new x ≡ slice_index old x
 
--- one of the row's members leaves so much for x over the duals of the sets inside
+-- A value is the slack from some member of a row to x, less the duals of the sets inside.
 pub record IsLeftBy (t : TableValue) (r : Row) (x left : ℕ) : Type 0 where
   pub a : ℕ
   pub here : 1 ≤ count a r.members
   pub exact : left ≡ 2 * entry t a x - height a r.below
 
--- the row has the least that a member leaves for each place outside the set, and FAR at the members
+-- A row has the least slack of a member for each vertex outside the set, and FAR at the members.
 pub record IsNear (t : TableValue) (r : Row) : Type 0 where
   pub size : length r.cells ≡ t.places
   pub own : (x : ℕ) → 1 ≤ count x r.members → x < t.places → slice_index r.cells x ≡ FAR
@@ -36,10 +38,10 @@ pub record IsNear (t : TableValue) (r : Row) : Type 0 where
       → slice_index r.cells x ≤ 2 * entry t a x - height a r.below
   pub is : (x : ℕ) → count x r.members ≡ 0 → x < t.places → IsLeftBy t r x (slice_index r.cells x)
 
--- what a single place leaves for x
+-- The slack from a single vertex to x.
 abbrev pub single_cell : TableValue → ℕ → ℕ → ℕ
 single_cell t place x = if x == place then FAR else 2 * entry t place x
 
--- the row of a single place
+-- The slack row of a single vertex.
 abbrev pub single_row : TableValue → ℕ → List ℕ
 single_row t place = map (single_cell t place) (range_with_len 0 t.places)

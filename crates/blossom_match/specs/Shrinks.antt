@@ -1,4 +1,4 @@
--- A link between two outer sets closes a blossom.
+-- Shrinking: an edge between two outer sets closes a blossom, which becomes one outer set.
 use Rattle.std.specs.Prelude.{◌≡◌, ℕ, ◌+◌, ◌*◌, ◌%◌, ◌<◌, ◌≤◌, List, [], ◌∷◌, ◌++◌, length, reverse}
 use Rattle.blossom_match.specs.TableValue.{TableValue}
 use Rattle.blossom_match.specs.Lists.{Each}
@@ -10,24 +10,25 @@ use Rattle.blossom_match.specs.Trees.{around, both, branch_bands, inner_bands, o
 use Rattle.blossom_match.specs.declared.nest.Link.{Link}
 use Rattle.blossom_match.specs.Values.{BranchValue, PartValue}
 
--- a way in, a chain of parts, and the place that its last link leads to
+-- A chain of parts, entered by the edge `way`, whose last edge leads to the vertex `to`.
 abbrev pub Leads : Link → List PartValue → ℕ → Type 0
 Leads way [] to = way.to ≡ to
 Leads way (p ∷ ps) to = (count way.to p.nest.members ≡ 1) × (count p.next.from p.nest.members ≡ 1)
     × Leads p.next ps to
 
--- a part and a branch by their fields
+-- A part made of a set and the edge from it.
 abbrev pub part_of : NestValue → Link → PartValue
 part_of s link = record { nest = s; next = link }
 
+-- A branch made of its fields.
 abbrev pub branch_of : Link → NestValue → Link → NestValue → BranchValue
 branch_of up inner pair outer = record { up = up; inner = inner; pair = pair; outer = outer }
 
--- the set that the set at the top and the chain make
+-- The blossom of a chain and the set `top` that both its ends are in.
 abbrev pub blossom_value : ℕ → NestValue → Link → List PartValue → NestValue
 blossom_value key top way chain = blossom_of key (record { nest = top; next = way } ∷ chain)
 
--- a chain that begins and ends at the set at the top
+-- A chain that begins and ends at the set `top`, and closes an odd cycle with it.
 pub record Closable (top : NestValue) (way : Link) (chain : List PartValue) (to : ℕ) : Type 0 where
   pub leads : Leads way chain to
   pub from : count way.from top.members ≡ 1
@@ -37,7 +38,8 @@ pub record Closable (top : NestValue) (way : Link) (chain : List PartValue) (to 
   pub kept : AllKept chain
   pub rows : HaveRows (length top.near) (record { nest = top; next = way } ∷ chain)
 
--- a tight link between places of two outer sets of a sound tree
+-- A search can shrink by an edge: the edge is tight, and leads between two outer sets of a sound
+-- tree.
 pub record Shrinking (link : Link) (root : NestValue) (tree : List BranchValue) : Type 0 where
   pub grown : IsGrown root.members tree
   pub from : 1 ≤ count link.from (outer_members root.members tree)
@@ -53,7 +55,8 @@ pub record Shrinking (link : Link) (root : NestValue) (tree : List BranchValue) 
   pub sound : IsSound t h root
   pub firm : Each (IsFirm t h) tree
 
--- the blossom that the link closes is one outer set under the key, of dual 0
+-- The result of shrinking: the blossom that the edge closes is one outer set under a key, with dual
+-- 0.
 pub record Shrinks (key : ℕ) (link : Link) (root new_root : NestValue)
     (old new : List BranchValue) : Type 0 where
   pub grown : IsGrown new_root.members new
@@ -69,7 +72,7 @@ pub record Shrinks (key : ℕ) (link : Link) (root new_root : NestValue)
       → Each (IsFirm d h) old →
       IsSound d h new_root × Each (IsFirm d h) new
 
--- the tree that is left, the chain so far and the branches set aside
+-- The loop invariant of shrinking: the tree that is left, the chain, and the branches set aside.
 pub record Chaining (link : Link) (root : NestValue) (tree left : List BranchValue)
     (chain : List PartValue)
     (aside : List BranchValue) (way : Link) (to : ℕ) : Type 0 where

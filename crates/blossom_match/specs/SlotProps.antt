@@ -1,4 +1,4 @@
--- That sets stand in slots is a fact, so that a type can keep it.
+-- Proofs that IsSet is a proposition, so that a type can have it as a field.
 use Rattle.std.specs.Prelude.{ℕ, zero, suc, List, [], ◌∷◌}
 use Rattle.std.proofs.Props.{props}
 use Rattle.blossom_match.specs.Lists.{Each}

@@ -1,5 +1,5 @@
--- Odd sets in the slots of a slab. A slot keeps what doesn't change while its set stands, and names
--- the parts of a blossom by key; a dual stands with the name of its set.
+-- Odd sets stored in a slab. A slot has what doesn't change while its set exists, and refers to the
+-- parts of a blossom by key. The dual is stored beside the key, in the handle.
 use Rattle.std.specs.Prelude.{◌≡◌, ◌≢◌, ℕ, zero, suc, ◌≤◌, List, [], ◌∷◌, map, length, Option, Some, None}
 use Rattle.slab.specs.Slab.{Slab, get, ContainsKey}
 use Rattle.blossom_match.specs.Lists.{Each}
@@ -13,34 +13,38 @@ use Rattle.blossom_match.specs.declared.nest.Slot.{Slot}
 use Rattle.blossom_match.specs.declared.matches.Match.{Match}
 use Rattle.blossom_match.specs.declared.branches.Branch.{Branch}
 
--- the slots in which sets stand, by key
+-- A slab of odd sets, by key.
 abbrev pub Slots : Type 0
 Slots = Slab Slot
 
--- what a slot keeps; where there is none, no members and no parts
+-- The members in a slot; none where there is no slot.
 abbrev pub members_of : Option Slot → List ℕ
 members_of None = []
 members_of (Some s) = s.members.items
 
+-- The slack row in a slot; none where there is no slot.
 abbrev pub near_of : Option Slot → List ℕ
 near_of None = []
 near_of (Some s) = s.near.items
 
+-- The parts in a slot; none where there is no slot.
 abbrev pub parts_of : Option Slot → List Part
 parts_of None = []
 parts_of (Some s) = s.parts.items
 
--- what the slot under the key keeps
+-- The members of the set under a key.
 abbrev pub members_at : Slots → ℕ → List ℕ
 members_at sets key = members_of (get sets key)
 
+-- The slack row of the set under a key.
 abbrev pub near_at : Slots → ℕ → List ℕ
 near_at sets key = near_of (get sets key)
 
+-- The parts of the set under a key.
 abbrev pub parts_at : Slots → ℕ → List Part
 parts_at sets key = parts_of (get sets key)
 
--- a part with these sets inside
+-- The value of a part, with the given sets inside.
 abbrev pub with_inside : Slots → Part → List PartValue → PartValue
 with_inside sets p inside = record {
   nest = nest_of p.seat.key (members_at sets p.seat.key) p.seat.dual (near_at sets p.seat.key)
@@ -48,21 +52,22 @@ with_inside sets p inside = record {
   next = p.next;
 }
 
--- a part with so many levels of sets inside
+-- The value of a part, with n levels of sets inside.
 abbrev pub part_to : ℕ → Slots → Part → PartValue
 part_to zero sets p = with_inside sets p []
 part_to (suc n) sets p = with_inside sets p (map (part_to n sets) (parts_at sets p.seat.key))
 
--- the set of a seat. A part has fewer members than the whole, so that there are no more levels than
--- members.
+-- The odd set of a handle. A part has fewer members than its blossom, so the levels are at most as
+-- many as the members.
 abbrev pub set_in : Slots → Seat → NestValue
 set_in sets s = nest_of s.key (members_at sets s.key) s.dual (near_at sets s.key)
     (map (part_to (length (members_at sets s.key)) sets) (parts_at sets s.key))
 
--- a part, a match and a branch with the sets of their seats
+-- The value of a part.
 abbrev pub part_in : Slots → Part → PartValue
 part_in sets p = record { nest = set_in sets p.seat; next = p.next }
 
+-- The value of a match.
 abbrev pub match_in : Slots → Match → MatchValue
 match_in sets c = record {
   first = set_in sets c.first;
@@ -70,6 +75,7 @@ match_in sets c = record {
   link = c.link;
 }
 
+-- The value of a branch.
 abbrev pub branch_in : Slots → Branch → BranchValue
 branch_in sets b = record {
   up = b.up;
@@ -78,28 +84,30 @@ branch_in sets b = record {
   outer = set_in sets b.outer;
 }
 
--- the set of a seat, if there is one
+-- The odd set of a handle, if there is one.
 abbrev pub core_in : Slots → Option Seat → Option NestValue
 core_in sets None = None
 core_in sets (Some s) = Some (set_in sets s)
 
--- so of all parts, matches and branches
+-- The values of all parts.
 abbrev pub parts_in : Slots → List Part → List PartValue
 parts_in sets ps = map (part_in sets) ps
 
+-- The values of all matches.
 abbrev pub matches_in : Slots → List Match → List MatchValue
 matches_in sets cs = map (match_in sets) cs
 
+-- The values of all branches.
 abbrev pub branches_in : Slots → List Branch → List BranchValue
 branches_in sets bs = map (branch_in sets) bs
 
--- the row of a blossom has the least that its parts leave over their duals
+-- The slack row of a blossom has the least slacks of its parts, less their duals.
 abbrev pub IsRowOf : List ℕ → List PartValue → Type 0
 IsRowOf near [] = Unit {0}
 IsRowOf near (p ∷ ps) = near ≡ blossom_row (p ∷ ps)
 
--- the slot under the key has one place or a blossom with its row, and so have those of its parts,
--- so many levels down
+-- The slot under a key has one vertex, or a blossom with its slack row; likewise the slots of its
+-- parts, n levels down.
 abbrev pub IsSetTo : ℕ → Slots → ℕ → Type 0
 IsSetTo zero sets key = ⊥
 IsSetTo (suc n) sets key = ContainsKey sets key
@@ -107,20 +115,20 @@ IsSetTo (suc n) sets key = ContainsKey sets key
     × Each (λ (p : Part). IsSetTo n sets p.seat.key) (parts_at sets key)
     × IsRowOf (near_at sets key) (parts_in sets (parts_at sets key))
 
--- so on all levels: there are no more than members
+-- The slot under a key has an odd set, on all levels.
 pub record IsSet (sets : Slots) (key : ℕ) : Type 0 where
   pub to : (n : ℕ) → length (members_at sets key) ≤ n → IsSetTo n sets key
 
--- all sets stand in slots, no two under one key
+-- All sets of a list are in slots, no two of them under one key.
 pub record AreSets (sets : Slots) (bands : List Band) : Type 0 where
   pub each : (k : ℕ) → 1 ≤ uses k bands → IsSet sets k
   pub once : (k : ℕ) → uses k bands ≤ 1
 
--- every other key keeps its slot
+-- Every other key keeps its slot.
 abbrev pub KeepOthers : Slots → Slots → ℕ → Type 0
 KeepOthers old new key = (k : ℕ) → k ≢ key → get new k ≡ get old k
 
--- a set more, under a key that none had
+-- A set is inserted under a key that wasn't in use.
 pub record Inserts (old new : Slots) (key : ℕ) : Type 0 where
   pub fresh : get old key ≡ None
   pub others : KeepOthers old new key

@@ -1,9 +1,10 @@
--- A search and what stands between searches, with the sets of their slots.
+-- The values of a search and of a partial matching, with the odd sets of their slots.
 use Rattle.blossom_match.specs.Slots.{matches_in, branches_in, set_in}
 use Rattle.blossom_match.specs.Values.{SearchValue, StandingValue}
 use Rattle.blossom_match.specs.declared.state.Search.{Search}
 use Rattle.blossom_match.specs.declared.state.Standing.{Standing}
 
+-- The value of a search.
 abbrev pub search_value : Search → SearchValue
 search_value s = record {
   root = set_in s.sets s.root;
@@ -13,6 +14,7 @@ search_value s = record {
   heights = s.heights.items;
 }
 
+-- The value of a partial matching.
 abbrev pub standing_value : Standing → StandingValue
 standing_value s = record {
   matches = matches_in s.sets s.matches.items;

@@ -1,7 +1,7 @@
--- A table of distances as contracts see it.
+-- The value of a table of distances in contracts.
 use Rattle.std.specs.Prelude.{ℕ, List}
 
--- how many places there are, and their rows one after another
+-- A table of distances: the number of its places, and its rows one after another.
 pub record TableValue : Type 0 where
   pub places : ℕ
   pub cells : List ℕ

@@ -1,4 +1,4 @@
--- What taking sets apart adds to the pairs and the moats.
+-- The pairs and moats that taking odd sets apart adds.
 use Rattle.std.specs.Prelude.{◌≡◌, ℕ, ◌+◌, ◌*◌, ◌%◌, ◌≤◌, List, [], ◌∷◌, ◌++◌, length, nat_lt, if◌then◌else◌}
 use Rattle.blossom_match.specs.Lists.{Each, EachPair}
 use Rattle.blossom_match.specs.Bands.{NestValue, bands, count, height, hit, load, total, IsPaid}
@@ -9,23 +9,23 @@ use Rattle.blossom_match.specs.declared.matching.Moat.{Moat}
 use Rattle.blossom_match.specs.declared.matching.Pair.{Pair}
 use Rattle.blossom_match.specs.Values.{MatchValue}
 
--- a moat for the set, unless its dual is 0
+-- The moat of a set; none where its dual is 0.
 abbrev pub own_moat : List ℕ → ℕ → List Moat
 own_moat members width = if nat_lt 0 width then record { members = members; width = width } ∷ []
     else []
 
--- an odd set with a dual whose members are among the places
+-- An odd set with a width, whose members are among the given vertices.
 pub record IsOddIn (places : List ℕ) (m : Moat) : Type 0 where
   pub odd : length m.members % 2 ≡ 1
   pub within : (x : ℕ) → count x m.members ≤ count x places
   pub wide : 1 ≤ m.width
 
--- odd sets among the places, each two of them nested or disjoint and different
+-- Odd sets among the given vertices, all different, and each two of them nested or disjoint.
 pub record LieIn (places : List ℕ) (moats : List Moat) : Type 0 where
   pub each : Each (IsOddIn places) moats
   pub apart : EachPair AreLaminar moats
 
--- the pairs inside a set whose member `left` is paired outside, and its moats
+-- The pairs inside a set and its moats are appended, where its member `left` is paired outside.
 pub record TakesNest (left : ℕ) (s : NestValue) (old new : List Pair)
     (was now : List Moat) : Type 0 where
   pub paid : (t : TableValue) → IsPaid t s.tolls → 2 * cost_of t new + height left (bands s)
@@ -37,7 +37,7 @@ pub record TakesNest (left : ℕ) (s : NestValue) (old new : List Pair)
   pub is : now ≡ was ++ moats
   pub lie : LieIn s.members moats
 
--- the pairs of the matches and inside them, and their moats
+-- The pairs of the matches, the pairs inside them and their moats are appended.
 pub record TakesMatches (cs : List MatchValue) (old new : List Pair)
     (was now : List Moat) : Type 0 where
   pub paid : (t : TableValue) → Each (IsSettled t) cs → 2 * cost_of t new
@@ -49,7 +49,7 @@ pub record TakesMatches (cs : List MatchValue) (old new : List Pair)
   pub is : now ≡ was ++ moats
   pub lie : LieIn (match_members cs) moats
 
--- so far, with the matches that are left
+-- The loop invariant of taking matches apart, with the matches that remain.
 pub record Taking (all left : List MatchValue) (old now : List Pair)
     (was so_far : List Moat) : Type 0 where
   pub joined : Each IsJoined left

@@ -10,8 +10,8 @@ use crate::least::Change;
 use crate::nest::{Seat, Sets};
 use crate::state::Search;
 
-/// Raises the duals of the outer sets and lowers those of the inner ones, so that the step of the change can be
-/// done.
+/// Raises the duals of the outer sets and lowers those of the inner ones, so that the step of the change can
+/// be made.
 pub fn adjust(s: Search, change: Change) -> Search
     requires { CanAdjust (search_value s) change }
     ensures adjusts { Adjusts (search_value s) change (search_value result) }
@@ -20,6 +20,7 @@ pub fn adjust(s: Search, change: Change) -> Search
     change_duals(s, change.by)
 }
 
+/// Changes all duals and heights of a search.
 fn change_duals(s: Search, by: u32) -> Search
     requires root { s.root.dual + by < 2 ^ 32 }
     requires tree { Each (CanChange by) (branches_in s.sets s.tree.items) }
@@ -52,7 +53,7 @@ fn change_duals(s: Search, by: u32) -> Search
     }
 }
 
-/// Raises the places of the outer sets, and lowers those of the inner sets.
+/// Raises the heights of the outer vertices, and lowers those of the inner ones.
 fn change_heights(sets: &Sets, root: Seat, tree: &[Branch], by: u32, heights: &mut [u32])
     requires { CanChangeHeights by (set_in sets.now root) (branches_in sets.now tree.now) heights.old }
     ensures moves { Moves by (set_in sets.now root) (branches_in sets.now tree.now) heights.old heights.new }
@@ -63,7 +64,7 @@ fn change_heights(sets: &Sets, root: Seat, tree: &[Branch], by: u32, heights: &m
     lower_inners(sets, tree, by, heights);
 }
 
-/// Raises the dual of the outer set of each branch and lowers that of the inner one.
+/// Raises the outer dual of each branch and lowers the inner one.
 fn change_branches(tree: &mut [Branch], by: u32)
     requires { Each (CanResize by) tree.old }
     ensures { tree.new ≡ map (resized by) tree.old }

@@ -13,7 +13,7 @@ use design_model::Memory;
 use std::alloc::Global;
 use std::collections::VecDeque;
 
-/// The index of the part that holds the place.
+/// Returns the index of the part that holds a vertex.
 pub fn part_with(sets: &Sets, parts: &[Part], place: u32) -> usize
     requires { 1 ≤ count place (members_in (parts_in sets.now parts.now)) }
     ensures within { result < length parts.now }
@@ -27,7 +27,7 @@ pub fn part_with(sets: &Sets, parts: &[Part], place: u32) -> usize
     unreachable!()
 }
 
-/// The blossom told from the part that holds the place.
+/// Rotates a blossom so that the part that holds a vertex comes first.
 pub fn turned_to(sets: &Sets, parts: Vec<Part>, place: u32) -> Vec<Part>
     requires { 1 ≤ count place (members_in (parts_in sets.now parts.items)) }
     ensures turned { IsTurned (parts_in sets.now parts.items) (parts_in sets.now result.items) }
@@ -39,7 +39,7 @@ pub fn turned_to(sets: &Sets, parts: Vec<Part>, place: u32) -> Vec<Part>
     blossom
 }
 
-/// The parts of a chain as a vector.
+/// Returns the parts of a chain as a vector.
 pub fn listed(alloc: Global, chain: VecDeque<Part>) -> Result<Vec<Part>, Memory>
     ensures { IfOk result (λ ps. ps.items ≡ chain.items) }
 {
@@ -51,7 +51,7 @@ pub fn listed(alloc: Global, chain: VecDeque<Part>) -> Result<Vec<Part>, Memory>
     Ok(parts)
 }
 
-/// What a blossom of the parts leaves for each place outside it.
+/// Returns the slack row of a blossom of the parts.
 pub fn row_of(
     alloc: Global,
     sets: &Sets,
@@ -68,6 +68,7 @@ pub fn row_of(
     Ok(row)
 }
 
+/// Returns the slack row of a blossom, with n cells.
 fn row_for(
     alloc: Global,
     n: usize,
@@ -84,7 +85,7 @@ fn row_for(
     Ok(row)
 }
 
-/// Makes the row in cells that are all far.
+/// Computes the slack row in cells that are all FAR.
 fn fill(sets: &Sets, parts: &[Part], members: &[u32], cells: &mut [u32])
     requires rows { HaveRows (length cells.old) (parts_in sets.now parts.now) }
     requires members { members.now ≡ members_in (parts_in sets.now parts.now) }
@@ -95,7 +96,7 @@ fn fill(sets: &Sets, parts: &[Part], members: &[u32], cells: &mut [u32])
     put(FAR, members, cells);
 }
 
-/// The least that the parts leave over their duals.
+/// Computes the least slacks of the parts, less their duals.
 fn merge_all(sets: &Sets, parts: &[Part], cells: &mut [u32])
     requires rows { Each (λ p. length p.nest.near ≡ length cells.old) (parts_in sets.now parts.now) }
     requires far { (x : ℕ) → x < length cells.old → slice_index cells.old x ≡ FAR }

@@ -6,8 +6,8 @@ use crate::matches::Match;
 use crate::nest::{Link, Seat, Sets};
 use design_model::Memory;
 
-/// An inner set below an outer one, and the outer set that it is paired with. The link `up` leads
-/// from an earlier outer set to the inner set, and `pair` from the inner set to its partner.
+/// A branch of the alternating tree: an inner set and the outer set that it is matched with. The edge `up`
+/// leads from an earlier outer set to the inner set, and `pair` from the inner set to its partner.
 #[derive(Clone, Copy, Drop)]
 pub struct Branch {
     pub up: Link,
@@ -16,7 +16,7 @@ pub struct Branch {
     pub outer: Seat,
 }
 
-/// Hangs a match below the outer set that the link comes from.
+/// Appends a match to the tree, below the outer set that the edge comes from.
 pub fn grow(sets: &Sets, tree: &mut Vec<Branch>, up: Link, matched: Match) -> Result<(), Memory>
     ensures { OnOk result (branches_in sets.now tree.new.items
         ≡ branches_in sets.now tree.old.items ++ hung_by up (match_in sets.now matched) ∷ []) }
@@ -29,7 +29,7 @@ pub fn grow(sets: &Sets, tree: &mut Vec<Branch>, up: Link, matched: Match) -> Re
     Ok(())
 }
 
-/// Hangs an inner set into the tree by the link `up`, and the outer set that it is paired with.
+/// Appends a branch with an inner set below the edge `up`, and the outer set that it is matched with.
 pub fn hang(
     tree: &mut Vec<Branch>,
     up: Link,
@@ -49,7 +49,7 @@ pub fn hang(
     Ok(())
 }
 
-/// Pairs along the way from the link to the root, so that each branch becomes a match.
+/// Augments along the path from an edge to the root: each branch becomes a match.
 pub fn augment(
     sets: &Sets,
     root: Seat,
@@ -80,7 +80,7 @@ pub fn augment(
     Ok(())
 }
 
-/// A set that has no partner yet, and the link to it from an outer set.
+/// A set without a partner, and the edge to it from an outer set.
 #[derive(Clone, Copy, Drop)]
 struct Hand {
     set: Seat,
@@ -88,8 +88,8 @@ struct Hand {
 }
 
 impl Hand {
-    /// The match at the branch. Where the way comes from its outer set, that is paired with the hand,
-    /// which moves on to the inner set.
+    /// Returns the match at a branch. Where the edge comes from the branch's outer set, that set is matched,
+    /// and the inner set is the next one without a partner.
     fn pair_at(&mut self, sets: &Sets, b: Branch) -> Match
         ensures { PairsAt (set_in sets.now self.old.set) self.old.way (branch_in sets.now b)
             (match_in sets.now result) (set_in sets.now self.new.set) self.new.way }
@@ -112,7 +112,7 @@ impl Hand {
     }
 }
 
-/// Puts the branches that were set aside, newest first, back into the tree.
+/// Puts branches that were set aside, newest first, back into the tree.
 pub fn give_back(tree: &mut Vec<Branch>, aside: Vec<Branch>) -> Result<(), Memory>
     ensures { OnOk result (tree.new.items ≡ tree.old.items ++ reverse aside.items) }
 {

@@ -13,8 +13,7 @@ use design_model::Memory;
 use std::alloc::Global;
 use std::collections::VecDeque;
 
-/// Takes the inner set of a branch apart: its parts become branches and matches, and its slot is
-/// vacant.
+/// Expands the inner blossom of a branch: its parts become branches and matches, and its slot is removed.
 pub fn expand(
     alloc: Global,
     sets: &mut Sets,
@@ -49,8 +48,8 @@ pub fn expand(
     }
 }
 
-/// The blossom told from the part that is entered, in the direction in which it is an even way to the
-/// part that is left.
+/// Rotates a blossom to the part that is entered, and orients it so that the part that is left has an even
+/// index.
 fn even_way(
     alloc: Global,
     sets: &Sets,
@@ -74,7 +73,7 @@ fn even_way(
     }
 }
 
-/// The blossom told the other way round, from the same first part.
+/// Reverses a blossom, with the first part kept first.
 fn mirrored(alloc: Global, blossom: Vec<Part>) -> Result<Vec<Part>, Memory>
     ensures { IfOk result (λ ps. (sets : Slots) → parts_in sets ps.items
         ≡ mirror_of (parts_in sets blossom.items)) }
@@ -99,7 +98,7 @@ fn mirrored(alloc: Global, blossom: Vec<Part>) -> Result<Vec<Part>, Memory>
     Ok(parts)
 }
 
-/// Makes branches of the parts up to that with the end of the branch's pair, and pairs the rest.
+/// Makes branches of the parts up to the one that the branch's pair leaves, and matches the others.
 fn lay(
     alloc: Global,
     sets: &Sets,

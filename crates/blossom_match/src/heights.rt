@@ -7,7 +7,7 @@ ghost use Rattle.blossom_match.specs.Slots.{branches_in};
 use crate::branches::Branch;
 use crate::nest::Sets;
 
-/// Raises the heights of the places.
+/// Raises the heights of the vertices.
 pub fn raise(members: &[u32], by: u32, heights: &mut [u32])
     requires within { HasCells (λ x. count x members.now) heights.old }
     requires fits { CanRise (λ x. by * count x members.now) heights.old }
@@ -18,7 +18,7 @@ pub fn raise(members: &[u32], by: u32, heights: &mut [u32])
     }
 }
 
-/// Lowers the heights of the places.
+/// Lowers the heights of the vertices.
 fn lower(members: &[u32], by: u32, heights: &mut [u32])
     requires within { HasCells (λ x. count x members.now) heights.old }
     requires fits { CanFall (λ x. by * count x members.now) heights.old }
@@ -29,7 +29,7 @@ fn lower(members: &[u32], by: u32, heights: &mut [u32])
     }
 }
 
-/// Raises the places of all outer sets but the root.
+/// Raises the vertices of all outer sets but the root.
 pub fn raise_outers(sets: &Sets, tree: &[Branch], by: u32, heights: &mut [u32])
     requires within { HasCells (λ x. count x (outer_members [] (branches_in sets.now tree.now))) heights.old }
     requires fits { CanRise (λ x. by * count x (outer_members [] (branches_in sets.now tree.now)))
@@ -42,7 +42,7 @@ pub fn raise_outers(sets: &Sets, tree: &[Branch], by: u32, heights: &mut [u32])
     }
 }
 
-/// Lowers the places of all inner sets.
+/// Lowers the vertices of all inner sets.
 pub fn lower_inners(sets: &Sets, tree: &[Branch], by: u32, heights: &mut [u32])
     requires within { HasCells (λ x. count x (inner_members (branches_in sets.now tree.now))) heights.old }
     requires fits { CanFall (λ x. by * count x (inner_members (branches_in sets.now tree.now))) heights.old }

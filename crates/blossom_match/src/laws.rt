@@ -1,7 +1,7 @@
 ghost use Rattle.blossom_match.specs.Leasts.{NoneCostsLess};
 
-/// No pairs of all places cost less than a matching whose moats use up twice its cost: each moat holds an
-/// odd number of places, so some pair crosses it.
+/// No perfect matching costs less than one whose moats use up twice its cost. Each moat holds an odd number
+/// of places, so some pair crosses it.
 pub fn none_costs_less()
     ensures { NoneCostsLess }
 {}

@@ -20,14 +20,14 @@ use crate::search::Step;
 use crate::state::Search;
 use crate::table::{DistTable, FAR};
 
-/// A change of duals, in halves of a step, and what can be done after it.
+/// A change of duals, in halves of a step, and the step that it makes possible.
 #[derive(Clone, Copy, Drop)]
 pub struct Change {
     pub by: u32,
     pub step: Step,
 }
 
-/// What a link from an outer set leads to: a free place, a match or another outer set.
+/// The kind of an edge from an outer set: to a free vertex, to a match, or to another outer set.
 #[derive(Clone, Copy, Drop)]
 enum Kind {
     Meet,
@@ -35,7 +35,7 @@ enum Kind {
     Shrink,
 }
 
-/// A place that a link leads to, and the change of duals after which the link is tight.
+/// A candidate: a vertex that an edge leads to, and the change of duals after which the edge is tight.
 #[derive(Clone, Copy, Drop)]
 struct Aim {
     by: u32,
@@ -43,7 +43,7 @@ struct Aim {
     to: u32,
 }
 
-/// The least change of duals after which a step can be done.
+/// Returns the least change of duals after which a step can be made.
 pub fn least(t: &DistTable, reach: &[u32], mask: &[u32], s: &Search) -> Change
     requires table { IsTable t.now }
     requires can { CanSearch t.now (search_value s.now) }
@@ -54,6 +54,7 @@ pub fn least(t: &DistTable, reach: &[u32], mask: &[u32], s: &Search) -> Change
     least_at(t, &s.heights, reach, mask, s)
 }
 
+/// Returns the least change of duals, with the heights as a slice.
 fn least_at(t: &DistTable, heights: &[u32], reach: &[u32], mask: &[u32], s: &Search) -> Change
     requires table { IsTable t.now }
     requires can { CanSearch t.now (search_value s.now) }
@@ -70,7 +71,7 @@ fn least_at(t: &DistTable, heights: &[u32], reach: &[u32], mask: &[u32], s: &Sea
     scan_blossoms(&s.sets, &s.tree, change)
 }
 
-/// The change of duals that uses up the slack.
+/// Returns the change of duals that uses up a slack.
 fn change_for(kind: Kind, slack: u32) -> u32
     ensures { result ≡ change_of kind slack }
 {
@@ -81,7 +82,7 @@ fn change_for(kind: Kind, slack: u32) -> u32
     }
 }
 
-/// The step that the link makes possible.
+/// Returns the step that an edge of a kind makes possible.
 fn step_for(kind: Kind, link: Link) -> Step
     ensures { result ≡ step_of kind link }
 {
@@ -92,7 +93,7 @@ fn step_for(kind: Kind, link: Link) -> Step
     }
 }
 
-/// An aim at the first free place.
+/// Returns the candidate at the first free vertex.
 fn first_aim(heights: &[u32], reach: &[u32], free: &[u32]) -> Aim
     requires cells { length heights.now ≡ length reach.now }
     requires some { 1 ≤ length free.now }
@@ -108,7 +109,7 @@ fn first_aim(heights: &[u32], reach: &[u32], free: &[u32]) -> Aim
     }
 }
 
-/// The lesser of an aim and one at the place.
+/// Returns the lesser of a candidate and the one at the given vertex.
 fn nearer(heights: &[u32], reach: &[u32], to: u32, kind: Kind, best: Aim) -> Aim
     requires cells { length heights.now ≡ length reach.now }
     requires within { to < length reach.now }
@@ -126,7 +127,7 @@ fn nearer(heights: &[u32], reach: &[u32], to: u32, kind: Kind, best: Aim) -> Aim
     }
 }
 
-/// The lesser of an aim and the nearest of the places.
+/// Returns the least of a candidate and those at the given vertices.
 fn aim_at(heights: &[u32], reach: &[u32], ys: &[u32], kind: Kind, best: Aim) -> Aim
     requires cells { length heights.now ≡ length reach.now }
     requires within { (b : ℕ) → 1 ≤ count b ys.now → b < length reach.now }
@@ -139,7 +140,7 @@ fn aim_at(heights: &[u32], reach: &[u32], ys: &[u32], kind: Kind, best: Aim) -> 
     least
 }
 
-/// The lesser of an aim and the nearest place that the mask shows.
+/// Returns the least of a candidate and those at the vertices that the mask shows.
 fn aim_at_shown(heights: &[u32], reach: &[u32], mask: &[u32], best: Aim) -> Aim
     requires cells { length heights.now ≡ length reach.now }
     requires masked { length mask.now ≡ length reach.now }
@@ -155,7 +156,7 @@ fn aim_at_shown(heights: &[u32], reach: &[u32], mask: &[u32], best: Aim) -> Aim
     nearer(heights, reach, to, Kind::Grow, best)
 }
 
-/// The least slack that the mask shows.
+/// Returns the least slack to a vertex that the mask shows; FAR where there is none.
 fn least_shown(heights: &[u32], reach: &[u32], mask: &[u32]) -> u32
     requires cells { length heights.now ≡ length reach.now }
     requires masked { length mask.now ≡ length reach.now }
@@ -169,7 +170,7 @@ fn least_shown(heights: &[u32], reach: &[u32], mask: &[u32]) -> u32
     least
 }
 
-/// The first place at which the mask shows so much slack.
+/// Returns the first vertex that the mask shows with the given slack.
 fn place_shown(heights: &[u32], reach: &[u32], mask: &[u32], slack: u32) -> u32
     requires cells { length heights.now ≡ length reach.now }
     requires masked { length mask.now ≡ length reach.now }
@@ -186,7 +187,7 @@ fn place_shown(heights: &[u32], reach: &[u32], mask: &[u32], slack: u32) -> u32
     unreachable!()
 }
 
-/// The lesser of an aim and the nearest outer place.
+/// Returns the least of a candidate and those at the outer vertices.
 fn aim_at_outers(heights: &[u32], reach: &[u32], s: &Search, best: Aim) -> Aim
     requires cells { length heights.now ≡ length reach.now }
     requires within { HasCells (λ b. count b (outers (search_value s.now))) reach.now }
@@ -196,7 +197,7 @@ fn aim_at_outers(heights: &[u32], reach: &[u32], s: &Search, best: Aim) -> Aim
     aim_at_branches(&s.sets, heights, reach, &s.tree, rooted)
 }
 
-/// The lesser of an aim and the nearest place of the branches' outer sets.
+/// Returns the least of a candidate and those at the outer vertices of the branches.
 fn aim_at_branches(sets: &Sets, heights: &[u32], reach: &[u32], tree: &[Branch], best: Aim) -> Aim
     requires cells { length heights.now ≡ length reach.now }
     requires within { HasCells (λ b. count b (outer_members [] (branches_in sets.now tree.now))) reach.now }
@@ -210,7 +211,7 @@ fn aim_at_branches(sets: &Sets, heights: &[u32], reach: &[u32], tree: &[Branch],
     least
 }
 
-/// The change of an aim, with the link from an outer place that leaves so much.
+/// Returns the change of a candidate, with the edge from an outer vertex that has its slack.
 fn change_to(t: &DistTable, heights: &[u32], reach: &[u32], s: &Search, aim: Aim) -> Change
     requires { CanLead t.now heights.now (search_value s.now).root (search_value s.now).tree reach.now aim }
     ensures { LeadsTo t.now heights.now (search_value s.now).root (search_value s.now).tree
@@ -231,7 +232,7 @@ fn change_to(t: &DistTable, heights: &[u32], reach: &[u32], s: &Search, aim: Aim
     }
 }
 
-/// The place of another outer set that leaves so much.
+/// Returns the vertex of another outer set that has the given slack.
 fn nearest(
     sets: &Sets,
     t: &DistTable,
@@ -261,7 +262,7 @@ fn nearest(
     unreachable!()
 }
 
-/// A place of the set that leaves so much, if the set doesn't hold the other place too.
+/// Returns a vertex of a set with the given slack to the other vertex, if the set doesn't hold both.
 fn leaving(sets: &Sets, t: &DistTable, heights: &[u32], s: Seat, to: u32, left: u32) -> Option<u32>
     requires cells { length heights.now ≡ t.now.places }
     requires within { (a : ℕ) → 1 ≤ count a (set_in sets.now s).members → a < t.now.places }
@@ -275,7 +276,7 @@ fn leaving(sets: &Sets, t: &DistTable, heights: &[u32], s: Seat, to: u32, left: 
     }
 }
 
-/// The first of the places that leaves so much.
+/// Returns the first of the vertices with the given slack.
 fn first_leaving(t: &DistTable, heights: &[u32], xs: &[u32], to: u32, left: u32) -> Option<u32>
     requires cells { length heights.now ≡ t.now.places }
     requires within { (a : ℕ) → 1 ≤ count a xs.now → a < t.now.places }
@@ -290,7 +291,7 @@ fn first_leaving(t: &DistTable, heights: &[u32], xs: &[u32], to: u32, left: u32)
     None
 }
 
-/// The lesser of a change and the least dual of an inner blossom.
+/// Returns the lesser of a change and the least dual of an inner blossom.
 fn scan_blossoms(sets: &Sets, tree: &[Branch], best: Change) -> Change
     ensures { Narrows (branches_in sets.now tree.now) best result }
 {
@@ -301,7 +302,7 @@ fn scan_blossoms(sets: &Sets, tree: &[Branch], best: Change) -> Change
     least
 }
 
-/// The lesser of a change and the dual of the branch's inner blossom.
+/// Returns the lesser of a change and the dual of the branch's inner blossom.
 fn narrower(sets: &Sets, b: Branch, at: usize, best: Change) -> Change
     ensures { NarrowsAt (branch_in sets.now b) at best result }
 {

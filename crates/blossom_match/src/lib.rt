@@ -1,5 +1,5 @@
-//! Least perfect matchings of a table of distances, with moats that show that no matching costs
-//! less.
+//! Minimum-weight perfect matchings of a table of distances, by the blossom algorithm of Edmonds. The moats
+//! of a matching are its dual solution: they prove that no perfect matching costs less.
 #![tactic(auto)]
 
 mod adjustment;

@@ -15,7 +15,7 @@ use crate::rows::put;
 use crate::state::Search;
 use crate::table::FAR;
 
-/// Shows the places of the matches.
+/// Shows the vertices of the matches.
 fn show(sets: &Sets, matches: &[Match], mask: &mut [u32])
     requires { HasCells (λ x. count x (match_members (matches_in sets.now matches.now))) mask.old }
     ensures { Puts 0 (match_members (matches_in sets.now matches.now)) mask.old mask.new }
@@ -26,7 +26,7 @@ fn show(sets: &Sets, matches: &[Match], mask: &mut [u32])
     }
 }
 
-/// Shows the places of a search's matches from the index on.
+/// Shows the vertices of a search's matches from an index on.
 pub fn show_from(s: &Search, at: usize, mask: &mut [u32])
     requires within { at ≤ length s.now.rest.items }
     requires cells { HasCells (λ x. count x (match_members (drop at (search_value s.now).rest))) mask.old }
@@ -35,7 +35,7 @@ pub fn show_from(s: &Search, at: usize, mask: &mut [u32])
     show(&s.sets, &s.rest[at..], mask);
 }
 
-/// Hides the places of a branch.
+/// Hides the vertices of a branch.
 pub fn hide(sets: &Sets, b: Branch, mask: &mut [u32])
     requires { HasCells (λ x. count x (branch_members (branch_in sets.now b))) mask.old }
     ensures { Puts FAR (branch_members (branch_in sets.now b)) mask.old mask.new }

@@ -9,7 +9,7 @@ use crate::nest::{Link, Part, Seat, Sets};
 use design_model::Memory;
 use std::alloc::Global;
 
-/// Two sets that are matched by a link from the first to the second.
+/// Two odd sets that are matched by an edge from the first to the second.
 #[derive(Clone, Copy, Drop)]
 pub struct Match {
     pub first: Seat,
@@ -17,7 +17,7 @@ pub struct Match {
     pub link: Link,
 }
 
-/// The parts two by two.
+/// Matches the parts two by two; a last single part is left out.
 pub fn pair_off(alloc: Global, parts: std::vec::IntoIter<Part>) -> Result<Vec<Match>, Memory>
     ensures { IfOk result (λ cs. (sets : Slots) → matches_in sets cs.items
         ≡ matches_along (parts_in sets (into_iter_items parts))) }
@@ -36,6 +36,7 @@ pub fn pair_off(alloc: Global, parts: std::vec::IntoIter<Part>) -> Result<Vec<Ma
     Ok(out)
 }
 
+/// Returns the index of the match that holds a vertex.
 fn match_with(sets: &Sets, matches: &[Match], place: u32) -> usize
     requires { 1 ≤ count place (match_members (matches_in sets.now matches.now)) }
     ensures within { result < length matches.now }
@@ -49,7 +50,7 @@ fn match_with(sets: &Sets, matches: &[Match], place: u32) -> usize
     unreachable!()
 }
 
-/// Takes out the match that holds the place.
+/// Removes the match that holds a vertex, and returns it.
 pub fn take_match(sets: &Sets, matches: &mut Vec<Match>, place: u32) -> Match
     requires { 1 ≤ count place (match_members (matches_in sets.now matches.old.items)) }
     ensures { TakesOut place (matches_in sets.now matches.old.items)

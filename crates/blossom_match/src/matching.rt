@@ -16,7 +16,7 @@ pub struct Pair {
     pub b: u32,
 }
 
-/// An odd set of places and its width, in halves of a step.
+/// An odd set of places and its dual variable, the width, in halves of a step.
 #[derive(Debug, Drop)]
 pub struct Moat {
     pub members: Numbers,
@@ -28,15 +28,15 @@ pub type Pairs = Items<Pair>;
 /// A list of moats.
 pub type Moats = Items<Moat>;
 
-/// All places in pairs, and the moats that pay for them.
+/// All places in pairs, and the moats that prove the matching optimal.
 #[derive(Debug, Drop)]
 pub struct Matching {
     pub pairs: Pairs,
     pub moats: Moats,
 }
 
-/// A least perfect matching of the places, and moats that show that none costs less. Widths count
-/// halves of a step.
+/// Returns a perfect matching of minimum cost, with moats that prove it optimal. Widths count halves of a
+/// step. The only error is out of memory.
 pub fn match_all(alloc: Global, t: &DistTable) -> Result<Matching, Memory>
     requires even { t.now.places % 2 ≡ 0 }
     requires triangles { KeepsTriangles t.now }

@@ -12,29 +12,29 @@ use design_model::Memory;
 use slab::Slab;
 use std::alloc::Global;
 
-/// Two places whose distance is used up whole.
+/// A tight edge between two vertices.
 #[derive(Clone, Copy, Drop)]
 pub struct Link {
     pub from: u32,
     pub to: u32,
 }
 
-/// An odd set of places, by the key of its slot, and its dual in halves of a step.
+/// A handle of an odd set: the key of its slot, and its dual in halves of a step.
 #[derive(Clone, Copy, Drop)]
 pub struct Seat {
     pub key: usize,
     pub dual: u32,
 }
 
-/// A part of a blossom, and the link to the part after it. The first part comes after the last.
+/// A part of a blossom, and the edge to the part after it. The first part comes after the last.
 #[derive(Clone, Copy, Drop)]
 pub struct Part {
     pub seat: Seat,
     pub next: Link,
 }
 
-/// What an odd set keeps as long as it stands: its members, what it leaves for each place outside
-/// it over its dual, and the parts of a blossom. A single place has no parts.
+/// The stored fields of an odd set, which never change: its members, its slack row, and the parts of a
+/// blossom. A single vertex has no parts.
 #[derive(Drop)]
 pub struct Slot {
     pub members: Vec<u32>,
@@ -42,11 +42,11 @@ pub struct Slot {
     pub parts: Vec<Part>,
 }
 
-/// The slots of sets, by key.
+/// A slab of odd sets, by key.
 pub type Sets = Slab<Slot>;
 
 impl Link {
-    /// The link from its other end.
+    /// Returns the edge in the other direction.
     pub fn back(self) -> Link
         ensures { result ≡ back_of self }
     {
@@ -57,7 +57,7 @@ impl Link {
     }
 }
 
-/// How often the list has the place.
+/// Returns the number of times that a list has a vertex.
 pub fn times(xs: &[u32], x: u32) -> usize
     ensures { result ≡ count x xs.now }
 {
@@ -71,7 +71,7 @@ pub fn times(xs: &[u32], x: u32) -> usize
 }
 
 impl Seat {
-    /// The places of the set.
+    /// Returns the vertices of the set.
     pub fn members(self, sets: &Sets) -> &[u32]
         ensures { result.now ≡ members_at sets.now self.key }
     {
@@ -81,7 +81,7 @@ impl Seat {
         }
     }
 
-    /// What the set leaves for each place outside it over its dual.
+    /// Returns the slack row of the set: the slack to each vertex outside it, less the duals inside.
     pub fn near(self, sets: &Sets) -> &[u32]
         ensures { result.now ≡ near_at sets.now self.key }
     {
@@ -91,7 +91,7 @@ impl Seat {
         }
     }
 
-    /// The parts of a blossom.
+    /// Returns the parts of a blossom; none for a single vertex.
     pub fn parts(self, sets: &Sets) -> &[Part]
         ensures { result.now ≡ parts_at sets.now self.key }
     {
@@ -101,7 +101,7 @@ impl Seat {
         }
     }
 
-    /// Whether the place is a member.
+    /// Returns whether a vertex is a member.
     pub fn holds(self, sets: &Sets, place: u32) -> bool
         ensures value { result ≡ nat_lt 0 (count place (members_at sets.now self.key)) }
         ensures yes { IsTrue result → 1 ≤ count place (members_at sets.now self.key) }
@@ -110,7 +110,7 @@ impl Seat {
         times(self.members(sets), place) > 0
     }
 
-    /// Whether the set has parts.
+    /// Returns whether the set has parts.
     pub fn is_blossom(self, sets: &Sets) -> bool
         ensures { result ≡ nat_lt 0 (length (set_in sets.now self).below) }
     {
@@ -118,7 +118,7 @@ impl Seat {
     }
 }
 
-/// The set of one place, its height as its dual.
+/// Inserts the set of one vertex, with its height as its dual.
 pub fn single(
     alloc: Global,
     sets: &mut Sets,
@@ -146,6 +146,7 @@ pub fn single(
     })
 }
 
+/// Returns the members of all parts.
 fn members_of(alloc: Global, sets: &Sets, parts: &[Part]) -> Result<Vec<u32>, Memory>
     ensures { IfOk result (λ ms. ms.items ≡ members_in (parts_in sets.now parts.now)) }
 {
@@ -156,7 +157,7 @@ fn members_of(alloc: Global, sets: &Sets, parts: &[Part]) -> Result<Vec<u32>, Me
     Ok(members)
 }
 
-/// The set of all members of a blossom, of dual 0.
+/// Inserts the blossom of the parts, with dual 0.
 pub fn blossom_of(alloc: Global, sets: &mut Sets, parts: Vec<Part>) -> Result<Seat, Memory>
     requires blossom { IsBlossom (parts_in sets.old parts.items) }
     requires rows { RowsAgree (parts_in sets.old parts.items) }

@@ -9,14 +9,14 @@ use crate::nest::{Seat, Sets};
 use design_model::Memory;
 use std::alloc::Global;
 
-/// A set without its shell: the part with the member that is paired outside, and the rest in pairs.
+/// A set that was opened: the part with the member that is paired outside, and the others matched.
 #[derive(Drop)]
 pub struct Opened {
     pub core: Option<Seat>,
     pub matches: Vec<Match>,
 }
 
-/// Takes a set apart at the member that is paired outside.
+/// Opens a set at the member that is paired outside.
 pub fn open_at(alloc: Global, sets: &Sets, s: Seat, left: u32) -> Result<Opened, Memory>
     requires set { IsSet sets.now s.key }
     requires there { count left (set_in sets.now s).members ≡ 1 }

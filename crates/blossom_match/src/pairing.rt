@@ -11,7 +11,7 @@ use crate::table::DistTable;
 use design_model::Memory;
 use std::alloc::Global;
 
-/// Matched sets that hold all places.
+/// Returns matched sets that hold all vertices.
 pub fn match_sets(alloc: Global, t: &DistTable) -> Result<Standing, Memory>
     requires even { t.now.places % 2 ≡ 0 }
     requires triangles { KeepsTriangles t.now }
@@ -21,7 +21,7 @@ pub fn match_sets(alloc: Global, t: &DistTable) -> Result<Standing, Memory>
     search_all(alloc, t, now)
 }
 
-/// Searches from each free place in turn.
+/// Searches from each free vertex in turn.
 fn search_all(alloc: Global, t: &DistTable, from: Standing) -> Result<Standing, Memory>
     requires metric { IsMetric t.now }
     requires stands { StandsAt t.now from }

@@ -19,14 +19,14 @@ use crate::table::DistTable;
 use design_model::Memory;
 use std::alloc::Global;
 
-/// A search that goes on, or what stands at its end.
+/// The result of a step: a search that continues, or the partial matching at its end.
 #[derive(Drop)]
 enum Stepped {
     More(Search),
     Done(Standing),
 }
 
-/// Searches from a free place until it is paired.
+/// Searches from a free vertex until it is matched.
 pub fn pair_up(
     alloc: Global,
     t: &DistTable,
@@ -56,7 +56,7 @@ pub fn pair_up(
     }
 }
 
-/// A search with the place alone in its tree.
+/// Returns a search whose tree is a single free vertex, the root.
 pub fn begin(alloc: Global, t: &DistTable, place: u32, from: Standing) -> Result<Search, Memory>
     requires cell { place < length from.heights.items }
     requires within { place < t.now.places }
@@ -81,7 +81,7 @@ pub fn begin(alloc: Global, t: &DistTable, place: u32, from: Standing) -> Result
     })
 }
 
-/// Changes the duals as little as allows a step, and takes it.
+/// Changes the duals by the least amount that makes a step possible, and makes the step.
 fn advance(
     alloc: Global,
     t: &DistTable,
@@ -104,6 +104,7 @@ fn advance(
     Ok(next)
 }
 
+/// Makes a step, and updates the least slacks and the mask.
 fn take_step(
     alloc: Global,
     t: &DistTable,

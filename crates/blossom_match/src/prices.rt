@@ -15,8 +15,8 @@ use design_model::Memory;
 use slab::Slab;
 use std::alloc::Global;
 
-/// A price for each place, as high as the distances allow, and matches of places between which the
-/// prices leave no slack.
+/// Returns initial duals, as high as the distances allow, and a greedy matching of free vertices along tight
+/// edges.
 pub fn priced(alloc: Global, t: &DistTable, n: u32) -> Result<Standing, Memory>
     requires { n ≡ t.now.places }
     ensures stands { IfOk result (λ r. StandsAt t.now r) }
@@ -29,7 +29,7 @@ pub fn priced(alloc: Global, t: &DistTable, n: u32) -> Result<Standing, Memory>
     Ok(now)
 }
 
-/// All places free, each at half of its least distance in halves of a step.
+/// Returns all vertices free, each with half of its least slack as initial dual.
 fn half_priced(alloc: Global, t: &DistTable) -> Result<Standing, Memory>
     ensures stands { IfOk result (λ r. StandsAt t.now r) }
     ensures even { IfOk result (λ r. length r.free.items % 2 ≡ t.now.places % 2) }
@@ -45,7 +45,7 @@ fn half_priced(alloc: Global, t: &DistTable) -> Result<Standing, Memory>
     })
 }
 
-/// The places from 0 on.
+/// Returns the vertices from 0 on.
 fn all_places(alloc: Global, n: u32) -> Result<Vec<u32>, Memory>
     ensures counts { IfOk result (λ xs. (x : ℕ) → count x xs.items ≡ (if nat_lt x n then 1 else 0)) }
     ensures size { IfOk result (λ xs. length xs.items ≡ n) }
@@ -57,7 +57,7 @@ fn all_places(alloc: Global, n: u32) -> Result<Vec<u32>, Memory>
     Ok(places)
 }
 
-/// The least distance of each place.
+/// Returns half of the least slack of each vertex, where all other duals are 0.
 fn halves(alloc: Global, t: &DistTable) -> Result<Vec<u32>, Memory>
     ensures half { IfOk result (λ hs. AreHalves t.now hs.items) }
     ensures size { IfOk result (λ hs. length hs.items ≡ t.now.places) }
@@ -71,7 +71,7 @@ fn halves(alloc: Global, t: &DistTable) -> Result<Vec<u32>, Memory>
     Ok(prices)
 }
 
-/// The highest price that the distances to all other places allow.
+/// Returns the highest initial dual that the distances to all other vertices allow.
 fn slack_at(t: &DistTable, heights: &[u32], place: u32) -> u32
     requires cells { length heights.now ≡ t.now.places }
     requires within { place < t.now.places }
@@ -86,7 +86,7 @@ fn slack_at(t: &DistTable, heights: &[u32], place: u32) -> u32
     least
 }
 
-/// The lesser of a price and the one that the distance to the other place allows.
+/// Returns the lesser of a dual and the one that the distance to the other vertex allows.
 fn lesser(t: &DistTable, heights: &[u32], place: u32, other: u32, best: u32) -> u32
     requires cells { length heights.now ≡ t.now.places }
     requires within { place < t.now.places }
@@ -102,8 +102,7 @@ fn lesser(t: &DistTable, heights: &[u32], place: u32, other: u32, best: u32) -> 
     }
 }
 
-/// Raises the price of a place that is free, and pairs it with a free one if no slack is left between
-/// them.
+/// Raises the initial dual of a free vertex, and matches it with a free one where the edge becomes tight.
 fn settle(alloc: Global, t: &DistTable, place: u32, from: Standing) -> Result<Standing, Memory>
     requires stands { StandsAt t.now from }
     requires within { place < t.now.places }
@@ -123,7 +122,7 @@ fn settle(alloc: Global, t: &DistTable, place: u32, from: Standing) -> Result<St
     }
 }
 
-/// Raises the price of a free place as far as the distances allow.
+/// Raises the initial dual of a free vertex as far as the distances allow.
 fn raise_price(t: &DistTable, place: u32, from: Standing) -> Standing
     requires stands { StandsAt t.now from }
     requires here { 1 ≤ count place from.free.items }
@@ -136,7 +135,7 @@ fn raise_price(t: &DistTable, place: u32, from: Standing) -> Standing
     raised
 }
 
-/// Another free place, if the prices leave no slack to it.
+/// Returns another free vertex with a tight edge to the given one, if there is one.
 fn tight_with(t: &DistTable, place: u32, s: &Standing) -> Option<u32>
     requires stands { StandsAt t.now s.now }
     requires here { 1 ≤ count place s.now.free.items }
@@ -145,7 +144,7 @@ fn tight_with(t: &DistTable, place: u32, s: &Standing) -> Option<u32>
     tight_place(t, &s.heights, &s.free, place)
 }
 
-/// A free place to which the prices leave no slack.
+/// Returns the first of the free vertices with a tight edge to the given one.
 fn tight_place(t: &DistTable, heights: &[u32], free: &[u32], place: u32) -> Option<u32>
     requires cells { length heights.now ≡ t.now.places }
     requires lies { Lies t.now heights.now free.now place }
@@ -159,7 +158,7 @@ fn tight_place(t: &DistTable, heights: &[u32], free: &[u32], place: u32) -> Opti
     None
 }
 
-/// Whether the two are different places and their prices leave no slack.
+/// Returns whether the vertices are different and their edge is tight.
 fn is_tight(t: &DistTable, heights: &[u32], place: u32, other: u32) -> bool
     requires cells { length heights.now ≡ t.now.places }
     requires within { place < t.now.places }
@@ -172,7 +171,7 @@ fn is_tight(t: &DistTable, heights: &[u32], place: u32, other: u32) -> bool
     place != other && heights[place as usize] + heights[other as usize] == 2 * distance
 }
 
-/// Pairs two free places: a search from the one meets the other at once.
+/// Matches two free vertices: a search from one meets the other at once.
 fn pair(
     alloc: Global,
     t: &DistTable,

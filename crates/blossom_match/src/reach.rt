@@ -12,7 +12,7 @@ use crate::rows::{lesser_by, merge};
 use crate::state::Search;
 use crate::table::FAR;
 
-/// Takes an outer set into the least that is left outside it.
+/// Merges the slacks from an outer set into the least slacks.
 fn take_set(sets: &Sets, set: Seat, reach: &mut [u32])
     requires { HasRow (length reach.old) (set_in sets.now set) }
     ensures { Merges (set_in sets.now set).near set.dual reach.old reach.new }
@@ -20,7 +20,7 @@ fn take_set(sets: &Sets, set: Seat, reach: &mut [u32])
     merge(set.near(sets), set.dual, reach);
 }
 
-/// Leaves nothing for any place.
+/// Sets all cells to FAR.
 pub fn reset(reach: &mut [u32])
     ensures { (x : ℕ) → x < length reach.new → slice_index reach.new x ≡ FAR }
 {
@@ -29,7 +29,7 @@ pub fn reset(reach: &mut [u32])
     }
 }
 
-/// The least that the root and the outer sets of the tree leave for each place.
+/// Computes the least slack from the root and the outer sets to each vertex.
 fn reach_all(sets: &Sets, root: Seat, tree: &[Branch], reach: &mut [u32])
     requires root { HasRow (length reach.old) (set_in sets.now root) }
     requires tree { Each (λ b. HasRow (length reach.old) b.outer) (branches_in sets.now tree.now) }
@@ -40,7 +40,7 @@ fn reach_all(sets: &Sets, root: Seat, tree: &[Branch], reach: &mut [u32])
     reach_branches(sets, tree, reach);
 }
 
-/// Takes the outer sets of the branches in.
+/// Merges the slacks from the outer sets of the branches.
 fn reach_branches(sets: &Sets, tree: &[Branch], reach: &mut [u32])
     requires { Each (λ b. HasRow (length reach.old) b.outer) (branches_in sets.now tree.now) }
     ensures { ReachesOn (branches_in sets.now tree.now) reach.old reach.new }
@@ -50,7 +50,7 @@ fn reach_branches(sets: &Sets, tree: &[Branch], reach: &mut [u32])
     }
 }
 
-/// Takes the outer sets of so many branches in, from the index on.
+/// Merges the slacks from the outer sets of `more` branches, from an index on.
 pub fn reach_from(s: &Search, at: usize, more: usize, reach: &mut [u32])
     requires can { IsReachable (search_value s.now) reach.old }
     requires within { at + more ≤ length s.now.tree.items }
@@ -59,7 +59,7 @@ pub fn reach_from(s: &Search, at: usize, more: usize, reach: &mut [u32])
     reach_branches(&s.sets, &s.tree[at..at + more], reach);
 }
 
-/// The least that the outer places of a search leave, anew.
+/// Computes the least slacks from the outer vertices of a search from the beginning.
 pub fn reach_anew(s: &Search, reach: &mut [u32])
     requires { IsReachable (search_value s.now) reach.old }
     ensures { ReachesOuters (search_value s.now).root (search_value s.now).tree reach.new }
@@ -67,7 +67,7 @@ pub fn reach_anew(s: &Search, reach: &mut [u32])
     reach_all(&s.sets, s.root, &s.tree, reach);
 }
 
-/// What is left after the outer places have risen.
+/// Lowers the least slacks after the heights of the outer vertices have risen.
 pub fn lower_reach(by: u32, reach: &mut [u32])
     ensures { (x : ℕ) → x < length reach.new
         → slice_index reach.new x ≡ lowered by (slice_index reach.old x) }

@@ -9,7 +9,7 @@ use crate::table::{DistTable, FAR};
 use design_model::Memory;
 use std::alloc::Global;
 
-/// What is left once the dual is taken.
+/// Returns a slack less a dual, at least 0; FAR stays FAR.
 pub fn lesser_by(by: u32, left: u32) -> u32
     ensures { result ≡ lowered by left }
 {
@@ -20,7 +20,7 @@ pub fn lesser_by(by: u32, left: u32) -> u32
     }
 }
 
-/// Cells from which nothing is near.
+/// Returns n cells that are FAR.
 pub fn far_cells(alloc: Global, n: usize) -> Result<Vec<u32>, Memory>
     ensures size { IfOk result (λ cells. length cells.items ≡ n) }
     ensures far { IfOk result (λ cells. (x : ℕ) → x < n → slice_index cells.items x ≡ FAR) }
@@ -29,7 +29,7 @@ pub fn far_cells(alloc: Global, n: usize) -> Result<Vec<u32>, Memory>
     Ok(cells)
 }
 
-/// The lesser of each cell and what the row leaves over the dual.
+/// Sets each cell to the minimum of its value and of the row's slack less the dual.
 pub fn merge(near: &[u32], dual: u32, cells: &mut [u32])
     requires len { length cells.old ≡ length near.now }
     ensures { Merges near.now dual cells.old cells.new }
@@ -39,7 +39,7 @@ pub fn merge(near: &[u32], dual: u32, cells: &mut [u32])
     }
 }
 
-/// Leaves so much for each of the places.
+/// Sets the cells of the given vertices.
 pub fn put(left: u32, places: &[u32], cells: &mut [u32])
     requires { HasCells (λ x. count x places.now) cells.old }
     ensures { Puts left places.now cells.old cells.new }
@@ -49,7 +49,7 @@ pub fn put(left: u32, places: &[u32], cells: &mut [u32])
     }
 }
 
-/// The row of a single place.
+/// Returns the slack row of a single vertex.
 pub fn single_row(alloc: Global, t: &DistTable, place: u32) -> Result<Vec<u32>, Memory>
     requires { place < t.now.places }
     ensures row { IfOk result (λ row. row.items ≡ the_row t.now place) }
@@ -63,6 +63,7 @@ pub fn single_row(alloc: Global, t: &DistTable, place: u32) -> Result<Vec<u32>, 
     Ok(row)
 }
 
+/// Returns the slack between two vertices before any dual is taken; FAR where they are equal.
 fn cell_for(t: &DistTable, place: u32, x: u32) -> u32
     requires within { place < t.now.places }
     requires there { x < t.now.places }

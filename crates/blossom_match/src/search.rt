@@ -14,8 +14,8 @@ use crate::table::DistTable;
 use design_model::Memory;
 use std::alloc::Global;
 
-/// What can be done: a tight link from an outer set to a free place, to a match or to another outer
-/// set, or an inner set of dual 0.
+/// A step of a search. `Augment`, `Grow` and `Shrink` use a tight edge from an outer set: to a free vertex, a
+/// match, or another outer set. `Expand` takes the index of a branch whose inner set is a blossom of dual 0.
 #[derive(Clone, Copy, Drop)]
 pub enum Step {
     Meet(Link),
@@ -24,7 +24,7 @@ pub enum Step {
     Expand(usize),
 }
 
-/// Hangs the match that the link leads to into the tree.
+/// Moves the match that an edge leads to into the tree.
 pub fn grow_to(s: Search, link: Link) -> Result<Search, Memory>
     requires { CanStep (search_value s) (step.Grow link) }
     ensures advances { IfOk result (λ r. Advances (search_value s) (step.Grow link) (search_value r)) }
@@ -52,7 +52,7 @@ pub fn grow_to(s: Search, link: Link) -> Result<Search, Memory>
     })
 }
 
-/// Makes the blossom that the link closes one outer set.
+/// Shrinks the blossom that an edge closes to one outer set.
 pub fn shrink_by(alloc: Global, s: Search, link: Link) -> Result<Search, Memory>
     requires { CanStep (search_value s) (step.Shrink link) }
     ensures advances { IfOk result (λ r. Advances (search_value s) (step.Shrink link) (search_value r)) }
@@ -79,7 +79,7 @@ pub fn shrink_by(alloc: Global, s: Search, link: Link) -> Result<Search, Memory>
     })
 }
 
-/// Takes the inner set of the branch at the index apart.
+/// Expands the inner blossom of the branch at an index.
 pub fn expand_at(alloc: Global, s: Search, at: usize) -> Result<Search, Memory>
     requires { CanStep (search_value s) (step.Expand at) }
     ensures advances { IfOk result (λ r. Advances (search_value s) (step.Expand at) (search_value r)) }
@@ -107,7 +107,7 @@ pub fn expand_at(alloc: Global, s: Search, at: usize) -> Result<Search, Memory>
     })
 }
 
-/// Pairs all sets of the tree and the free place that the link leads to.
+/// Augments along the path to the free vertex that an edge leads to: all sets of the tree are matched.
 pub fn meet(alloc: Global, t: &DistTable, s: Search, link: Link) -> Result<Standing, Memory>
     requires { CanStepAt t.now (search_value s) (step.Meet link) }
     ensures { IfOk result (λ r. Ends t.now (search_value s) (step.Meet link) (standing_value r)) }
@@ -134,7 +134,7 @@ pub fn meet(alloc: Global, t: &DistTable, s: Search, link: Link) -> Result<Stand
     })
 }
 
-/// Takes a place out of a list that has it.
+/// Removes a vertex from a list that has it.
 pub fn take_place(places: &mut Vec<u32>, place: u32)
     requires { 1 ≤ count place places.old.items }
     ensures counts { (x : ℕ) → count x places.new.items + hit x place ≡ count x places.old.items }
@@ -144,6 +144,7 @@ pub fn take_place(places: &mut Vec<u32>, place: u32)
     let _taken = places.remove(at);
 }
 
+/// Returns the index of a vertex in a list that has it.
 fn index_of(places: &[u32], place: u32) -> usize
     requires { 1 ≤ count place places.now }
     ensures within { result < length places.now }

@@ -13,8 +13,7 @@ use design_model::Memory;
 use std::alloc::Global;
 use std::collections::VecDeque;
 
-/// Makes the blossom that a link between two outer sets closes into one outer set. The answer is the
-/// root.
+/// Shrinks the blossom that an edge between two outer sets closes to one outer set, and returns the root.
 pub fn shrink(
     alloc: Global,
     sets: &mut Sets,
@@ -49,8 +48,8 @@ pub fn shrink(
     Ok(blossom)
 }
 
-/// A chain of parts. The `way` leads into the first part, and the link of the last one to the place
-/// `to`; without parts the way does.
+/// A chain of parts. The edge `way` leads into the first part, and the edge of the last one to the vertex
+/// `to`. An empty chain is the edge `way` alone.
 #[derive(Drop)]
 struct Chain {
     way: Link,
@@ -59,7 +58,7 @@ struct Chain {
 }
 
 impl Chain {
-    /// Whether the set holds both ends.
+    /// Returns whether a set holds both ends.
     fn ends_in(&self, sets: &Sets, s: Seat) -> bool
         ensures yes { IsTrue result → (1 ≤ count self.now.way.from (members_at sets.now s.key))
             × (1 ≤ count self.now.to (members_at sets.now s.key)) }
@@ -68,7 +67,7 @@ impl Chain {
         s.holds(sets, self.way.from) && s.holds(sets, self.to)
     }
 
-    /// Goes on by the branch at the end that is in its outer set, or sets it aside.
+    /// Extends the chain by a branch at the end that is in its outer set, or sets the branch aside.
     fn climb(&mut self, sets: &Sets, b: Branch, aside: &mut Vec<Branch>) -> Result<(), Memory>
         requires { both self.old.way.from self.old.to (set_in sets.now b.outer) ≡ 0 }
         ensures { OnOk result (Climbs sets.now b self.old aside.old.items self.new aside.new.items) }
@@ -87,7 +86,7 @@ impl Chain {
         Ok(())
     }
 
-    /// Puts a set before the parts, and the link into it.
+    /// Prepends a set, and the edge into it.
     fn put_first(&mut self, seat: Seat, way: Link) -> Result<(), Memory>
         ensures parts { OnOk result (self.new.parts.items
             ≡ record { seat = seat; next = self.old.way } ∷ self.old.parts.items) }
@@ -102,7 +101,7 @@ impl Chain {
         Ok(())
     }
 
-    /// Puts a set behind the parts, and the link from it.
+    /// Appends a set, and the edge from it.
     fn put_last(&mut self, seat: Seat, next: Link) -> Result<(), Memory>
         ensures parts { OnOk result (self.new.parts.items
             ≡ self.old.parts.items ++ record { seat = seat; next = next } ∷ []) }
@@ -114,7 +113,7 @@ impl Chain {
         Ok(())
     }
 
-    /// The blossom of the parts and the set that both ends are in.
+    /// Returns the blossom of the parts and the set that both ends are in.
     fn close(self, alloc: Global, sets: &mut Sets, top: Seat) -> Result<Seat, Memory>
         requires can { Closable (set_in sets.old top) self.way (parts_in sets.old self.parts.items) self.to }
         requires kept { Kept (set_in sets.old top) }

@@ -8,8 +8,9 @@ use crate::branches::Branch;
 use crate::matches::Match;
 use crate::nest::{Seat, Sets};
 
-/// Matched sets, free places, and the height of each place: the duals of the sets that hold it, or
-/// the price of a free place. Each set stands in a slot of its own.
+/// A partial matching: matched sets, free vertices, and the height of each vertex. The height is the sum of
+/// the duals of the sets that hold the vertex, or the initial dual of a free one. Each set has a slot of its
+/// own.
 #[derive(Drop)]
 pub struct Standing {
     pub sets: Sets,
@@ -19,8 +20,8 @@ pub struct Standing {
     ghost stand: { AreSets sets (match_bands (matches_in sets matches.items)) } by { Prim.hlevel (props, set-prop) },
 }
 
-/// A search for a way from the root to a free place: the tree, the matches beside it, the free
-/// places, and the height of each place. Each set stands in a slot of its own.
+/// A search for an augmenting path from the root to a free vertex. The fields are the alternating tree, the
+/// matches outside it, the free vertices, and the height of each vertex. Each set has a slot of its own.
 #[derive(Drop)]
 pub struct Search {
     pub sets: Sets,

@@ -6,14 +6,14 @@ use design_model::Memory;
 use std::alloc::Global;
 use std::marker::Model;
 
-/// The most places that a table has.
+/// The maximum number of places of a table.
 pub const MAX_PLACES: u32 = 1024;
-/// The largest distance, in steps.
+/// The maximum distance, in steps.
 pub const MAX_DISTANCE: u32 = 200_000;
-/// More than twice any distance.
+/// A number above twice any distance, which represents "no edge" in slack rows.
 pub const FAR: u32 = 2 * MAX_DISTANCE + 1;
 
-/// The distance of each two of n places, in steps.
+/// The distance of each two of n places, in steps. A place is a vertex of a complete graph.
 #[derive(Drop)]
 pub struct DistTable {
     places: u32,
@@ -33,7 +33,7 @@ impl Model for DistTable {
 }
 
 impl DistTable {
-    /// A table of n places, in which all entries are 0.
+    /// Returns a table of n places, in which all entries are 0. The only error is out of memory.
     pub fn new(alloc: Global, n: u32) -> Result<DistTable, Memory>
         requires { n ≤ MAX_PLACES }
         ensures places { IfOk result (λ t. t.places ≡ n) }
@@ -43,7 +43,7 @@ impl DistTable {
         Ok(DistTable { places: n, cells })
     }
 
-    /// The number of places.
+    /// Returns the number of places.
     pub fn places(&self) -> u32
         ensures value { result ≡ self.now.places }
         ensures table { IsTable self.now }
@@ -51,7 +51,7 @@ impl DistTable {
         self.places
     }
 
-    /// Sets the entry of two places, both ways.
+    /// Sets the entry of two places, in both directions.
     pub fn set(&mut self, a: u32, b: u32, d: u32)
         requires differ { a ≢ b }
         requires a_in { a < self.old.places }
@@ -66,7 +66,7 @@ impl DistTable {
         self.cells[back] = d;
     }
 
-    /// The entry of two places.
+    /// Returns the entry of two places.
     pub fn get(&self, a: u32, b: u32) -> u32
         requires a_in { a < self.now.places }
         requires b_in { b < self.now.places }
@@ -76,7 +76,7 @@ impl DistTable {
         self.cells[self.cell(a, b)]
     }
 
-    /// Where the entry of two places stands in the row of the first.
+    /// Returns the index of the entry in the row of the first place.
     fn cell(&self, a: u32, b: u32) -> usize
         requires a_in { a < self.now.places }
         requires b_in { b < self.now.places }

@@ -12,7 +12,7 @@ use crate::opening::{Opened, open_at};
 use design_model::{Memory, Numbers};
 use std::alloc::Global;
 
-/// Adds the pairs inside a set whose member `left` is paired outside, and its moats.
+/// Appends the pairs inside a set and its moats, where its member `left` is paired outside.
 #[cycle(taking)]
 pub fn take_nest(
     alloc: Global,
@@ -42,7 +42,7 @@ pub fn take_nest(
     }
 }
 
-/// Adds the pairs of the matches and those inside them, and their moats.
+/// Appends the pairs of the matches, the pairs inside them, and their moats.
 #[cycle(taking)]
 pub fn take_matches(
     alloc: Global,
@@ -66,7 +66,7 @@ pub fn take_matches(
     Ok(())
 }
 
-/// A set of width 0 is left out.
+/// Appends a moat, unless its width is 0.
 fn add_moat(alloc: Global, members: &[u32], width: u32, moats: &mut Moats) -> Result<(), Memory>
     ensures { OnOk result (moats.new ≡ moats.old ++ own_moat members.now width) }
 {
@@ -81,6 +81,7 @@ fn add_moat(alloc: Global, members: &[u32], width: u32, moats: &mut Moats) -> Re
     Ok(())
 }
 
+/// Appends the pair of an edge.
 fn add_pair(link: Link, pairs: &mut Pairs) -> Result<(), Memory>
     ensures { OnOk result (pairs.new ≡ pairs.old ++ record { a = link.from; b = link.to } ∷ []) }
 {

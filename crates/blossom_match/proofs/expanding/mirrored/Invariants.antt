@@ -6,7 +6,7 @@ use Rattle.blossom_match.specs.Slots.{parts_in, set_in, Slots}
 use Rattle.blossom_match.specs.Shrinks.{part_of}
 use Rattle.blossom_match.proofs.expanding.mirrored.Given as goal
 
--- the chain told back so far, and the parts that are left
+-- the chain reversed so far, and the remaining parts
 abbrev pub invariant-loop-p : goal.invariant-loop-p
 invariant-loop-p l =
     (sets : Slots) → part_of (set_in sets l.first.seat) (back_of (last_link l.link (parts_in sets (into_iter_items l.left))))

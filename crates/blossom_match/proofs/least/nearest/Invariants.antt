@@ -3,6 +3,6 @@ use Rattle.blossom_match.specs.Slots.{branches_in}
 use Rattle.blossom_match.proofs.AimLemmas.{IsBelow}
 use Rattle.blossom_match.proofs.least.nearest.Given as goal
 
--- a place of the branches that are left leaves so much
+-- an outer vertex of the remaining branches has that slack
 abbrev pub invariant-loop-b : goal.invariant-loop-b
 invariant-loop-b l = IsBelow l.t l.heights (drop l.b-index (branches_in l.sets l.tree)) l.to l.left

@@ -2,7 +2,7 @@ use Rattle.std.proofs.Common.{◌≡◌, ◌≢◌, ◌≤◌, ◌<◌, ℕ, get
 use Rattle.blossom_match.specs.Tables.{entry}
 use Rattle.blossom_match.proofs.prices.halves.Given as goal
 
--- the prices so far
+-- the initial duals so far
 abbrev pub invariant-loop-place : goal.invariant-loop-place
 invariant-loop-place l = record {
   half : (a b : ℕ) → a < l.place → b < l.t.places → a ≢ b → get_or l.prices.items a 0 ≤ entry l.t a b;

@@ -3,7 +3,7 @@ use Rattle.blossom_match.specs.Tables.{entry}
 use Rattle.blossom_match.specs.declared.table.TheConstants.{MAX_DISTANCE}
 use Rattle.blossom_match.proofs.prices.slack_at.Given as goal
 
--- the price leaves no slack to the places so far negative
+-- with the dual no slack to the vertices so far is negative
 abbrev pub invariant-loop-other : goal.invariant-loop-other
 invariant-loop-other l = record {
   slack : (b : ℕ) → b < l.other → l.place ≢ b → l.least + get_or l.heights b 0 ≤ 2 * entry l.t l.place b;
