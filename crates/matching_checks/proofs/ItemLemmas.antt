@@ -1,4 +1,4 @@
--- Lists whose items are looked at one after another.
+-- Lists whose items are checked one after another.
 use Rattle.std.proofs.Common.{◌≡◌, ◌≢◌, ◌==◌, ℕ, ◌+◌, ◌<◌, ◌≤◌, ◌↔◌, List, ◌∷◌, ◌++◌, [], Bool, true, false, All, length, take, get_or, eqb, arith, sym, ap, subst, ◌∙◌}
 use Rattle.std.proofs.lemmas.Bool.{MatchBool-at_true, false≢true, eq-eqb, eqb-true, both_ways, ne_eqb}
 use Rattle.std.proofs.lemmas.Iterator.Search.{true_from_All}
@@ -16,7 +16,7 @@ all_whole {X} P xs i over all = subst (λ (ys : List X). All P ys) (take_all i x
 pub pairs_whole : {X : Type 0} (R : X → X → Type 0) (xs : List X) (i : ℕ) → length xs ≤ i → AllPairs R (take i xs) → AllPairs R xs
 pairs_whole {X} R xs i over pairs = subst (λ (ys : List X). AllPairs R ys) (take_all i xs over) pairs
 
--- a test of each item, by what it tells of them
+-- a test of each item, by its results
 pub all_by_cases : {X : Type 0} (P : X → Type 0) (r : Bool) (xs : List X)
     → MatchBool r (AllWithin P xs 0 (length xs)) ((k : ℕ) × (k < length xs) × HoldsAt (λ (x : X). P x → false ≡ true) xs k)
     → (r ≡ true) ↔ All P xs
@@ -38,7 +38,7 @@ all_held P xs all x some =
     let at = Any-from_list_any (λ (y : ℕ). eqb x y) xs some in
     subst P (at.3 ∙ sym (eqb-true x at.1 at.4)) (all at.0 at.1 at.2)
 
--- where items stand in a relation, so do those before one with it
+-- where all pairs of items are in a relation, each item before one is in it
 pub pairs_before : {X : Type 0} (R : X → X → Type 0) (xs : List X) (i : ℕ) (d x : X) → i < length xs → x ≡ get_or xs i d
     → AllPairs R xs → All (λ (y : X). R y x) (take i xs)
 pairs_before {X} R xs i d x low is pairs k e before =

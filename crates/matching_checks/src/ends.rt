@@ -4,7 +4,7 @@ ghost use Rattle.matching_checks.specs.Ends.{EndsBelow};
 
 use blossom_match::Pair;
 
-/// Whether each place is an end of exactly one pair, and no other number is an end.
+/// Returns whether each place is an end of exactly one pair, and no other number is an end.
 pub fn pairs_each(n: u32, pairs: &[Pair]) -> bool
     ensures { IsTrue result ↔ PairsEach n pairs.now }
 {
@@ -19,13 +19,14 @@ pub fn pairs_each(n: u32, pairs: &[Pair]) -> bool
     true
 }
 
+/// Returns whether both ends of each pair are below n.
 fn are_below(n: u32, pairs: &[Pair]) -> bool
     ensures { IsTrue result ↔ EndsBelow n pairs.now }
 {
     pairs.iter().all(|p| p.a < n && p.b < n)
 }
 
-/// How many ends of the pairs the place is, as far as that fits.
+/// Returns the number of pairs' ends that a place is, at most the maximum of 64 bits.
 fn ends(pairs: &[Pair], x: u32) -> u64
     ensures { result ≡ min (ends_at pairs.now x) (2 ^ 64 - 1) }
 {
@@ -36,6 +37,7 @@ fn ends(pairs: &[Pair], x: u32) -> u64
     count
 }
 
+/// Returns the number of a pair's ends that a place is.
 fn ends_of(p: Pair, x: u32) -> u64
     ensures { result ≡ (if x == p.a then 1 else 0) + (if x == p.b then 1 else 0) }
 {

@@ -1,4 +1,5 @@
-//! The five properties of a matching by plain programs, and tables whose matchings are known from elsewhere.
+//! Plain checks of the five properties of an optimal matching, and tests on tables whose optimal matchings
+//! are known from elsewhere.
 #![tactic(auto)]
 
 mod ends;

@@ -5,19 +5,21 @@ ghost use Rattle.blossom_match.specs.Tables.{entry};
 
 use blossom_match::{DistTable, Moat};
 
+/// Returns whether a place is a member of a moat.
 fn has(m: &Moat, x: u32) -> bool
     ensures { result ≡ holds m.now x }
 {
     m.members.as_slice().contains(&x)
 }
 
-/// Whether each moat is odd, of different places below n, and has a width.
+/// Returns whether each moat is odd, of different places below n, and has a width.
 pub fn all_odd(n: u32, moats: &[Moat]) -> bool
     ensures { IsTrue result ↔ All (IsOddMoat n) moats.now }
 {
     moats.iter().all(|m| is_odd(n, m))
 }
 
+/// Returns whether a moat is odd, of different places below n, and has a width.
 fn is_odd(n: u32, m: &Moat) -> bool
     ensures { IsTrue result ↔ IsOddMoat n m.now }
 {
@@ -25,12 +27,14 @@ fn is_odd(n: u32, m: &Moat) -> bool
     members.len() % 2 == 1 && m.width > 0 && are_below(n, members) && all_differ(members)
 }
 
+/// Returns whether all members are below n.
 fn are_below(n: u32, members: &[u32]) -> bool
     ensures { IsTrue result ↔ All (λ x. x < n) members.now }
 {
     members.iter().all(|x| *x < n)
 }
 
+/// Returns whether all members are different.
 fn all_differ(members: &[u32]) -> bool
     ensures { IsTrue result ↔ AllPairs (λ x y. x ≢ y) members.now }
 {
@@ -42,7 +46,7 @@ fn all_differ(members: &[u32]) -> bool
     true
 }
 
-/// Whether each two moats differ, and are nested or disjoint.
+/// Returns whether each two moats differ, and are nested or disjoint.
 pub fn all_laminar(moats: &[Moat]) -> bool
     ensures { IsTrue result ↔ AllPairs AreLaminar moats.now }
 {
@@ -54,13 +58,14 @@ pub fn all_laminar(moats: &[Moat]) -> bool
     true
 }
 
-/// Whether a moat is laminar to each of those before it.
+/// Returns whether a moat is laminar to each of those before it.
 fn is_laminar_to(before: &[Moat], m: &Moat) -> bool
     ensures { IsTrue result ↔ All (λ k. AreLaminar k m.now) before.now }
 {
     before.iter().all(|k| are_laminar(k, m))
 }
 
+/// Returns whether two moats differ, and are nested or disjoint.
 fn are_laminar(m: &Moat, k: &Moat) -> bool
     ensures { IsTrue result ↔ AreLaminar m.now k.now }
 {
@@ -71,7 +76,7 @@ fn are_laminar(m: &Moat, k: &Moat) -> bool
     }
 }
 
-/// Whether each member of the first is a member of the second.
+/// Returns whether each member of the first moat is a member of the second.
 fn lies_in(m: &Moat, k: &Moat) -> bool
     ensures yes { IsTrue result → LiesIn m.now k.now }
     ensures no { result ≡ false → (x : ℕ) × (holds m.now x ≡ true) × (holds k.now x ≡ false) }
@@ -84,6 +89,7 @@ fn lies_in(m: &Moat, k: &Moat) -> bool
     true
 }
 
+/// Returns whether two moats have no common member.
 fn lies_beside(m: &Moat, k: &Moat) -> bool
     ensures { IsTrue result ↔ LiesBeside m.now k.now }
 {
@@ -95,7 +101,7 @@ fn lies_beside(m: &Moat, k: &Moat) -> bool
     true
 }
 
-/// Whether no two places carry more than two halves for each step between them.
+/// Returns whether no two places have a load above two halves for each step between them.
 pub fn keeps_loads(t: &DistTable, moats: &[Moat]) -> bool
     ensures { IsTrue result ↔ KeepsLoads t.now moats.now }
 {
@@ -107,6 +113,7 @@ pub fn keeps_loads(t: &DistTable, moats: &[Moat]) -> bool
     true
 }
 
+/// Returns whether no load between a place and any other is too high.
 fn keeps_loads_from(t: &DistTable, moats: &[Moat], a: u32) -> bool
     requires { a < t.now.places }
     ensures { IsTrue result
@@ -120,7 +127,8 @@ fn keeps_loads_from(t: &DistTable, moats: &[Moat], a: u32) -> bool
     true
 }
 
-/// The widths of the moats that hold exactly one of two places, as far as they fit.
+/// Returns the widths of the moats that hold exactly one of two places, added up, at most the maximum of 64
+/// bits.
 fn load(moats: &[Moat], a: u32, b: u32) -> u64
     ensures { result ≡ min (load_on moats.now a b) (2 ^ 64 - 1) }
 {
@@ -131,6 +139,7 @@ fn load(moats: &[Moat], a: u32, b: u32) -> u64
     sum
 }
 
+/// Returns the width of a moat that holds exactly one of two places, else 0.
 fn share(m: &Moat, a: u32, b: u32) -> u64
     ensures { result ≡ (if crosses a b m.now then m.now.width else 0) }
 {
@@ -140,7 +149,7 @@ fn share(m: &Moat, a: u32, b: u32) -> u64
     m.width as u64
 }
 
-/// All widths, as far as they fit.
+/// Returns the total width, at most the maximum of 64 bits.
 pub fn width(moats: &[Moat]) -> u64
     ensures { result ≡ min (width_of moats.now) (2 ^ 64 - 1) }
 {

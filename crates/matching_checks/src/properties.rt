@@ -6,7 +6,7 @@ use crate::ends::pairs_each;
 use crate::moats::{all_laminar, all_odd, keeps_loads, width};
 use blossom_match::{DistTable, Matching};
 
-/// The entry of two places, and 0 where there is none.
+/// Returns the entry of two places, and 0 where there is none.
 pub(crate) fn distance(t: &DistTable, a: u32, b: u32) -> u32
     ensures { a < t.now.places → b < t.now.places → result ≡ entry t.now a b }
 {
@@ -14,7 +14,7 @@ pub(crate) fn distance(t: &DistTable, a: u32, b: u32) -> u32
     if a < n && b < n { t.get(a, b) } else { 0 }
 }
 
-/// The distances of all pairs, in steps, as far as they fit.
+/// Returns the total distance of all pairs, in steps, at most the maximum of 64 bits.
 pub fn cost(t: &DistTable, m: &Matching) -> u64
     ensures { PairsEach t.now.places m.now.pairs
         → result ≡ min (cost_of t.now m.now.pairs) (2 ^ 64 - 1) }
@@ -26,7 +26,7 @@ pub fn cost(t: &DistTable, m: &Matching) -> u64
     sum
 }
 
-/// The property that does not hold, in words, or nothing.
+/// Returns the first property that doesn't hold, as a text; the empty text where all five hold.
 pub fn fault(t: &DistTable, m: &Matching) -> &'static str
     ensures { (result.now ≡ []) ↔ IsMatching t.now m.now.pairs m.now.moats }
 {

@@ -8,7 +8,7 @@ use design_model::{Memory, Numbers};
 use std::alloc::Global;
 use std::test::Fail;
 
-/// The matching of a table with an even number of places that has no shorter way round.
+/// Returns the matching of a table with an even number of places that satisfies the triangle inequality.
 fn matched(alloc: Global, t: &DistTable) -> Result<Matching, Fail> {
     if t.places() % 2 == 0 && keeps_triangles(t) {
         return Ok(match_all(alloc, t).ok().ok_or("no memory")?);
@@ -114,7 +114,7 @@ fn random_tables_have_the_totals_of_another_program(rt: HostRuntime) -> Result<(
 /// No further member of a moat.
 const NONE: u32 = u32::MAX;
 
-/// A matching of these pairs, and of moats by their widths and up to three members.
+/// Returns a matching of the given pairs, and of moats given by their widths and up to three members.
 fn made(alloc: Global, pairs: &[[u32; 2]], moats: &[[u32; 4]]) -> Result<Matching, Memory> {
     let mut m = Matching {
         pairs: Pairs::new(alloc),

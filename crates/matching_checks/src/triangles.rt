@@ -3,7 +3,7 @@ ghost use Rattle.blossom_match.specs.Tables.{IsNoShorterBy, KeepsTriangles};
 
 use blossom_match::DistTable;
 
-/// Whether no way round by a third place is shorter than the way from one place to another.
+/// Returns whether a table satisfies the triangle inequality.
 pub fn keeps_triangles(t: &DistTable) -> bool
     ensures { IsTrue result ↔ KeepsTriangles t.now }
 {
@@ -15,6 +15,7 @@ pub fn keeps_triangles(t: &DistTable) -> bool
     true
 }
 
+/// Returns whether the triangle inequality holds for all paths from a place.
 fn keeps_from(t: &DistTable, a: u32) -> bool
     requires { a < t.now.places }
     ensures { IsTrue result ↔ ((b : ℕ) → b < t.now.places → IsNoShorterBy t.now a b) }
@@ -27,6 +28,7 @@ fn keeps_from(t: &DistTable, a: u32) -> bool
     true
 }
 
+/// Returns whether no path from `a` by `b` is shorter than the direct way.
 fn keeps_by(t: &DistTable, a: u32, b: u32) -> bool
     requires a_in { a < t.now.places }
     requires b_in { b < t.now.places }

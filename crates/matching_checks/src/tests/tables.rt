@@ -18,7 +18,7 @@ fn put(t: &mut DistTable, a: usize, b: usize, d: u32) {
     }
 }
 
-/// All places at one distance.
+/// Returns a table with all places at one distance.
 pub fn star(alloc: Global, n: usize, d: u32) -> Result<DistTable, Fail> {
     let mut t = empty(alloc, n)?;
     for a in 0..n {
@@ -29,7 +29,7 @@ pub fn star(alloc: Global, n: usize, d: u32) -> Result<DistTable, Fail> {
     Ok(t)
 }
 
-/// Places on an axis.
+/// Returns the distances of places on an axis.
 pub fn axis(alloc: Global, xs: &[u32]) -> Result<DistTable, Fail> {
     let mut t = empty(alloc, xs.len())?;
     for (a, x) in xs.iter().enumerate() {
@@ -40,7 +40,7 @@ pub fn axis(alloc: Global, xs: &[u32]) -> Result<DistTable, Fail> {
     Ok(t)
 }
 
-/// Clusters of places at one distance, and another between clusters.
+/// Returns clusters of places at one distance, with another distance between clusters.
 pub fn clusters(alloc: Global, sizes: &[u32], near: u32, far: u32) -> Result<DistTable, Fail> {
     let mut kinds = Vec::new(alloc);
     for (kind, size) in sizes.iter().enumerate() {
@@ -57,7 +57,7 @@ pub fn clusters(alloc: Global, sizes: &[u32], near: u32, far: u32) -> Result<Dis
     Ok(t)
 }
 
-/// Distances from 20 to 40 by a linear congruence.
+/// Returns distances from 20 to 40, by a linear congruence.
 pub fn random(alloc: Global, n: usize, seed: u64) -> Result<DistTable, Fail> {
     let mut t = empty(alloc, n)?;
     let mut x = seed;
