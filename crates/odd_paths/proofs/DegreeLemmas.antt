@@ -1,4 +1,4 @@
--- Degrees of junctions: what the line back adds to them, what they sum up to, and how many are odd.
+-- Degrees of junctions: the ends of the closing line, the sum of all degrees, and the number of odd ones.
 use Rattle.std.proofs.Common.{◌≡◌, ℕ, zero, suc, ◌+◌, ◌*◌, ◌%◌, ◌<◌, ◌≤◌, ◌==◌, Bool, true, false, ◌&&◌, List, [], ◌∷◌, ◌++◌, Option, Some, None, length, inl, inr, ap, ◌∙◌, refl, arith}
 use Rattle.std.proofs.lemmas.Bool.{and_from, and_parts, cases_eq}
 use Rattle.std.proofs.lemmas.Bool.Decides.{nat_tests}
@@ -32,7 +32,7 @@ odds_kept from to es at (suc n) =
     rw (degree_closed from to es at, ← odds_kept from to es (at + 1) n)
     (only_kept (is_odd (back_ends from to at + degree es at)) at (odds_from from to (at + 1) (degrees_from es (at + 1) n)))
 
--- so the degrees tell the odd junctions
+-- the degrees give the odd junctions
 pub odds_told : (p : PieceValue) → KeepsPiece p
     → odds_from (from_of p) (to_of p) 0 p.degrees ≡ odd_junctions p
 odds_told p keeps =
@@ -48,7 +48,7 @@ degrees_few p keeps =
     let count = ap (λ (degrees : List ℕ). length degrees) keeps.counted ∙ length-degrees_from p.edges 0 (length p.junctions) in
     omega (arith, count, keeps.junctions_few, keeps.few)
 
--- the sum of a quantity over so many junctions, from that number on
+-- the sum of a quantity over n junctions, from a number on
 abbrev sum_over : (ℕ → ℕ) → ℕ → ℕ → ℕ
 sum_over f at zero = 0
 sum_over f at (suc n) = f at + sum_over f (at + 1) n

@@ -1,4 +1,4 @@
--- A junction that isn't the start has a line by which a least walk comes to it.
+-- A junction other than the start has a line that is the last of a least walk to it.
 use Rattle.std.proofs.Common.{◌≡◌, ◌≢◌, ℕ, ◌+◌, ◌^◌, ◌<◌, ◌≤◌, List, [], ◌∷◌, ◌++◌, length, Bool, true, false, Some, None, refl, sym, ◌∙◌, ap, arith, inl, inr, subst, zero, suc, reverse}
 use Rattle.std.proofs.lemmas.Bool.{cases_eq, both_ways, and_parts, and_from, eqb-true, eq-eqb}
 use Rattle.std.proofs.lemmas.List.{reverse-append}
@@ -18,11 +18,11 @@ pub record IsLast (row : List ℕ) (e : Edge) (m j : ℕ) : Type 0 where
   pub links : Links e m j
   pub costs : slice_index row m + e.cost ≡ slice_index row j
 
--- such an edge stands at that place
+-- such an edge is at that index
 abbrev pub Comes : List Edge → List ℕ → ℕ → ℕ → ℕ → Type 0
 Comes es row j k m = (e : Edge) × (slice_get es k ≡ Some e) × IsLast row e m j
 
--- the test tells such an edge, in both of its directions
+-- the test finds such an edge, in both directions
 forth_told : (row : List ℕ) (e : Edge) (j m : ℕ) → comes row e.a e.b e.cost j ≡ true → e.a ≡ m → IsLast row e m j
 forth_told row e j m is same =
     let parts = and_parts (nat_eq e.b j) (nat_eq (slice_index row e.a + e.cost) (slice_index row j)) is in

@@ -1,4 +1,4 @@
--- What passes over edges keep in a table of lanes.
+-- The invariants that relaxation preserves in a table of lanes.
 use Rattle.std.proofs.Common.{◌≡◌, ℕ, ◌+◌, ◌<◌, ◌≤◌, Bool, false, List, Some, length, refl, sym, ◌∙◌, subst, arith}
 use Rattle.std.specs.Prelude.{slice_get}
 use Rattle.line_graph.specs.declared.edge.Edge.{Edge}

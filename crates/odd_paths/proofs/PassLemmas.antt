@@ -1,4 +1,4 @@
--- Walks of passes, and walks of places.
+-- Walks of passes, and walks of edge indexes.
 use Rattle.std.proofs.Common.{◌≡◌, ℕ, zero, suc, ◌<◌, ◌==◌, Bool, true, false, List, [], ◌∷◌, Option, Some, None, length, map, get_or, All, inl, inr, refl, sym, ap, ◌∙◌, arith}
 use Rattle.std.proofs.lemmas.Bool.{and_parts, eq-eqb, eqb-true}
 use Rattle.std.proofs.lemmas.Bool.Decides.{nat_tests}
@@ -14,7 +14,7 @@ use Rattle.odd_paths.proofs.PlaceLemmas.{none_is, some_is}
 use Rattle.odd_paths.specs.LeastRows.{IsLeastCost}
 use Rattle.odd_paths.specs.PlaceWalks.{IsLeastOf, IsPlaceWalk, Links, place_cost}
 
--- the edge of a line stands at some place
+-- the edge of a line is at some index
 placed : (lines : List ℕ) (es : List Edge) (line : ℕ) (e : Edge) → edge_of lines es line ≡ Some e
     → (k : ℕ) × (slice_get es k ≡ Some e)
 placed [] es line e is = absurd (none_is e is)
@@ -44,7 +44,7 @@ along_edge : (found : Option Edge) (back : Bool) (i m : ℕ) → after_edge foun
 along_edge None back i m is = absurd (none_is m is)
 along_edge (Some e) back i m is = (e, refl, links_by back e i m is)
 
--- a walk of passes goes along places, at the same cost
+-- a walk of passes is a walk of edge indexes, at the same cost
 to_places : (lines : List ℕ) (es : List Edge) (i j : ℕ) (walk : List Pass) → walk_on lines es (Some i) walk ≡ Some j
     → (ks : List ℕ) × IsPlaceWalk es i j ks × (place_cost es ks ≡ pass_sum lines es cost_of walk)
 to_places lines es i j [] leads = ([], some_is i j leads, refl)
@@ -64,7 +64,7 @@ to_places lines es i j (pass ∷ rest) leads =
         let of_line = ap (of_edge cost_of) e.1 in
         (k.0 ∷ more.0, (e.0, m, k.1, e.2, more.1), omega (arith, at_place, of_line, more.2))
 
--- in rising lines each line stands once, so the edge at a place is that of the line there
+-- in rising lines each line appears once, and the edge at an index is that of the line there
 above_at : (n : ℕ) (ms : List ℕ) (k : ℕ) → above n ms ≡ true → k < length ms → n < get_or ms k 0
 above_at n [] k rising there = absurd (omega arith)
 above_at n (m ∷ ms) zero rising there =
@@ -89,7 +89,7 @@ along_pass : (e : Edge) (i m : ℕ) → Links e i m → (back : Bool) × (after_
 along_pass e i m (inl both) = (false, rw (eq-eqb _ _ both.0) (ap (λ (n : ℕ). Some n) both.1))
 along_pass e i m (inr both) = (true, rw (eq-eqb _ _ both.0) (ap (λ (n : ℕ). Some n) both.1))
 
--- the passes along places
+-- the passes along edges given by index
 pub record HasPasses (lines : List ℕ) (es : List Edge) (i j : ℕ) (ks : List ℕ) : Type 0 where
   pub walk : List Pass
   pub leads : walk_on lines es (Some i) walk ≡ Some j
@@ -128,7 +128,7 @@ to_passes lines es i j (k ∷ ks) rising beside walk =
     passed_first lines es i walk.1 j k ks walk.0 walk.2 (edge_at lines es k walk.0 rising beside walk.2) pass.0 pass.1
     (omega (arith, slice_get_within es k walk.0 walk.2, beside)) (to_passes lines es walk.1 j ks rising beside walk.4)
 
--- least costs over places are those over passes
+-- least costs over edge indexes are those over passes
 pub over_passes : (p : PieceValue) → KeepsPiece p → (i j d : ℕ) → IsLeastOf p.edges i j d → IsLeastCost p i j d
 over_passes p keeps i j d least =
     let there = least.there in

@@ -42,7 +42,7 @@ some_is x y h = cc
 pub none_is : {A : Type 0} (x : A) → None ≡ Some x → ⊥
 none_is x h = cc
 
--- the ends and the cost of the edge at a place
+-- the ends and the cost of the edge at an index
 pub below_at : (n : ℕ) (es : List Edge) (k : ℕ) (e : Edge) → AreWithin n es → slice_get es k ≡ Some e → (e.a < n) × (e.b < n)
 below_at n [] k e ends got = absurd (none_is e got)
 below_at n (x ∷ xs) zero e ends got = subst (λ (z : Edge). (z.a < n) × (z.b < n)) (some_is x e got) (ends.0, ends.1)

@@ -73,14 +73,14 @@ known_odd_ends = refl
 pub known_odd_leaves : odd_junctions (star (Some 1) (Some 2)) ≡ 0 ∷ 3 ∷ []
 known_odd_leaves = refl
 
--- where one of them is said, it stands for both, and nothing changes
+-- a single required junction is both start and end, and nothing changes
 pub known_odd_start : odd_junctions (star (Some 1) None) ≡ 0 ∷ 1 ∷ 2 ∷ 3 ∷ []
 known_odd_start = refl
 
 pub known_odd_end : odd_junctions (theta None (Some 1)) ≡ 0 ∷ 1 ∷ []
 known_odd_end = refl
 
--- the degrees tell the same
+-- the degrees give the same junctions
 pub known_told : odds_from (Some 0) (Some 1) 0 (1 ∷ 2 ∷ 1 ∷ []) ≡ 1 ∷ 2 ∷ []
 known_told = refl
 
@@ -107,7 +107,7 @@ known_piece_cost = refl
 pub known_lines : lines_at (path None None) (1 ∷ 0 ∷ 1 ∷ []) ≡ 7 ∷ 4 ∷ 7 ∷ []
 known_lines = refl
 
--- from the far end back to the first junction; the places the other way round lead nowhere
+-- from the far end back to the first junction; the reversed indexes are no walk
 abbrev home : List Pass
 home = pass 7 true ∷ pass 4 true ∷ []
 

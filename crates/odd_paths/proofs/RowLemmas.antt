@@ -1,4 +1,4 @@
--- A sound row that no sweep changes has the least costs, since the edges join all junctions.
+-- A row of walk costs that no sweep changes has the least costs, since the edges connect all junctions.
 use Rattle.std.proofs.Common.{◌≡◌, ℕ, ◌+◌, ◌<◌, ◌≤◌, Bool, true, false, List, ◌++◌, length, take, drop, replicate, refl, sym, ap, ◌∙◌, subst, arith}
 use Rattle.std.proofs.lemmas.Bool.{lt-ltb, ltb-true}
 use Rattle.std.proofs.Math.Seq.{take-append_seam}
@@ -76,7 +76,7 @@ after_sweep es n from row new ends value s = subst (λ (r : List ℕ). IsSound e
 pub settled_new : (es : List Edge) (row new : List ℕ) → new ≡ swept row es → changes row es ≡ false → IsSettled new es
 settled_new es row new value h = subst (λ (r : List ℕ). IsSettled r es) (sym value) (settled_row es row h)
 
--- what is left of a row behind a call on its slice
+-- a row after a call on its slice
 pub written : (len : ℕ) (new old : List ℕ) → length new ≡ len → take len (new ++ drop (length new) old) ≡ new
 written len new old h = subst (λ (n : ℕ). take n (new ++ drop (length new) old) ≡ new) h (take-append_seam new (drop (length new) old))
 

@@ -31,7 +31,7 @@ known_changes = (refl, refl)
 pub known_lowered : (lowered (2 ∷ 9 ∷ []) 0 1 6 ≡ 2 ∷ 8 ∷ []) × (lowered (2 ∷ 9 ∷ []) 0 1 7 ≡ 2 ∷ 9 ∷ [])
 known_lowered = (refl, refl)
 
--- the edge by which a walk comes, and where it comes from; none comes to the terminal
+-- the last edge of a walk, and its other end; there is none for the terminal
 pub known_last : (last_from (0 ∷ 3 ∷ 8 ∷ []) 2 0 forth ≡ Some (1, 1)) × (last_from (0 ∷ 3 ∷ 8 ∷ []) 1 0 back ≡ Some (1, 0))
     × (last_from (0 ∷ 3 ∷ 8 ∷ []) 0 0 back ≡ None)
 known_last = (refl, refl, refl)

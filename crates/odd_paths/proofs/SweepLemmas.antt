@@ -1,4 +1,4 @@
--- Where a sweep changes nothing, no walk costs less than the row says.
+-- Where a sweep changes nothing, no walk costs less than the number in the row.
 use Rattle.std.proofs.Common.{◌≡◌, ℕ, ◌+◌, ◌≤◌, List, [], ◌∷◌, Bool, true, false, Some, refl, ◌∙◌, ap, arith, inl, inr, subst, zero, suc}
 use Rattle.std.proofs.lemmas.Bool.{both_ways, ltb-false}
 use Rattle.std.specs.Prelude.{slice_get, slice_index, ◌||◌}

@@ -118,7 +118,7 @@ is_a_row p rows t row keeps all there got = record {
   most = λ j in_j. subst (λ (d : ℕ). d ≤ piece_cost p) (ap (λ (r : Option (List ℕ)). cost_in r j) got) (all.most t j there in_j);
 }
 
--- so is what stands for it in a call
+-- likewise for the argument of a call
 pub is_this_row : (p : PieceValue) (rows : RowsValue) (t : ℕ) (row : List ℕ) (es : List Edge) (from : ℕ) → KeepsPiece p → AreRows p rows
     → t < length rows.terminals → slice_get rows.table t ≡ Some row → es ≡ p.edges → from ≡ terminal_of rows t
     → IsRowFrom es from row
@@ -138,7 +138,7 @@ pub is_wide : (p : PieceValue) (rows : RowsValue) (t : ℕ) (row : List ℕ) →
     → length row ≡ length p.junctions
 is_wide p rows t row all got = row_of (length p.junctions) t rows.table row all.wide got
 
--- places that lead at the cost that the row tells are a path
+-- the indexes of edges that lead there, at the cost in the row, are a path
 pub is_path : (p : PieceValue) (rows : RowsValue) (t j : ℕ) (row places : List ℕ) → KeepsPiece p → slice_get rows.table t ≡ Some row
     → AreLeast p.edges row (terminal_of rows t) j places → IsPath p (terminal_of rows t) j (cost_at rows t j) places
 is_path p rows t j row places keeps got least =

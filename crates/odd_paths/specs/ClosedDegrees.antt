@@ -1,19 +1,20 @@
--- The odd junctions of a piece, as the degrees of its junctions tell them.
+-- The odd junctions of a piece, computed from the degrees of its junctions. A junction is a vertex.
 use Rattle.std.specs.Prelude.{ℕ, ◌+◌, ◌==◌, Bool, true, false, List, [], ◌∷◌, ◌++◌, Option, Some, None}
 use Rattle.line_graph.specs.PieceGraphs.{bit, is_odd}
 
--- how many ends the line back to where a walk began has at a junction, if there is such a line
+-- The number of ends that the closing line has at a junction. The closing line leads from the end
+-- of the walk back to its start; none is counted where no start and end are required.
 abbrev pub back_ends : (from to : Option ℕ) → ℕ → ℕ
 back_ends (Some from) (Some to) j = bit (to == j) + bit (from == j)
 back_ends (Some from) None j = 0
 back_ends None to j = 0
 
--- the junction alone, or none
+-- The list of one junction, or the empty list.
 abbrev pub only_if : Bool → ℕ → List ℕ
 only_if true j = j ∷ []
 only_if false j = []
 
--- the odd junctions from that number on, by the degrees of these junctions
+-- The odd junctions with index `at` or above, given the degrees of these junctions.
 abbrev pub odds_from : (from to : Option ℕ) → (at : ℕ) → List ℕ → List ℕ
 odds_from from to at [] = []
 odds_from from to at (degree ∷ rest) =

@@ -1,13 +1,12 @@
--- How the least costs between the junctions of a piece stand to one another. Costs count steps.
+-- The least costs between the junctions of a piece form a metric. Costs count steps.
 use Rattle.std.specs.Prelude.{◌≡◌, ◌≢◌, ℕ, ◌+◌, ◌≤◌, Some, slice_get}
 use Rattle.line_graph.specs.declared.edge.Edge.{Edge}
 use Rattle.line_graph.specs.KeptPieces.{KeepsPiece}
 use Rattle.line_graph.specs.PieceGraphs.{PieceValue}
 use Rattle.odd_paths.specs.LeastRows.{IsLeastCost}
 
--- a junction is at no cost from itself alone, the way back costs the same, a line changes a least
--- cost by no more than its own, and a way through a third junction costs no less, also where that
--- junction is one to which both lead
+-- The least costs of a piece are a metric: 0 only from a junction to itself, symmetric, and with
+-- the triangle inequality. A line changes a least cost by at most its own cost.
 pub record AreDistances (p : PieceValue) : Type 0 where
   pub home : (i d : ℕ) → IsLeastCost p i i d → d ≡ 0
   pub apart : (i j d : ℕ) → i ≢ j → IsLeastCost p i j d → 1 ≤ d
@@ -19,6 +18,6 @@ pub record AreDistances (p : PieceValue) : Type 0 where
   pub meeting : (i m j d f g : ℕ) → IsLeastCost p i j d → IsLeastCost p i m f → IsLeastCost p j m g
       → d ≤ f + g
 
--- so it is in each piece
+-- The least costs of each piece are a metric.
 abbrev pub LeastCostsAreDistances : Type 0
 LeastCostsAreDistances = (p : PieceValue) → KeepsPiece p → AreDistances p

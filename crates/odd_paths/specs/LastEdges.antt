@@ -1,15 +1,16 @@
--- The edge by which a walk of least cost comes to a junction.
+-- The last edge of a walk of least cost to a junction.
 use Rattle.std.specs.Prelude.{◌≡◌, ℕ, ◌+◌, ◌<◌, ◌≤◌, List, [], ◌∷◌, Bool, nat_eq, ◌&&◌, if◌then◌else◌, slice_index, Option, Some, None, length, true}
 use Rattle.line_graph.specs.declared.edge.Edge.{Edge}
 use Rattle.line_graph.specs.declared.limits.TheConstants.{MAX_LINES}
 use Rattle.line_graph.specs.KeptPieces.{all_cost}
 use Rattle.odd_paths.specs.PlaceWalks.{AreWithin, IsPlaceWalk, IsRow, place_cost}
 
--- by the row, an edge from a to b of that cost is the last of a least walk to j
+-- An edge from a to b of the given cost is the last of a least walk to j, by a row of least costs.
 abbrev pub comes : List ℕ → ℕ → ℕ → ℕ → ℕ → Bool
 comes row a b cost j = nat_eq b j && nat_eq (slice_index row a + cost) (slice_index row j)
 
--- the place of the first such edge, and where it comes from; the first of the edges is at place k
+-- The index of the first edge that is the last of a least walk to j, and its other end. The first
+-- of the given edges has index k.
 abbrev pub last_from : List ℕ → ℕ → ℕ → List Edge → Option (ℕ × ℕ)
 last_from row j k [] = None
 last_from row j k (e ∷ es) =
@@ -19,7 +20,7 @@ last_from row j k (e ∷ es) =
     then Some (k, e.b)
     else last_from row j (k + 1) es
 
--- the row of a junction, over edges that cost a step or more
+-- The row of least costs of a junction, over edges that cost at least one step.
 pub record IsRowFrom (es : List Edge) (from : ℕ) (row : List ℕ) : Type 0 where
   pub least : IsRow es (length row) from row
   pub ends : AreWithin (length row) es
@@ -27,7 +28,7 @@ pub record IsRowFrom (es : List Edge) (from : ℕ) (row : List ℕ) : Type 0 whe
   pub few : length es ≤ MAX_LINES
   pub there : from < length row
 
--- the places lead from i to j at the cost that the row tells
+-- The edges at these indexes are a walk from i to j, at the cost in the row.
 pub record AreLeast (es : List Edge) (row : List ℕ) (i j : ℕ) (ks : List ℕ) : Type 0 where
   pub walk : IsPlaceWalk es i j ks
   pub costs : place_cost es ks ≡ slice_index row j

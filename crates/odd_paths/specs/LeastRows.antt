@@ -4,52 +4,52 @@ use Rattle.line_graph.specs.declared.pass.Pass.{Pass}
 use Rattle.line_graph.specs.PieceGraphs.{PieceValue}
 use Rattle.line_graph.specs.PieceWalks.{piece_cost, walk_cost, walk_on}
 
--- the walk leads from one junction to the other
+-- A walk leads from junction i to junction j.
 abbrev pub LeadsFrom : PieceValue → ℕ → ℕ → List Pass → Type 0
 LeadsFrom p i j walk = walk_on p.lines p.edges (Some i) walk ≡ Some j
 
--- a walk of that cost leads from one junction to the other, and none costs less; the walk without a
--- pass leads from each junction to itself
+-- The least cost of a walk from junction i to junction j. The empty walk leads from each junction
+-- to itself.
 pub record IsLeastCost (p : PieceValue) (i j cost : ℕ) : Type 0 where
   pub walk : List Pass
   pub leads : LeadsFrom p i j walk
   pub costs : walk_cost p walk ≡ cost
   pub least : (other : List Pass) → LeadsFrom p i j other → cost ≤ walk_cost p other
 
--- a row for each terminal, with a number for each junction
+-- Rows of least costs: the terminals, and for each a row with a number for each junction.
 pub record RowsValue : Type 0 where
   pub terminals : List ℕ
   pub table : List (List ℕ)
 
--- the number of a row at a junction
+-- The number of a row at a junction.
 abbrev pub cost_in : Option (List ℕ) → ℕ → ℕ
 cost_in None j = 0
 cost_in (Some row) j = slice_index row j
 
--- how many numbers a row has
+-- The number of junctions that a row has a cost for.
 abbrev pub length_in : Option (List ℕ) → ℕ
 length_in None = 0
 length_in (Some row) = length row
 
--- how many numbers row t of the table has
+-- The length of row t.
 abbrev pub row_length : RowsValue → ℕ → ℕ
 row_length rows t = length_in (slice_get rows.table t)
 
--- the number of the table at row t and junction j
+-- The cost in row t at junction j.
 abbrev pub cost_at : RowsValue → ℕ → ℕ → ℕ
 cost_at rows t j = cost_in (slice_get rows.table t) j
 
--- the terminal with that index
+-- The terminal of row t.
 abbrev pub terminal_of : RowsValue → ℕ → ℕ
 terminal_of rows t = slice_index rows.terminals t
 
--- different junctions of a piece
+-- Terminals: different junctions of a piece.
 pub record AreTerminals (p : PieceValue) (terminals : List ℕ) : Type 0 where
   pub different : AllPairs (λ t u. t ≢ u) terminals
   pub there : All (λ t. t < length p.junctions) terminals
 
--- the rows of a piece for these terminals: each number is the least cost from the row's terminal to
--- the junction, and no more than all lines cost
+-- The rows of a piece for its terminals. Each number is the least cost from the terminal to the
+-- junction, and at most the cost of all lines.
 pub record AreRows (p : PieceValue) (rows : RowsValue) : Type 0 where
   pub terminals : AreTerminals p rows.terminals
   pub sized : length rows.table ≡ length rows.terminals
@@ -59,12 +59,12 @@ pub record AreRows (p : PieceValue) (rows : RowsValue) : Type 0 where
   pub most : (t j : ℕ) → t < length rows.terminals → j < length p.junctions
       → cost_at rows t j ≤ piece_cost p
 
--- the lines at these places of a piece
+-- The lines of a piece at the given indexes.
 abbrev pub lines_at : PieceValue → List ℕ → List ℕ
 lines_at p places = map (λ k. get_or p.lines k 0) places
 
--- the places are those of the lines of a walk of that cost from one junction to
--- the other, in its order
+-- The indexes of the lines of a walk of the given cost from junction i to junction j, in the order
+-- of the walk.
 pub record IsPath (p : PieceValue) (i j cost : ℕ) (places : List ℕ) : Type 0 where
   pub there : All (λ k. k < length p.lines) places
   pub walk : List Pass

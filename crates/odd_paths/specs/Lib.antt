@@ -1,5 +1,5 @@
 pub mod OddJunctions
--- read this one first
+-- Read this one first: least costs between the junctions of a piece.
 pub mod LeastRows
 pub mod CostLaws
 pub mod ClosedDegrees

@@ -7,10 +7,11 @@ use design_model::Memory;
 use line_graph::Edge;
 use std::alloc::Global;
 
-/// A number above all places of edges.
+/// A number above all indexes of edges.
 const PLACES: u64 = 2_048;
 
-/// The edges by how far their ends are by a row, nearest first: numbers that hold their places.
+/// Returns the edges ordered by the distance of their ends in a row, nearest first. Each number holds the
+/// index of an edge. The only error is out of memory.
 pub fn order_by(alloc: Global, edges: &[Edge], row: &[u32]) -> Result<Vec<u64>, Memory>
     requires ends { AreWithin (length row.now) edges.now }
     requires few { length edges.now ≤ MAX_LINES }
@@ -21,6 +22,7 @@ pub fn order_by(alloc: Global, edges: &[Edge], row: &[u32]) -> Result<Vec<u64>, 
     Ok(order)
 }
 
+/// Returns a sort key for each edge: the distance of its ends, then its index.
 fn keys(alloc: Global, edges: &[Edge], row: &[u32]) -> Result<Vec<u64>, Memory>
     requires ends { AreWithin (length row.now) edges.now }
     requires few { length edges.now ≤ MAX_LINES }
@@ -38,7 +40,7 @@ fn keys(alloc: Global, edges: &[Edge], row: &[u32]) -> Result<Vec<u64>, Memory>
     Ok(keys)
 }
 
-/// The place that a number of an order holds.
+/// Returns the index of the edge that a sort key holds.
 pub fn place_in(key: u64) -> usize
     ensures { result < PLACES }
 {

@@ -7,10 +7,10 @@ ghost use Rattle.odd_paths.specs.Sweeps.{changes, is_lower, lowered, relaxed, re
 
 use line_graph::Edge;
 
-/// How many terminals a table has.
+/// The number of terminals of a table.
 pub const LANES: usize = 16;
 
-/// Lowers the lanes at the ends of all edges in order, and says whether a number was lowered.
+/// Relaxes all edges in order, and returns whether a number was lowered.
 pub fn sweep(table: &mut [[u32; LANES]], edges: &[Edge]) -> bool
     requires { Suits edges.now table.old }
     ensures value { EachLane (λ i. column i table.new ≡ swept (column i table.old) edges.now) }
@@ -28,7 +28,7 @@ pub fn sweep(table: &mut [[u32; LANES]], edges: &[Edge]) -> bool
     changed
 }
 
-/// Lowers the lanes at both ends of an edge.
+/// Relaxes an edge in both directions, and returns whether a number was lowered.
 pub fn relax(table: &mut [[u32; LANES]], e: Edge) -> bool
     requires a { e.a < length table.old }
     requires b { e.b < length table.old }
@@ -44,13 +44,14 @@ pub fn relax(table: &mut [[u32; LANES]], e: Edge) -> bool
     either(forth, back)
 }
 
+/// Returns the disjunction, without a branch.
 fn either(one: bool, other: bool) -> bool
     ensures { result ≡ one || other }
 {
     one | other
 }
 
-/// Lowers the lane of `b` to that of `a` and the cost, where this is less.
+/// Relaxes the lane of `b` from that of `a`, and returns whether a number was lowered.
 fn lower(table: &mut [[u32; LANES]], a: u32, b: u32, cost: u32) -> bool
     requires a { a < length table.old }
     requires b { b < length table.old }
@@ -65,7 +66,7 @@ fn lower(table: &mut [[u32; LANES]], a: u32, b: u32, cost: u32) -> bool
     lower_lane(&mut table[b as usize], near, cost)
 }
 
-/// Lowers the numbers of a lane to those of the near lane and the cost, where these are less.
+/// Sets each number of a lane to the minimum of its value, and of the near lane's number plus the cost.
 fn lower_lane(lane: &mut [u32; LANES], near: [u32; LANES], cost: u32) -> bool
     requires capped { EachLane (λ i. slice_index near i ≤ FAR) }
     requires cost { cost ≤ MAX_COST }

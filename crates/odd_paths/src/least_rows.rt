@@ -13,7 +13,7 @@ use design_model::Memory;
 use line_graph::{Edge, Piece};
 use std::alloc::Global;
 
-/// The rows of a piece for these junctions.
+/// Returns the rows of least costs of a piece for the given terminals. The only error is out of memory.
 pub fn rows(alloc: Global, p: &Piece, terminals: &[u32]) -> Result<Rows, Memory>
     requires { AreTerminals (graph_of p.now) terminals.now }
     ensures rows { IfOk result (AreRows (graph_of p.now)) }
@@ -25,7 +25,7 @@ pub fn rows(alloc: Global, p: &Piece, terminals: &[u32]) -> Result<Rows, Memory>
     Ok(Rows::of_parts(kept, table))
 }
 
-/// A row for each of the junctions.
+/// Returns a row of least costs for each of the terminals.
 fn table_of(
     alloc: Global,
     edges: &[Edge],
@@ -47,7 +47,7 @@ fn table_of(
     Ok(table)
 }
 
-/// The order of the edges by the row of the first terminal.
+/// Returns the edges ordered by the row of the first terminal.
 fn first_order(
     alloc: Global,
     edges: &[Edge],

@@ -9,19 +9,19 @@ use design_model::{Memory, Numbers};
 use line_graph::Piece;
 use std::alloc::Global;
 
-/// The indexes of the odd junctions of a piece, rising.
+/// Returns the indexes of the odd junctions of a piece, in rising order. The only error is out of memory.
 pub fn odd(alloc: Global, p: &Piece) -> Result<Numbers, Memory>
     ensures { IfOk result (λ odds. odds ≡ odd_junctions (graph_of p.now)) }
 {
     odds_in(alloc, p.degrees.as_slice(), p.from(), p.to())
 }
 
-/// The odd junctions of a piece are even in number.
+/// The number of odd junctions of a piece is even.
 pub fn odds_are_even()
     ensures { OddsAreEven }
 {}
 
-/// The odd junctions by their degrees, where a line back leads from `to` to `from`.
+/// Returns the odd junctions by their degrees, where a closing line leads from `to` to `from`.
 fn odds_in(
     alloc: Global,
     degrees: &[u32],
@@ -42,6 +42,7 @@ fn odds_in(
     Ok(odds)
 }
 
+/// Appends a junction where it is odd.
 fn push_odd(odds: &mut Numbers, at: u32, is_odd: bool) -> Result<(), Memory>
     ensures { OnOk result (odds.new ≡ odds.old ++ only_if is_odd at) }
 {
@@ -51,7 +52,7 @@ fn push_odd(odds: &mut Numbers, at: u32, is_odd: bool) -> Result<(), Memory>
     Ok(())
 }
 
-/// Whether the junction at that index, of that degree, is odd, where a line back leads from `to` to
+/// Returns whether the junction at an index is odd, given its degree, where a closing line leads from `to` to
 /// `from`.
 pub fn is_odd_at(at: u32, degree: u32, from: Option<u32>, to: Option<u32>) -> bool
     ensures { result ≡ is_odd (ends_back from to at + degree) }
@@ -59,6 +60,7 @@ pub fn is_odd_at(at: u32, degree: u32, from: Option<u32>, to: Option<u32>) -> bo
     (back_ends(at, from, to) + degree % 2) % 2 == 1
 }
 
+/// Returns the number of ends of the closing line at a junction.
 fn back_ends(at: u32, from: Option<u32>, to: Option<u32>) -> u32
     ensures value { result ≡ ends_back from to at }
     ensures most { result ≤ 2 }
@@ -72,6 +74,7 @@ fn back_ends(at: u32, from: Option<u32>, to: Option<u32>) -> u32
     }
 }
 
+/// Returns 1 for true and 0 for false.
 fn bit(is: bool) -> u32
     ensures value { result ≡ bit_of is }
     ensures most { result ≤ 1 }

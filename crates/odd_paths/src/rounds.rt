@@ -7,11 +7,11 @@ use crate::edge_order::place_in;
 use crate::lanes::{LANES, relax, sweep};
 use line_graph::Edge;
 
-/// How many rounds the edges take where their order is a good one.
+/// The number of rounds that the edges take where their order is a good one.
 const FEW_ROUNDS: u32 = 6;
 
-/// Lowers the lanes until nothing changes, and says whether that took many rounds: then another
-/// order of the edges may be a better one.
+/// Relaxes all edges until nothing changes, and returns whether that took many rounds. In this case another
+/// order of the edges may be better.
 pub fn settle(table: &mut [[u32; LANES]], edges: &[Edge], order: &[u64]) -> bool
     requires { Suits edges.now table.old }
     ensures keeps { KeepsCosts edges.now table.old table.new }
@@ -26,7 +26,7 @@ pub fn settle(table: &mut [[u32; LANES]], edges: &[Edge], order: &[u64]) -> bool
     }
 }
 
-/// Goes through the edges backwards and forwards by the order, and once as they stand.
+/// Relaxes the edges backwards and forwards in the given order, and once in their own order.
 fn round(table: &mut [[u32; LANES]], edges: &[Edge], order: &[u64]) -> bool
     requires { Suits edges.now table.old }
     ensures keeps { KeepsCosts edges.now table.old table.new }
@@ -38,6 +38,7 @@ fn round(table: &mut [[u32; LANES]], edges: &[Edge], order: &[u64]) -> bool
     sweep(table, edges)
 }
 
+/// Relaxes the edges in the given order, last first.
 fn backwards(table: &mut [[u32; LANES]], edges: &[Edge], order: &[u64])
     requires { Suits edges.now table.old }
     ensures { KeepsCosts edges.now table.old table.new }
@@ -47,6 +48,7 @@ fn backwards(table: &mut [[u32; LANES]], edges: &[Edge], order: &[u64])
     }
 }
 
+/// Relaxes the edges in the given order.
 fn forwards(table: &mut [[u32; LANES]], edges: &[Edge], order: &[u64])
     requires { Suits edges.now table.old }
     ensures { KeepsCosts edges.now table.old table.new }
@@ -56,7 +58,7 @@ fn forwards(table: &mut [[u32; LANES]], edges: &[Edge], order: &[u64])
     }
 }
 
-/// Lowers the lanes at the ends of the edge at that place, if there is one.
+/// Relaxes the edge at an index, if there is one.
 fn relax_at(table: &mut [[u32; LANES]], edges: &[Edge], place: usize)
     requires { Suits edges.now table.old }
     ensures { KeepsCosts edges.now table.old table.new }

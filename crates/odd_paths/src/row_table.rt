@@ -28,7 +28,7 @@ impl Model for Rows {
 }
 
 impl Rows {
-    /// The rows of these terminals, in this order.
+    /// Returns the rows of the given terminals, in the given order.
     pub(crate) fn of_parts(terminals: Vec<u32>, table: Vec<Vec<u32>>) -> Self
         ensures terminals { result.terminals ≡ terminals.items }
         ensures table { result.table ≡ map (λ row. row.items) table.items }
@@ -36,7 +36,7 @@ impl Rows {
         Rows { terminals, table }
     }
 
-    /// The number at row `t` and junction `j`, both of them by index.
+    /// Returns the cost in row `t` at junction `j`, both given by index.
     pub fn least(&self, t: usize, j: u32) -> u32
         requires row { t < length self.now.table }
         requires junction { j < row_length self.now t }
@@ -45,14 +45,14 @@ impl Rows {
         self.table[t][j as usize]
     }
 
-    /// How many terminals there are.
+    /// Returns the number of terminals.
     pub fn len(&self) -> usize
         ensures { result ≡ length self.now.terminals }
     {
         self.terminals.len()
     }
 
-    /// Row `t`: the least costs from terminal `t` to the junctions.
+    /// Returns row `t`: the least costs from terminal `t` to the junctions.
     pub fn row(&self, t: usize) -> &[u32]
         requires { t < length self.now.table }
         ensures { slice_get self.now.table t ≡ Some result.now }
@@ -60,8 +60,8 @@ impl Rows {
         self.table[t].as_slice()
     }
 
-    /// The places, in the edges of the piece, of the lines of a least walk from terminal `t` to
-    /// junction `j`, in the order of the walk.
+    /// Returns a least walk from terminal `t` to junction `j`: the indexes of its lines in the edges of the
+    /// piece, in order. The only error is out of memory.
     pub fn path(&self, alloc: Global, p: &Piece, t: usize, j: u32) -> Result<Numbers, Memory>
         requires rows { AreRows (graph_of p.now) self.now }
         requires row { t < length self.now.terminals }
@@ -73,6 +73,7 @@ impl Rows {
         Ok(Numbers::from_vec(places))
     }
 
+    /// Returns the terminal of row `t`.
     fn terminal(&self, t: usize) -> u32
         requires { t < length self.now.terminals }
         ensures { result ≡ terminal_of self.now t }

@@ -6,7 +6,7 @@ use design_model::Memory;
 use line_graph::Edge;
 use std::alloc::Global;
 
-/// The least costs from a junction to each of `n` junctions.
+/// Returns the least costs from a junction to each of `n` junctions.
 pub fn least_row(alloc: Global, edges: &[Edge], n: usize, from: u32) -> Result<Vec<u32>, Memory>
     requires graph { IsGraph edges.now n }
     requires from { from < n }

@@ -7,7 +7,7 @@ use line_graph::Edge;
 /// A cost above that of each walk: no walk is known.
 pub const FAR: u32 = 2_147_483_648;
 
-/// Sweeps over the edges until nothing changes.
+/// Relaxes all edges in order until nothing changes.
 pub fn settle(row: &mut [u32], edges: &[Edge])
     requires { AreWithin (length row.old) edges.now }
     ensures sound { StaysSound edges.now row.old row.new }
@@ -20,7 +20,7 @@ pub fn settle(row: &mut [u32], edges: &[Edge])
     }
 }
 
-/// Lowers the numbers at the ends of all edges in order, and says whether one was lowered.
+/// Relaxes all edges in order, and returns whether a number was lowered.
 fn sweep(row: &mut [u32], edges: &[Edge]) -> bool
     requires { AreWithin (length row.old) edges.now }
     ensures told { result ≡ changes row.old edges.now }
@@ -36,7 +36,7 @@ fn sweep(row: &mut [u32], edges: &[Edge]) -> bool
     changed
 }
 
-/// Lowers the numbers at both ends of an edge.
+/// Relaxes an edge in both directions, and returns whether a number was lowered.
 fn relax(row: &mut [u32], e: Edge) -> bool
     requires a { e.a < length row.old }
     requires b { e.b < length row.old }
@@ -48,7 +48,7 @@ fn relax(row: &mut [u32], e: Edge) -> bool
     forth || back
 }
 
-/// Lowers the number at `b` to that at `a` and the cost, where this is less.
+/// Relaxes `b` from `a`: sets its number to that of `a` plus the cost, where this is less.
 fn lower(row: &mut [u32], a: u32, b: u32, cost: u32) -> bool
     requires a { a < length row.old }
     requires b { b < length row.old }

@@ -12,8 +12,7 @@ use design_model::Memory;
 use line_graph::Edge;
 use std::alloc::Global;
 
-/// Adds the rows of some terminals, no more than there are lanes, and answers the order in which to
-/// take the edges for the next ones.
+/// Appends the rows of at most sixteen terminals, and returns the order of the edges for the next ones.
 pub fn add_rows(
     alloc: Global,
     edges: &[Edge],
@@ -33,7 +32,8 @@ pub fn add_rows(
     Ok(next)
 }
 
-/// The order for the next terminals: anew by the first column, where the last ones were slow.
+/// Returns the order for the next terminals: a new one by the first column, where the last ones took many
+/// rounds.
 fn next_order(
     alloc: Global,
     edges: &[Edge],
@@ -52,7 +52,7 @@ fn next_order(
     order_by(alloc, edges, row.as_slice())
 }
 
-/// A table with the rows of the terminals as its columns, and whether it took many rounds.
+/// Returns a table with the rows of the terminals as its columns, and whether it took many rounds.
 fn columns(
     alloc: Global,
     edges: &[Edge],
@@ -71,7 +71,7 @@ fn columns(
     Ok((table, slow))
 }
 
-/// A table without walks.
+/// Returns a table in which no walk is known.
 fn blank(alloc: Global, n: usize) -> Result<Vec<[u32; LANES]>, Memory>
     ensures { IfOk result (λ table. table.items ≡ replicate n (replicate LANES FAR)) }
 {
@@ -82,7 +82,7 @@ fn blank(alloc: Global, n: usize) -> Result<Vec<[u32; LANES]>, Memory>
     Ok(table)
 }
 
-/// Makes of a table without walks one with the rows of the terminals as its columns.
+/// Computes the rows of the terminals as the columns of a table, and returns whether it took many rounds.
 fn fill(
     table: &mut [[u32; LANES]],
     edges: &[Edge],
@@ -100,7 +100,7 @@ fn fill(
     settle(table, edges, order)
 }
 
-/// Begins the column of each terminal with that terminal.
+/// Sets the cost of each terminal to 0 in its column.
 fn begin(table: &mut [[u32; LANES]], terminals: &[u32])
     requires few { length terminals.now ≤ LANES }
     requires there { All (λ t. t < length table.old) terminals.now }
@@ -113,6 +113,7 @@ fn begin(table: &mut [[u32; LANES]], terminals: &[u32])
     }
 }
 
+/// Sets the cost of a terminal to 0 in the column at an index.
 fn begin_at(table: &mut [[u32; LANES]], t: u32, i: usize)
     requires lane { i < LANES }
     requires there { t < length table.old }
@@ -124,6 +125,7 @@ fn begin_at(table: &mut [[u32; LANES]], t: u32, i: usize)
     reach(&mut table[t as usize], i);
 }
 
+/// Sets one number of a lane to 0.
 fn reach(lane: &mut [u32; LANES], i: usize)
     requires { i < LANES }
     ensures here { slice_index lane.new i ≡ 0 }
@@ -132,7 +134,7 @@ fn reach(lane: &mut [u32; LANES], i: usize)
     lane[i] = 0;
 }
 
-/// Adds the column of each terminal as a row.
+/// Appends the column of each terminal as a row.
 fn push_columns(
     alloc: Global,
     table: &[[u32; LANES]],
@@ -152,6 +154,7 @@ fn push_columns(
     Ok(())
 }
 
+/// Returns the column at an index.
 fn column(alloc: Global, table: &[[u32; LANES]], i: usize) -> Result<Vec<u32>, Memory>
     requires { i < LANES }
     ensures { IfOk result (λ row. row.items ≡ column_of i table.now) }

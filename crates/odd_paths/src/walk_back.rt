@@ -6,7 +6,7 @@ use design_model::Memory;
 use line_graph::Edge;
 use std::alloc::Global;
 
-/// The places of the edges of a least walk from `from` to `j`, by the row of `from`.
+/// Returns the indexes of the edges of a least walk from `from` to `j`, by the row of `from`.
 pub fn places(
     alloc: Global,
     row: &[u32],
@@ -23,7 +23,7 @@ pub fn places(
     Ok(places)
 }
 
-/// These places, the last one first.
+/// Returns the indexes of the edges of a least walk, the last one first.
 fn places_back(
     alloc: Global,
     row: &[u32],
@@ -49,7 +49,7 @@ fn places_back(
     Ok(places)
 }
 
-/// The place of an edge by which a least walk comes to `j`, and its other end.
+/// Returns the index of an edge that is the last of a least walk to `j`, and its other end.
 fn last_edge(row: &[u32], edges: &[Edge], j: u32) -> Option<(usize, u32)>
     requires ends { AreWithin (length row.now) edges.now }
     requires j { j < length row.now }
@@ -70,6 +70,7 @@ fn last_edge(row: &[u32], edges: &[Edge], j: u32) -> Option<(usize, u32)>
     None
 }
 
+/// Returns whether an edge from `a` to `b` is the last of a least walk to `j`.
 fn comes(row: &[u32], a: u32, b: u32, cost: u32, j: u32) -> bool
     requires a { a < length row.now }
     requires j { j < length row.now }

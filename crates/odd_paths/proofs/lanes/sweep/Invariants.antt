@@ -8,7 +8,7 @@ use Rattle.odd_paths.specs.PlaceWalks.{AreWithin}
 use Rattle.odd_paths.specs.Sweeps.{changes, swept}
 use Rattle.odd_paths.proofs.lanes.sweep.Given as goal
 
--- what is left to sweep makes of the table what the whole sweep makes of it
+-- sweeping the remaining edges completes the sweep over all edges
 abbrev pub invariant-loop-rest : goal.invariant-loop-rest
 invariant-loop-rest l = record {
   ends : AreWithin (length l.table) l.rest;
