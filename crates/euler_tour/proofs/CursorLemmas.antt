@@ -1,4 +1,4 @@
--- Cursors over the ends at each junction, and the tables of a tour in the making.
+-- Cursors over the ends at each junction, and the tables of a partial tour.
 use Rattle.std.proofs.Common.{◌≡◌, ◌≤◌, ◌<◌, ◌⊎◌, inl, inr, ℕ, zero, suc, ◌+◌, ◌-◌, ◌*◌, ◌/◌, ◌==◌, Bool, true, false, nat_lt, List, [], ◌∷◌, ◌++◌, length, get_or, set, slice_get, Some, arith, refl, sym, ◌∙◌, ap, subst, length-set, get_or-set_same, get_or-set_other}
 use Rattle.std.proofs.lemmas.Grind.{get_or_default_zero}
 use Rattle.std.proofs.lemmas.Bool.{and_from, and_parts, cases_eq}
@@ -60,7 +60,7 @@ cursor_less edges left j number place cursor = record {
   over = λ end. λ low. λ there. less_none left place (end / 2) (cursor.over end low there);
 }
 
--- no end is left where the cursor has come to none
+-- no end remains where the cursor is 0
 pub cursor_none : (edges : List Edge) (left : List ℕ) (j : ℕ) → IsCursor edges left j 0 → ends_left edges left j ≡ 0
 cursor_none edges left j cursor = ends_none edges left j (λ k. λ e. λ is. by_a k e is (e.a == j) refl)
   where
@@ -116,7 +116,7 @@ begins_ready edges count left last before out at is_left is_last is_before is_ou
   cursors = λ j. λ low. cursor_first edges left j (get_or last j 0) (are j (subst (λ (n : ℕ). j < n) (sym is_last) low));
 }
 
--- the tables after an end is left behind
+-- the tables after an end is skipped
 pub over_ready : (edges : List Edge) (count : ℕ) (left last last2 before out : List ℕ) (at end : ℕ)
     → last2 ≡ set last at (get_or before end 0)
     → get_or last at 0 ≡ end + 1 → get_or left (end / 2) 0 ≡ 0 → AreReady edges count left last before out at
@@ -204,7 +204,7 @@ pub read_cursor : (edges : List Edge) (count : ℕ) (left last before out : List
 read_cursor edges count left last before out at number is ready =
     sym (is ∙ get_or_default_zero last at number (subst (λ (n : ℕ). at < n) (sym ready.last_beside) ready.below))
 
--- where there is one it is one more than an end, which has a place
+-- a cursor that isn't 0 is one more than an end, whose line has an index
 pub cursor_end : (number : ℕ) → (number ≡ 0 → ⊥) → number ≡ number - 1 + 1
 cursor_end zero some = absurd (some refl)
 cursor_end (suc number) some = omega arith

@@ -1,4 +1,4 @@
--- The ends of lines: their chains and cursors.
+-- The ends of lines: their linked lists and cursors.
 use Rattle.std.proofs.Common.{◌≡◌, ◌≤◌, ◌<◌, ◌⊎◌, inl, inr, ℕ, zero, suc, ◌+◌, ◌*◌, ◌/◌, ◌%◌, ◌==◌, Bool, true, false, not, ◌&&◌, nat_lt, List, [], ◌∷◌, ◌++◌, length, get_or, set, replicate, slice_get, Option, Some, None, arith, refl, sym, ◌∙◌, ap, subst, length-set, length-append, get_or-set_same, get_or-set_other}
 use Rattle.std.proofs.lemmas.Bool.{and_parts, cases_eq}
 use Rattle.std.proofs.lemmas.Bool.Decides.{nat_tests}
@@ -26,7 +26,7 @@ end_within edges end j is =
     twice : (end n : ℕ) → end / 2 < n → end < 2 * n
     twice end n h = omega arith
 
--- the place of an end
+-- the index of the line of an end
 pub half : (k : ℕ) → (2 * k) / 2 ≡ k
 half k = omega arith
 
@@ -46,7 +46,7 @@ not_even k = equals ((2 * k + 1) % 2) (omega arith)
     equals : (r : ℕ) → r ≡ 1 → (r == 1) ≡ true
     equals r is = rw is refl
 
--- the two ends of the line at a place
+-- the two ends of the line at an index
 pub end_a : (edges : List Edge) (k : ℕ) (e : Edge) → slice_get edges k ≡ Some e → junction_at edges (2 * k) ≡ Some e.a
 end_a edges k e is = rw (half k, is_even k, is) refl
 

@@ -1,4 +1,4 @@
--- Lines that are left.
+-- Lines that remain.
 use Rattle.std.proofs.Common.{◌≡◌, ◌≤◌, ◌<◌, ◌⊎◌, inl, inr, ℕ, zero, suc, ◌+◌, ◌-◌, ◌*◌, ◌^◌, ◌==◌, true, nat_lt, List, [], ◌∷◌, length, get_or, slice_get, slice_set, Some, arith, refl, sym, ◌∙◌, ap, subst, le-mul_of_pos_right}
 use Rattle.std.proofs.lemmas.Bool.Decides.{nat_tests}
 use Rattle.std.proofs.lemmas.Bool.{and_from}
@@ -17,7 +17,7 @@ less_is [] place = refl
 less_is (n ∷ left) zero = refl
 less_is (n ∷ left) (suc place) = ap (λ (t : List ℕ). n ∷ t) (less_is left place)
 
--- leaves as many places
+-- the number of indexes stays
 pub less_length : (left : List ℕ) (place : ℕ) → length (less_at left place) ≡ length left
 less_length [] place = refl
 less_length (n ∷ left) zero = refl

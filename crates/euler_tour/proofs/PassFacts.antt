@@ -1,4 +1,4 @@
--- Worked values of the ends of lines, and of lines that are left.
+-- Worked values of the ends of lines, and of lines that remain.
 use Rattle.std.proofs.Common.{◌≡◌, true, false, [], ◌∷◌, None, Some, refl}
 use Rattle.euler_tour.specs.LeftLines.{ends_left, left_sum, less_at, one_of, times_of}
 use Rattle.euler_tour.specs.LineEnds.{junction_across, junction_at, pass_from, pass_to}

@@ -1,4 +1,4 @@
--- Each step of a tour in the making is one.
+-- Each step of a partial tour leads to a partial tour.
 use Rattle.std.proofs.Common.{◌≡◌, ◌≤◌, ◌<◌, ℕ, ◌+◌, ◌*◌, ◌/◌, List, [], ◌∷◌, ◌++◌, length, get_or, set, slice_get, sum_by, false, Option, None, Some, Vec, Global, arith, ap, ◌∙◌, subst, sym}
 use Rattle.line_graph.specs.declared.edge.Edge.{Edge}
 use Rattle.line_graph.specs.declared.pass.Pass.{Pass}
@@ -17,7 +17,7 @@ use Rattle.euler_tour.proofs.LeftLemmas.{times_at, times_length}
 use Rattle.euler_tour.proofs.TourLemmas.{begins_on, begins_with, first_edge, first_is, goal_below, none_said}
 use Rattle.euler_tour.proofs.TripLemmas.{back_kept, back_less, first_kept, out_kept, out_less, over_less}
 
--- the sum of the cursors of a trip
+-- the sum of the cursors of a partial tour
 abbrev cursor_sum : Trip → ℕ
 cursor_sum t = sum_by (λ n. n) t.ends.last.items
 
@@ -57,7 +57,7 @@ back_step p t out home end from kept ready stuck is_out is_home starts = record 
   less = back_less (left_sum one_of p.edges t.left.items) (cursor_sum t) t.out.items out.items end is_out;
 }
 
--- an end whose line isn't left is left behind
+-- an end whose line doesn't remain is skipped
 pub over_step : (p : PieceValue) (t : Trip) (last : Vec ℕ Global) (end : ℕ) → IsReady p t → get_or t.ends.last.items t.at 0 ≡ end + 1
     → get_or t.left.items (end / 2) 0 ≡ 0 → last.items ≡ set t.ends.last.items t.at (get_or t.ends.before.items end 0)
     → IsStep p t (record {
@@ -77,7 +77,7 @@ over_step p t last end ready here none is_last = record {
       (before_less p.edges (length p.junctions) t.left.items t.ends.last.items t.ends.before.items t.out.items t.at end here ready);
 }
 
--- the trip before its first step
+-- the partial tour before its first step
 pub begins_fresh : (p : PieceValue) (copies : List ℕ) (left out : Vec ℕ Global) (ends : LineEnds) (home : List Pass) (at tail : ℕ)
     → KeepsPiece p → CanPass p copies → left.items ≡ times_of copies → AreLast p.edges (2 * length p.edges) ends.last.items
     → AreBefore p.edges ends.before.items → length ends.last.items ≡ length p.junctions

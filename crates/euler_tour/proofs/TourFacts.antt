@@ -180,14 +180,14 @@ known_way = refl
 pub known_way_back : leads (between (Some 1) (Some 0)) (forth 0 ∷ back 1 ∷ forth 2 ∷ []) ≡ false
 known_way_back = refl
 
--- where one junction is said, it is start and end
+-- a single required junction is both start and end
 pub known_start : leads (between (Some 1) None) (back 0 ∷ forth 1 ∷ back 2 ∷ forth 0 ∷ []) ≡ true
 known_start = refl
 
 pub known_end : leads (between None (Some 1)) (forth 0 ∷ back 1 ∷ forth 2 ∷ back 0 ∷ []) ≡ false
 known_end = refl
 
--- a tour passes each line as often as is said, and begins with the first line, forwards
+-- a tour passes each line the given number of times, and begins with the first line, forwards
 pub known_no_tour : IsTour closed first_again (forth 0 ∷ back 2 ∷ forth 2 ∷ back 1 ∷ []) → ⊥
 known_no_tour tour = once _ refl (tour.counts 0 (omega arith))
   where

@@ -1,4 +1,4 @@
--- How a tour in the making begins, and that it is a tour once nothing is left to do.
+-- The first partial tour, and the tour at the end.
 use Rattle.std.proofs.Common.{◌≡◌, ◌≤◌, ◌<◌, inl, inr, ℕ, zero, suc, ◌+◌, ◌%◌, ◌==◌, Bool, true, false, nat_lt, List, [], ◌∷◌, ◌++◌, map, length, get_or, slice_get, Option, Some, None, arith, refl, sym, ◌∙◌, ap, subst}
 use Rattle.std.proofs.lemmas.Bool.Decides.{nat_tests}
 use Rattle.std.proofs.lemmas.Option.{slice_get_within}
@@ -31,7 +31,7 @@ pub first_is : (lines : List ℕ) → first_line lines ≡ get_or lines 0 0
 first_is [] = refl
 first_is (n ∷ lines) = refl
 
--- where no start and no end is said, none is said in the other order
+-- where no start and no end is required, none is required in the other order
 pub none_said : (one other : Option ℕ) → option_or one other ≡ None → option_or other one ≡ None
 none_said None None is = refl
 none_said None (Some b) is = absurd (cc)
@@ -197,7 +197,7 @@ counted lines edges (pass ∷ walk) (Some at) to is =
     by_edge None is rest = absurd (nowhere lines edges walk to is)
     by_edge (Some e) is rest = rw rest (one_more (length walk))
 
--- an edge is at each place
+-- an edge is at each index
 got : (edges : List Edge) (k : ℕ) → k < length edges → (e : Edge) × (slice_get edges k ≡ Some e)
 got [] k below = absurd (omega arith)
 got (e ∷ edges) zero below = (e, refl)

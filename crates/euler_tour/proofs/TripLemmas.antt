@@ -1,4 +1,4 @@
--- What a tour in the making keeps, at each step.
+-- The invariant of a partial tour, at each step.
 use Rattle.std.proofs.Common.{◌≡◌, ◌≤◌, ◌<◌, inl, inr, ℕ, zero, suc, ◌+◌, ◌*◌, ◌/◌, ◌%◌, ◌==◌, Bool, true, false, cond, not, List, [], ◌∷◌, ◌++◌, map, length, get_or, set, slice_get, sum_by, Option, Some, None, arith, refl, sym, ◌∙◌, ap, subst, length-append}
 use Rattle.std.proofs.lemmas.List.{map-append}
 use Rattle.std.proofs.lemmas.List.Sums.{sum_by-set}
@@ -46,7 +46,7 @@ still edges left goal tail place j e is some (inl none) = inl (less_zero _ _ _ (
     less_zero u k v h none = omega arith
 still edges left goal tail place j e is some (inr there) = inr there
 
--- a step out along the edge at a place
+-- a step out along the edge at an index
 out_core : (lines : List ℕ) (edges : List Edge) (times left : List ℕ) (out home : List Pass) (head goal at tail place next : ℕ)
     (back : Bool) (e : Edge)
     → rises lines ≡ true → length lines ≡ length edges → slice_get edges place ≡ Some e → 1 ≤ get_or left place 0
@@ -104,7 +104,7 @@ out_kept lines edges times left left2 out out2 home head goal at tail end next i
         → start_of e back ≡ next
     other e found back next is ends = some_same (start_of e back) next (sym (ap (λ (x : Option Edge). edge_start x back) is) ∙ ends)
 
--- it leaves less to do
+-- the rank decreases
 pub out_less : (edges : List Edge) (left left2 out out2 : List ℕ) (sum end at : ℕ) → left2 ≡ less_at left (end / 2) → out2 ≡ out ++ end ∷ []
     → 1 ≤ get_or left (end / 2) 0 → junction_at edges end ≡ Some at
     → (2 * left_sum one_of edges left2 + length out2) + sum < (2 * left_sum one_of edges left + length out) + sum
@@ -171,7 +171,7 @@ edge_done edges left goal from at e false stuck begins ends = (
       (subst (λ (n : ℕ). ends_left edges left n ≡ 0) (sym ends) stuck),
 )
 
--- a step back along the edge at a place
+-- a step back along the edge at an index
 back_core : (lines : List ℕ) (edges : List Edge) (times left : List ℕ) (xs home : List Pass) (head goal at tail from place : ℕ)
     (back : Bool) (e : Edge)
     → rises lines ≡ true → length lines ≡ length edges → slice_get edges place ≡ Some e → start_of e back ≡ from
@@ -247,16 +247,16 @@ back_kept lines edges times left out xs home home2 head goal at tail from end is
     (subst (λ (ps : List Pass). Keeps lines edges times left ps home head goal at tail)
     (ap (λ (ends : List ℕ). map (pass_from lines) ends) is_out ∙ map-append (pass_from lines) xs (end ∷ [])) k))
 
--- it leaves less to do
+-- the rank decreases
 pub back_less : (u sum : ℕ) (out xs : List ℕ) (end : ℕ) → out ≡ xs ++ end ∷ [] → (2 * u + length xs) + sum < (2 * u + length out) + sum
 back_less u sum out xs end is = rw (is, length-append xs (end ∷ [])) (less (2 * u) (length xs) sum)
   where
     less : (u n s : ℕ) → (u + n) + s < (u + (n + 1)) + s
     less u n s = omega arith
 
--- ---- an end left behind
+-- ---- a skipped end
 
--- it leaves less to do
+-- the rank decreases
 pub over_less : (u : ℕ) (last last2 : List ℕ) (at end number : ℕ) → last2 ≡ set last at number → at < length last
     → get_or last at 0 ≡ end + 1
     → number < end + 1 → u + sum_by (λ (n : ℕ). n) last2 < u + sum_by (λ (n : ℕ). n) last

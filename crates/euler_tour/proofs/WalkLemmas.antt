@@ -21,7 +21,7 @@ bit_self n = ap bit (eq_self n)
 pub some_same : {A : Type 0} (x y : A) → Some x ≡ Some y → x ≡ y
 some_same x y is = cc
 
--- the line at a place is greater than what all of them are greater than
+-- the line at an index is above each lower bound of all lines
 above_at : (n : ℕ) (lines : List ℕ) (k : ℕ) → above n lines ≡ true → k < length lines → n < get_or lines k 0
 above_at n [] k up below = absurd (omega arith)
 above_at n (m ∷ lines) zero up below = less n m (and_parts (nat_lt n m) (above n lines) up).0
@@ -44,7 +44,7 @@ first_less n lines k up below = above_at n lines k (and_parts (above n lines) (r
 pub rest_rises : (n : ℕ) (lines : List ℕ) → rises (n ∷ lines) ≡ true → rises lines ≡ true
 rest_rises n lines up = (and_parts (above n lines) (rises lines) up).1
 
--- the edge of the line at a place
+-- the edge of the line at an index
 pub edge_at : (lines : List ℕ) (edges : List Edge) (k : ℕ) (e : Edge) → rises lines ≡ true → k < length lines → slice_get edges k ≡ Some e
     → edge_of lines edges (get_or lines k 0) ≡ Some e
 edge_at [] edges k e up below is = absurd (omega arith)
@@ -94,7 +94,7 @@ is_passed n (p ∷ walk) least = by_test (p.line == n) least (λ h. is_passed n 
     by_test true least rest = refl
     by_test false least rest = rest (omega arith)
 
--- a walk that passes the line at each place covers them
+-- a walk that passes the line at each index covers all lines
 pub all_covered : (lines : List ℕ) (walk : List Pass) → ((k : ℕ) → k < length lines → 1 ≤ passes (get_or lines k 0) walk)
     → covers lines walk ≡ true
 all_covered [] walk each = refl

@@ -1,7 +1,7 @@
--- read this one first
+-- Read this one first: what a tour is.
 pub mod Tours
--- the ends of lines, for any walk that is made
+-- The ends of lines, for any walk.
 pub mod LineEnds
--- of the inside: lines that are left, and a tour in the making
+-- The modules of the algorithm: lines that remain, and partial tours.
 pub mod LeftLines
 pub mod Trips

@@ -1,4 +1,4 @@
--- Walks that pass each line of a piece once, and once more for each of its copies; after C.
+-- Tours: walks that pass each line of a piece once, and once more for each of its copies; after C.
 -- Hierholzer, "Ueber die Möglichkeit, einen Linienzug ohne Wiederholung und ohne Unterbrechung zu
 -- umfahren", Mathematische Annalen 6 (1873). Costs count steps.
 use Rattle.std.specs.Prelude.{◌≡◌, ℕ, ◌+◌, ◌*◌, ◌%◌, ◌<◌, ◌==◌, ◌^◌, true, List, [], ◌∷◌, None, length, get_or, sum_by}
@@ -8,34 +8,34 @@ use Rattle.line_graph.specs.PieceGraphs.{PieceValue, bit, closing, degree, from_
 use Rattle.line_graph.specs.Pieces.{first_line}
 use Rattle.line_graph.specs.PieceWalks.{BeginsWith, covers, leads, passes, piece_cost, walk_cost}
 
--- how many ends of passes are at a junction, where each line is passed once and
--- once more for each copy
+-- The number of ends of passes at a junction, where each line is passed once and once more for each
+-- copy.
 abbrev pub pass_ends : List Edge → List ℕ → ℕ → ℕ
 pass_ends [] copies j = 0
 pass_ends (e ∷ edges) [] j = 0
 pass_ends (e ∷ edges) (c ∷ copies) j = (c + 1) * (bit (e.a == j) + bit (e.b == j))
     + pass_ends edges copies j
 
--- what the copies cost
+-- The total cost of the copies.
 abbrev pub copies_cost : List Edge → List ℕ → ℕ
 copies_cost [] copies = 0
 copies_cost (e ∷ edges) [] = 0
 copies_cost (e ∷ edges) (c ∷ copies) = c * e.cost + copies_cost edges copies
 
--- how many passes there are
+-- The number of passes.
 abbrev pub pass_count : List ℕ → ℕ
 pass_count copies = sum_by (λ c. c + 1) copies
 
--- a walk can pass each line so often: an even number of ends of passes is at each junction, the
--- line from where the walk ends back to where it begins counted with them; and the passes are few
+-- A tour exists: each junction has an even number of ends of passes, counting the closing line from
+-- the end back to the start. The number of passes fits 32 bits.
 pub record CanPass (p : PieceValue) (copies : List ℕ) : Type 0 where
   pub beside : length copies ≡ length p.lines
   pub even : (j : ℕ) → (degree (closing (from_of p) (to_of p)) j + pass_ends p.edges copies j) % 2
       ≡ 0
   pub few : pass_count copies < 2 ^ 32
 
--- a fitting walk that passes the line at each place once and as often again as it has copies; where
--- no start and no end is said, it begins with the first line, forwards
+-- A fitting walk that passes each line once, and once more for each copy. Where no start and no end
+-- is required, it begins with the first line, forwards.
 pub record IsTour (p : PieceValue) (copies : List ℕ) (walk : List Pass) : Type 0 where
   pub led : leads p walk ≡ true
   pub covered : covers p.lines walk ≡ true

@@ -5,7 +5,7 @@ ghost use Rattle.line_graph.specs.KeptPieces.{all_below};
 use design_model::Memory;
 use std::alloc::Global;
 
-/// How often each line is to be passed: once, and once more for each copy.
+/// Returns the number of passes of each line: one, and one more for each copy.
 pub fn all_times(alloc: Global, copies: &[u32]) -> Result<Vec<u32>, Memory>
     requires { all_below 4294967295 copies.now ≡ true }
     ensures { IfOk result (λ times. times.items ≡ times_of copies.now) }
@@ -19,7 +19,7 @@ pub fn all_times(alloc: Global, copies: &[u32]) -> Result<Vec<u32>, Memory>
     Ok(times)
 }
 
-/// Takes a line that is left.
+/// Takes one remaining pass of a line.
 pub fn take_one(left: &mut Vec<u32>, place: usize)
     requires there { place < length left.old.items }
     requires some { 1 ≤ get_or left.old.items place 0 }

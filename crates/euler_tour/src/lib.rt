@@ -1,5 +1,5 @@
-//! Walks that pass each line of a piece a given number of times, and the chains of line ends that
-//! they go along.
+//! Tours: walks that pass each line of a piece a given number of times. The crate also has the lists of line
+//! ends that they go along.
 #![tactic(auto)]
 
 mod closed_walk;

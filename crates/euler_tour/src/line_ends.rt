@@ -7,16 +7,16 @@ use design_model::Memory;
 use line_graph::{Edge, Pass};
 use std::alloc::Global;
 
-/// The ends of lines in chains, one for each junction. An end's number is its index and one, and
-/// 0 where there is none: `last` has the number of the last end at each junction, `before` for
-/// each end that of the one before it at its junction.
+/// The ends of lines in linked lists, one for each junction. An end's number is its index plus one, and 0
+/// stands for none. `last` has the number of the last end at each junction. `before` has, for each end, the
+/// number of the one before it at its junction.
 #[derive(Drop)]
 pub struct LineEnds {
     pub last: Vec<u32>,
     pub before: Vec<u32>,
 }
 
-/// The chains of all ends.
+/// Returns the linked lists of all ends. The only error is out of memory.
 pub fn chain(alloc: Global, edges: &[Edge], junctions: usize) -> Result<LineEnds, Memory>
     requires ends { ends_below junctions edges.now ≡ true }
     requires fits { 2 * length edges.now < 4294967296 }
@@ -36,7 +36,7 @@ pub fn chain(alloc: Global, edges: &[Edge], junctions: usize) -> Result<LineEnds
     Ok(ends)
 }
 
-/// Puts the number of an end as the last at a junction.
+/// Sets the number of the last end at a junction.
 pub fn put_number(last: &mut Vec<u32>, junction: u32, number: u32)
     requires { junction < length last.old.items }
     ensures { last.new.items ≡ set last.old.items junction number }
@@ -44,14 +44,14 @@ pub fn put_number(last: &mut Vec<u32>, junction: u32, number: u32)
     last[junction as usize] = number;
 }
 
-/// The place of the line with that end.
+/// Returns the index of the line with an end.
 pub fn place_of(end: u32) -> usize
     ensures { result ≡ end / 2 }
 {
     (end / 2) as usize
 }
 
-/// The junction where an end is.
+/// Returns the junction where an end is.
 pub fn junction_of(edges: &[Edge], end: u32) -> u32
     requires { end < 2 * length edges.now }
     ensures { junction_at edges.now end ≡ Some result }
@@ -60,7 +60,7 @@ pub fn junction_of(edges: &[Edge], end: u32) -> u32
     if is_odd(end) { edge.b } else { edge.a }
 }
 
-/// The junction where the other end of its line is.
+/// Returns the junction where the other end of the line is.
 pub fn junction_beyond(edges: &[Edge], end: u32) -> u32
     requires { end < 2 * length edges.now }
     ensures { junction_across edges.now end ≡ Some result }
@@ -69,7 +69,7 @@ pub fn junction_beyond(edges: &[Edge], end: u32) -> u32
     if is_odd(end) { edge.a } else { edge.b }
 }
 
-/// The pass that ends at an end.
+/// Returns the pass that ends at an end.
 pub fn pass_back(lines: &[u32], end: u32) -> Pass
     requires { end < 2 * length lines.now }
     ensures { result ≡ pass_to lines.now end }
@@ -80,6 +80,7 @@ pub fn pass_back(lines: &[u32], end: u32) -> Pass
     }
 }
 
+/// Appends an end at a junction.
 fn add_end(ends: &mut LineEnds, junction: u32) -> Result<(), Memory>
     requires there { junction < length ends.old.last.items }
     requires fits { length ends.old.before.items + 1 < 4294967296 }
@@ -90,6 +91,7 @@ fn add_end(ends: &mut LineEnds, junction: u32) -> Result<(), Memory>
     Ok(())
 }
 
+/// Returns whether an index is odd: whether the end is at its edge's `b`.
 fn is_odd(end: u32) -> bool
     ensures { result ≡ odd end }
 {

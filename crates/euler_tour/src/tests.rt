@@ -14,7 +14,7 @@ fn edge(cost: u32) -> Edge
     Edge { a: 0, b: 1, cost }
 }
 
-/// Three lines from one junction to another.
+/// Returns three lines from one junction to another.
 fn piece(alloc: Global, start: Option<u32>, end: Option<u32>) -> Result<Piece, Memory>
     requires start { is_below 2 start ≡ true }
     requires end { is_below 2 end ≡ true }

@@ -14,11 +14,10 @@ use design_model::Memory;
 use line_graph::{Edge, Pass, Piece, Walk};
 use std::alloc::Global;
 
-/// A walk in the making. `left` says how often the line at each place is still to be passed.
-/// `out` is a way from where the walk is to end to `at`: the ends at which its passes start.
-/// `home` is the walk, from where it is to begin to `tail`; a pass that is taken off `out` goes
-/// on it, turned round. `ends.last` goes back over the ends at each junction, past those whose
-/// lines aren't left.
+/// A partial tour. `left` has the number of passes that remain of each line. `out` is a way from the required
+/// end of the walk to `at`: the ends at which its passes start. `home` is the walk, from its required start
+/// to `tail`; a pass that is popped from `out` is appended to it, reversed. `ends.last` is a cursor at each
+/// junction, which skips the ends whose lines don't remain.
 #[derive(Drop)]
 pub struct Trip {
     left: Vec<u32>,
@@ -29,7 +28,7 @@ pub struct Trip {
     tail: u32,
 }
 
-/// The trip to begin with.
+/// Returns the partial tour before its first step.
 pub fn begin(alloc: Global, p: &Piece, copies: &[u32]) -> Result<Trip, Memory>
     requires { CanPass (graph_of p.now) copies.now }
     ensures ready { IfOk result (IsReady (graph_of p.now)) }
@@ -42,8 +41,8 @@ pub fn begin(alloc: Global, p: &Piece, copies: &[u32]) -> Result<Trip, Memory>
     }
 }
 
-/// Goes out along a line that is left, or leaves an end behind, or goes back. Answers whether there
-/// was anything to do.
+/// Pushes a pass along a remaining line, or skips an end, or pops a pass. Returns whether there was anything
+/// to do. The only error is out of memory.
 pub fn step(t: &mut Trip, p: &Piece) -> Result<bool, Memory>
     requires { IsReady (graph_of p.now) t.old }
     ensures { Steps (graph_of p.now) t.old t.new result }
@@ -61,8 +60,8 @@ pub fn step(t: &mut Trip, p: &Piece) -> Result<bool, Memory>
     Ok(true)
 }
 
-/// The trip before its first step: nothing is passed. The way out is to lead from where the walk
-/// is to end to where it is to begin.
+/// Returns a partial tour without a pass. The way out is to lead from the required end of the walk to its
+/// start.
 fn laid_out(alloc: Global, p: &Piece, copies: &[u32]) -> Result<Trip, Memory>
     requires { CanPass (graph_of p.now) copies.now }
     ensures keeps { IfOk result (KeepsOf (graph_of p.now) copies.now) }
@@ -78,8 +77,7 @@ fn laid_out(alloc: Global, p: &Piece, copies: &[u32]) -> Result<Trip, Memory>
     })
 }
 
-/// The trip whose walk has passed the first line, forwards. Of the piece no start and no end is
-/// said.
+/// Passes the first line, forwards. The piece has no required start and end.
 fn with_first_line(t: Trip, p: &Piece) -> Result<Trip, Memory>
     requires fresh { IsFresh (graph_of p.now) t }
     requires closed { from_of (graph_of p.now) ≡ None }
@@ -93,7 +91,7 @@ fn with_first_line(t: Trip, p: &Piece) -> Result<Trip, Memory>
     Ok(t)
 }
 
-/// Goes out along the line with that end.
+/// Pushes the pass along the line with an end.
 fn go_out(t: &mut Trip, p: &Piece, end: u32) -> Result<(), Memory>
     requires ready { IsReady (graph_of p.now) t.old }
     requires here { get_or t.old.ends.last.items t.old.at 0 ≡ end + 1 }
@@ -106,7 +104,7 @@ fn go_out(t: &mut Trip, p: &Piece, end: u32) -> Result<(), Memory>
     Ok(())
 }
 
-/// Leaves an end behind whose line isn't left.
+/// Skips an end whose line doesn't remain.
 fn pass_over(t: &mut Trip, end: u32)
     requires junction { t.old.at < length t.old.ends.last.items }
     requires end { end < length t.old.ends.before.items }
@@ -115,7 +113,7 @@ fn pass_over(t: &mut Trip, end: u32)
     put_number(&mut t.ends.last, t.at, t.ends.before[end as usize]);
 }
 
-/// Goes back the last pass out, and home along it.
+/// Pops the last pass, and appends it to the walk home, reversed.
 fn go_back(t: &mut Trip, p: &Piece) -> Result<bool, Memory>
     requires ready { IsReady (graph_of p.now) t.old }
     requires stuck { ends_left (graph_of p.now).edges t.old.left.items t.old.at ≡ 0 }
@@ -131,20 +129,21 @@ fn go_back(t: &mut Trip, p: &Piece) -> Result<bool, Memory>
     Ok(true)
 }
 
-/// Where the walk home is to begin.
+/// Returns the junction where the walk home is to start.
 fn head(p: &Piece) -> u32
     ensures { result ≡ head_of (graph_of p.now) }
 {
     or_first_line(p.from(), p.edges.as_slice())
 }
 
-/// Where the walk home is to end.
+/// Returns the junction where the walk home is to end.
 fn goal(p: &Piece) -> u32
     ensures { result ≡ goal_of (graph_of p.now) }
 {
     or_first_line(p.to(), p.edges.as_slice())
 }
 
+/// Returns the given junction, else the start of the first line.
 fn or_first_line(junction: Option<u32>, edges: &[Edge]) -> u32
     requires { 0 < length edges.now }
     ensures { result ≡ or_first junction edges.now }
@@ -155,6 +154,7 @@ fn or_first_line(junction: Option<u32>, edges: &[Edge]) -> u32
     }
 }
 
+/// Returns the pass along the first line, forwards.
 fn first_pass(lines: &[u32]) -> Pass
     requires { 0 < length lines.now }
     ensures { result ≡ record { line = first_line lines.now; back = false } }
@@ -165,6 +165,7 @@ fn first_pass(lines: &[u32]) -> Pass
     }
 }
 
+/// Returns the end of the first line.
 fn far_end(edges: &[Edge]) -> u32
     requires { 0 < length edges.now }
     ensures { result ≡ first_b edges.now }
