@@ -1,4 +1,4 @@
--- Cursors over the ends at each junction, when lines are passed and ends left behind.
+-- Cursors over the ends at each junction, when lines are passed and ends skipped.
 use Rattle.std.proofs.Common.{◌≡◌, ◌≤◌, ◌<◌, ◌⊎◌, inl, inr, ℕ, zero, suc, ◌+◌, ◌-◌, ◌*◌, ◌/◌, ◌==◌, ◌||◌, Bool, true, false, not, nat_lt, List, [], ◌∷◌, length, get_or, set, slice_get, Some, arith, refl, sym, ap, ◌∙◌, subst, length-set, get_or-set_same, get_or-set_other, sum_by}
 use Rattle.std.proofs.lemmas.Grind.{get_or_default_zero}
 use Rattle.std.proofs.lemmas.Bool.{and_from, cases_eq}
@@ -39,7 +39,7 @@ is_passed [] k is = absurd (cc)
 is_passed (p ∷ passed) zero is = cc
 is_passed (p ∷ passed) (suc k) is = is_passed passed k is
 
--- a junction is spent where each line that touches it is passed
+-- a junction is exhausted where each line that ends there was passed
 all_spent : (passed : List Bool) (edges : List Edge) (j : ℕ)
     → ((k : ℕ) (e : Edge) → slice_get edges k ≡ Some e → touches e j ≡ true → get_or passed k false ≡ true)
     → is_spent passed edges j ≡ true
@@ -102,7 +102,7 @@ cursor_on edges passed j number m cursor = record {
   over = λ end. λ low. λ there. marked_stays passed m (end / 2) (cursor.over end low there);
 }
 
--- the junction is spent where the cursor has come to none
+-- the junction is exhausted where the cursor is 0
 pub cursor_none : (edges : List Edge) (passed : List Bool) (j : ℕ) → IsCursor edges passed j 0 → is_spent passed edges j ≡ true
 cursor_none edges passed j cursor =
     all_spent passed edges j (λ k. λ e. λ is. λ at. by_end k e is (one_of (e.a == j) (e.b == j) at))
@@ -128,7 +128,7 @@ begins_ready edges count passed last before at is_last is_before below linked ar
   cursors = λ j. λ low. cursor_first edges passed j (get_or last j 0) (are j (subst (λ (n : ℕ). j < n) (sym is_last) low));
 }
 
--- those after an end is left behind
+-- the tables after an end is skipped
 pub over_ready : (edges : List Edge) (count : ℕ) (passed : List Bool) (last last2 before : List ℕ) (at end : ℕ)
     → last2 ≡ set last at (get_or before end 0) → get_or last at 0 ≡ end + 1 → get_or passed (end / 2) false ≡ true
     → AreReady edges count passed last before at → AreReady edges count passed last2 before at
@@ -196,7 +196,7 @@ pub read_cursor : (edges : List Edge) (count : ℕ) (passed : List Bool) (last b
 read_cursor edges count passed last before at number is ready =
     sym (is ∙ get_or_default_zero last at number (subst (λ (n : ℕ). at < n) (sym ready.last_beside) ready.below))
 
--- where there is one it is one more than an end, whose line has a place and leads from the junction
+-- a cursor that isn't 0 is one more than an end, whose line has an index and starts at the junction
 pub cursor_end : (number : ℕ) → (number ≡ 0 → ⊥) → number ≡ number - 1 + 1
 cursor_end zero some = absurd (some refl)
 cursor_end (suc number) some = omega arith
@@ -224,7 +224,7 @@ cursor_leads edges count passed last before at end here left ready =
     let e = started (slice_get edges (end / 2)) (is_odd end) at ((ready.cursors at ready.below).there end here) in
     record { edge = e.0; there = e.1; starts = e.2; left = left }
 
--- the cursors fall where an end is left behind
+-- the cursors decrease where an end is skipped
 pub over_less : (edges : List Edge) (count : ℕ) (passed : List Bool) (last last2 before : List ℕ) (at end k : ℕ)
     → last2 ≡ set last at (get_or before end 0) → get_or last at 0 ≡ end + 1 → AreReady edges count passed last before at
     → k + sum_by (λ (n : ℕ). n) last2 < k + sum_by (λ (n : ℕ). n) last

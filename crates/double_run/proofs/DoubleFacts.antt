@@ -56,7 +56,7 @@ known_double = record {
   begins = refl;
 }
 
--- a start and an end that are said are forgotten, and nothing else
+-- a required start and end are dropped, and nothing else
 pub known_unbound : unbound (record tail { start = Some 1; end = Some 2 }) ≡ tail
 known_unbound = refl
 
@@ -77,7 +77,7 @@ known_twice double = once _ refl (All-get_or (GoesBothWays twice_forwards) tail.
     once : (n : ℕ) → n ≡ 2 → n ≡ 1 → ⊥
     once n two one = omega (arith, two, one)
 
--- nor does a walk that leaves a line out
+-- a walk that omits a line isn't double
 abbrev left_out : List Pass
 left_out = forth 4 ∷ back 6 ∷ forth 6 ∷ back 4 ∷ []
 

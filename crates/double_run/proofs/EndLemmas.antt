@@ -25,7 +25,7 @@ end_within edges end j is =
     twice : (end n : ℕ) → end / 2 < n → end < 2 * n
     twice end n h = omega arith
 
--- the place of an end
+-- the index of the line of an end
 pub half : (k : ℕ) → (2 * k) / 2 ≡ k
 half k = omega arith
 
@@ -45,7 +45,7 @@ not_even k = equals ((2 * k + 1) % 2) (omega arith)
     equals : (r : ℕ) → r ≡ 1 → (r == 1) ≡ true
     equals r is = rw is refl
 
--- the two ends of the line at a place
+-- the two ends of the line at an index
 pub end_a : (edges : List Edge) (k : ℕ) (e : Edge) → slice_get edges k ≡ Some e → junction_at edges (2 * k) ≡ Some e.a
 end_a edges k e is = rw (half k, is_even k, is) refl
 

@@ -1,4 +1,4 @@
--- How an outing begins, and that its walk is double once it is home.
+-- The first traversal, and the double walk of a finished one.
 use Rattle.std.proofs.Common.{◌≡◌, ◌≤◌, ◌<◌, ℕ, zero, suc, ◌+◌, ◌*◌, ◌==◌, ◌&&◌, ◌||◌, Bool, true, false, List, [], ◌∷◌, ◌++◌, length, get_or, replicate, slice_get, Some, arith, refl, sym, ap, ◌∙◌, subst}
 use Rattle.std.proofs.lemmas.List.Elements.{All-from_get_or, All-get_or}
 use Rattle.std.proofs.lemmas.List.{length-replicate}
@@ -14,7 +14,7 @@ use Rattle.double_run.proofs.EndLemmas.{ends_are_below}
 use Rattle.double_run.proofs.LineLemmas.{edge_found, eq_self, same, some_same}
 use Rattle.double_run.proofs.MetLemmas.{cost_all, passed_meets, spent_passes, touches_a, touches_b}
 
--- nothing is met where nothing is passed
+-- no junction is visited where no line was passed
 none_met : (n : ℕ) (edges : List Edge) (j : ℕ) → is_met (replicate n false) edges j ≡ false
 none_met zero edges j = refl
 none_met (suc n) [] j = refl
@@ -32,7 +32,7 @@ none_costs (e ∷ edges) = none_costs edges
 costs_none : (edges : List Edge) → 0 + 0 ≡ 2 * passed_cost (replicate (length edges) false) edges
 costs_none edges = rw (none_costs edges) refl
 
--- an outing that passed nothing
+-- a traversal without a pass
 pub begins_kept : (lines : List ℕ) (edges : List Edge) (root : ℕ)
     → Keeps lines edges [] [] (replicate (length edges) false) root root
 begins_kept lines edges root = record {
@@ -51,7 +51,7 @@ begins_kept lines edges root = record {
         apart : false ≡ true → ⊥
         apart is = cc
 
--- the first line leads from where the outing begins
+-- the first line starts where the traversal does
 pub first_leads : (edges : List Edge) → 1 ≤ length edges
     → LeadsFrom edges (replicate (length edges) false) (root_of edges) (record { place = 0; back = false })
 first_leads [] some = absurd (omega arith)
@@ -67,7 +67,7 @@ pub first_is : (lines : List ℕ) → first_line lines ≡ get_or lines 0 0
 first_is [] = refl
 first_is (n ∷ lines) = refl
 
--- the edge at a place, where there is one
+-- the edge at an index, where there is one
 pub edge_there : (edges : List Edge) (k : ℕ) → k < length edges → (e : Edge) × (slice_get edges k ≡ Some e)
 edge_there [] k below = absurd (omega arith)
 edge_there (e ∷ edges) zero below = (e, refl)
@@ -93,7 +93,7 @@ starts_first p (x ∷ rest) kept begins =
     rw (begins, first_is p.lines, edge_found p.lines p.edges 0 e.0 kept.rising kept.some e.1)
     (ap (λ (n : ℕ). Some n) (sym (root_is p.edges e.0 e.1)))
 
--- an outing that is home passed all lines
+-- a finished traversal passed all lines
 home_passed : (p : PieceValue) (walk : List Pass) (passed : List Bool) (at : ℕ) → KeepsPiece p
     → Keeps p.lines p.edges walk [] passed (root_of p.edges) at → is_spent passed p.edges at ≡ true
     → get_or passed 0 false ≡ true → (i : ℕ) → i < length p.edges → get_or passed i false ≡ true
@@ -126,7 +126,7 @@ home_passed p walk passed at kept k stuck first = all_passed
         ∙ passed_meets passed p.edges 0 e0.0.a e0.0 first e0.1 (touches_a e0.0) in
         spent_passes passed p.edges i e.0.a e.0 k.beside e.1 (touches_a e.0) (spent e.0.a met)
 
--- the walk of an outing that is home
+-- the walk of a finished traversal
 pub home_double : (p : PieceValue) (walk : List Pass) (passed : List Bool) (at : ℕ) → KeepsPiece p
     → Keeps p.lines p.edges walk [] passed (root_of p.edges) at → is_spent passed p.edges at ≡ true
     → BeginsWith (first_line p.lines) walk → get_or passed 0 false ≡ true

@@ -36,7 +36,7 @@ differs m n h = grind (arith, nat_tests)
 differs_back : (m n : ℕ) → m < n → (n == m) ≡ false
 differs_back m n h = grind (arith, nat_tests)
 
--- the line at a place is greater than what all of them are greater than
+-- the line at an index is above each lower bound of all lines
 above_at : (n : ℕ) (lines : List ℕ) (k : ℕ) → above n lines ≡ true → k < length lines → n < get_or lines k 0
 above_at n [] k up below = absurd (omega arith)
 above_at n (m ∷ lines) zero up below = less n m (and_parts (nat_lt n m) (above n lines) up).0
@@ -52,7 +52,7 @@ first_less n lines k up below = above_at n lines k (and_parts (above n lines) (r
 rest_rises : (n : ℕ) (lines : List ℕ) → rises (n ∷ lines) ≡ true → rises lines ≡ true
 rest_rises n lines up = (and_parts (above n lines) (rises lines) up).1
 
--- the edge of the line at a place
+-- the edge of the line at an index
 pub edge_found : (lines : List ℕ) (edges : List Edge) (k : ℕ) (e : Edge) → rises lines ≡ true → k < length lines
     → slice_get edges k ≡ Some e → edge_of lines edges (get_or lines k 0) ≡ Some e
 edge_found [] edges k e up below is = absurd (omega arith)
@@ -62,7 +62,7 @@ edge_found (n ∷ lines) (x ∷ edges) (suc k) e up below is =
     let other : (get_or lines k 0 == n) ≡ false = differs_back n (get_or lines k 0) (first_less n lines k up (omega arith)) in
     rw other (edge_found lines edges k e (rest_rises n lines up) (omega arith) is)
 
--- lines at different places differ
+-- lines at different indexes differ
 pub one_line : (lines : List ℕ) (i k : ℕ) → rises lines ≡ true → i < length lines → k < length lines
     → (get_or lines i 0 == get_or lines k 0) ≡ (i == k)
 one_line [] i k up i_in k_in = absurd (omega arith)

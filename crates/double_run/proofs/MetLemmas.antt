@@ -1,4 +1,4 @@
--- Junctions that are met, spent, or on the way home, when a line more is passed.
+-- Junctions that are visited, exhausted, or on the stack, when another line is passed.
 use Rattle.std.proofs.Common.{◌≡◌, ◌<◌, ◌⊎◌, inl, inr, ℕ, zero, suc, ◌+◌, ◌==◌, ◌&&◌, ◌||◌, Bool, true, false, not, List, [], ◌∷◌, ◌++◌, length, get_or, set, slice_get, Some, arith, refl, sym, ◌∙◌, subst}
 use Rattle.std.proofs.lemmas.Bool.{and_parts}
 use Rattle.line_graph.specs.declared.edge.Edge.{Edge}
@@ -18,7 +18,7 @@ pub neither : (s t : Bool) → (s || t) ≡ false → (s ≡ false) × (t ≡ fa
 neither true t is = absurd (cc)
 neither false t is = (refl, is)
 
--- what was spent stays spent
+-- exhausted junctions stay exhausted
 pub spent_on : (passed : List Bool) (edges : List Edge) (m j : ℕ) → is_spent passed edges j ≡ true
     → is_spent (set passed m true) edges j ≡ true
 spent_on [] edges m j is = refl
@@ -29,7 +29,7 @@ spent_on (p ∷ passed) (e ∷ edges) (suc m) j is =
     let parts = and_parts (p || not (touches e j)) (is_spent passed edges j) is in
     rw parts.0 (spent_on passed edges m j parts.1)
 
--- a junction that is met now was met before, or is an end of the line that is passed now
+-- a visited junction was visited before, or is an end of the line that is passed now
 pub met_before : (passed : List Bool) (edges : List Edge) (m j : ℕ) (e : Edge) → slice_get edges m ≡ Some e
     → is_met (set passed m true) edges j ≡ true → (is_met passed edges j ≡ true) ⊎ (touches e j ≡ true)
 met_before [] edges m j e there is = absurd (cc)
@@ -70,7 +70,7 @@ way_push edges (x ∷ out) leg j =
     joined true s t = refl
     joined false s t = refl
 
--- the line that is found at a place is the one there
+-- the line that is found at an index is the one there
 pub found_at : (edges : List Edge) (m : ℕ) (e : Edge) → slice_get edges m ≡ Some e → edge_at edges m ≡ e
 found_at [] m e there = absurd (cc)
 found_at (x ∷ edges) zero e there = some_same x e there
@@ -133,7 +133,7 @@ cost_all (p ∷ passed) [] beside all = refl
 cost_all (p ∷ passed) (e ∷ edges) beside all =
     rw (all 0 (omega arith), cost_all passed edges (omega (arith, beside)) (λ k. λ below. all (suc k) (omega (arith, below)))) refl
 
--- a line at a spent junction is passed
+-- a line at an exhausted junction was passed
 pub spent_passes : (passed : List Bool) (edges : List Edge) (k j : ℕ) (e : Edge) → length passed ≡ length edges
     → slice_get edges k ≡ Some e → touches e j ≡ true → is_spent passed edges j ≡ true → get_or passed k false ≡ true
 spent_passes passed [] k j e beside there at is = absurd (cc)
@@ -149,7 +149,7 @@ spent_passes (p ∷ passed) (x ∷ edges) zero j e beside there at is =
 spent_passes (p ∷ passed) (x ∷ edges) (suc k) j e beside there at is =
     spent_passes passed edges k j e (omega (arith, beside)) there at (and_parts (p || not (touches x j)) (is_spent passed edges j) is).1
 
--- the ends of a line that is passed are met
+-- the ends of a passed line are visited
 pub passed_meets : (passed : List Bool) (edges : List Edge) (k j : ℕ) (e : Edge) → get_or passed k false ≡ true
     → slice_get edges k ≡ Some e → touches e j ≡ true → is_met passed edges j ≡ true
 passed_meets [] edges k j e is there at = absurd (cc)

@@ -1,4 +1,4 @@
--- Each step of an outing keeps it.
+-- Each step of a traversal preserves the invariant.
 use Rattle.std.proofs.Common.{◌≡◌, ◌<◌, ◌⊎◌, inl, inr, ℕ, ◌+◌, ◌*◌, ◌==◌, ◌&&◌, Bool, true, false, not, nat_lt, cond, List, [], ◌∷◌, ◌++◌, length, get_or, set, slice_get, Option, Some, None, arith, refl, sym, ap, ◌∙◌, subst, length-set, length-append}
 use Rattle.std.proofs.lemmas.Bool.{and_parts}
 use Rattle.std.proofs.lemmas.Bool.Decides.{nat_tests}
@@ -48,7 +48,7 @@ homeward found e false is = rw (is, eq_self e.b) refl
 less_test : (m n : ℕ) → m < n → nat_lt m n ≡ true
 less_test m n h = grind (arith, nat_tests)
 
--- the outing after a leg more
+-- the traversal after another leg
 pub out_kept : (lines : List ℕ) (edges : List Edge) (walk : List Pass) (out : List Leg) (passed : List Bool) (root : ℕ) (leg : Leg)
     (e : Edge)
     → rises lines ≡ true → length lines ≡ length edges → slice_get edges leg.place ≡ Some e → slice_get passed leg.place ≡ Some false
@@ -109,7 +109,7 @@ out_kept lines edges walk out passed root leg e up beside there left k = record 
         false_true : false ≡ true → ⊥
         false_true is = cc
 
--- the outing after it came back along its last leg
+-- the traversal after it came back along its last leg
 pub back_kept : (lines : List ℕ) (edges : List Edge) (walk : List Pass) (out : List Leg) (passed : List Bool) (root at : ℕ) (leg : Leg)
     (e : Edge)
     → rises lines ≡ true → length lines ≡ length edges → slice_get edges leg.place ≡ Some e → is_spent passed edges at ≡ true

@@ -1,4 +1,4 @@
--- The steps of an outing, and that it ends with a double walk.
+-- The steps of a traversal, and the double walk at its end.
 use Rattle.std.proofs.Common.{◌≡◌, ◌<◌, ℕ, ◌+◌, ◌*◌, ◌/◌, Bool, true, false, nat_lt, List, [], ◌∷◌, ◌++◌, length, get_or, set, slice_get, slice_index_or, replicate, sum_by, Some, Vec, Global, arith, refl, sym, ap, ◌∙◌, subst}
 use Rattle.std.proofs.lemmas.Bool.{and_parts}
 use Rattle.std.proofs.lemmas.Bool.Decides.{nat_tests}
@@ -41,7 +41,7 @@ leg_below n edges k e back all is = either e back (ends_are_below n edges k e al
     either e true both = (both.1, both.0)
     either e false both = both
 
--- an outing that passed nothing is one
+-- a traversal without a pass satisfies the invariant
 pub begins_all : (p : PieceValue) (walk : List Pass) (out : List Leg) (passed : List Bool) (edges : List Edge) → walk ≡ [] → out ≡ []
     → passed ≡ replicate (length p.edges) false → edges ≡ p.edges
     → Keeps p.lines p.edges walk out passed (root_of p.edges) (slice_index_or edges 0 (record { a = 0; b = 0; cost = 0 })).a
@@ -100,7 +100,7 @@ set_off p old new blank out = record {
   first = out.marked;
 }
 
--- an end left behind
+-- a skipped end
 pub over_step : (p : PieceValue) (old : Outing) (last : Vec ℕ Global) (end : ℕ) → KeepsOuting p old → IsReady p old
     → get_or old.ends.last.items old.at 0 ≡ end + 1 → get_or old.passed.items (end / 2) false ≡ true
     → last.items ≡ set old.ends.last.items old.at (get_or old.ends.before.items end 0)
@@ -133,7 +133,7 @@ leg_edge edges out leg there =
     less : (m n : ℕ) → nat_lt m n ≡ true → m < n
     less m n is = grind (arith, nat_tests)
 
--- which is a place of the piece
+-- which is an index of a line of the piece
 pub leg_within : (p : PieceValue) (old : Outing) (out : List Leg) (leg : Leg) → KeepsOuting p old → old.out.items ≡ out ++ leg ∷ []
     → leg.place < length p.edges
 leg_within p old out leg keeps is_out =

@@ -1,6 +1,6 @@
--- read this one first: what a double walk is
+-- Read this one first: what a double walk is.
 pub mod DoubleWalks
--- of the inside: cursors over line ends, and a double walk in the making
+-- The modules of the algorithm: cursors over line ends, and the traversal.
 pub mod Cursors
 pub mod Outings
 pub mod OutingSteps

@@ -1,4 +1,5 @@
--- A double walk in the making.
+-- The traversal that makes a double walk: a depth-first search. The legs that it went out are its
+-- stack.
 use Rattle.std.specs.Prelude.{◌≡◌, ℕ, ◌+◌, ◌*◌, ◌<◌, ◌==◌, ◌&&◌, ◌||◌, Bool, true, false, not, List, [], ◌∷◌, ◌++◌, Some, length, get_or, slice_get, nat_lt}
 use Rattle.line_graph.specs.declared.edge.Edge.{Edge}
 use Rattle.line_graph.specs.declared.pass.Pass.{Pass}
@@ -10,67 +11,67 @@ use Rattle.double_run.specs.declared.outing.Outing.{Outing}
 use Rattle.double_run.specs.DoubleWalks.{times}
 use Rattle.double_run.specs.Cursors.{AreReady}
 
--- the pass along a leg
+-- The pass along a leg.
 abbrev pub pass_along : List ℕ → Leg → Pass
 pass_along lines leg = record { line = get_or lines leg.place 0; back = leg.back }
 
--- the pass back along it
+-- The pass back along a leg.
 abbrev pub pass_home : List ℕ → Leg → Pass
 pass_home lines leg = record { line = get_or lines leg.place 0; back = not leg.back }
 
--- the way home: back along the last leg first
+-- The return walk: back along all legs of the stack, the last one first.
 abbrev pub way_home : List ℕ → List Leg → List Pass
 way_home lines [] = []
 way_home lines (leg ∷ out) = way_home lines out ++ pass_home lines leg ∷ []
 
--- one of the two ends of the line is that junction
+-- An edge has an end at a junction.
 abbrev pub touches : Edge → ℕ → Bool
 touches e j = e.a == j || e.b == j
 
--- some line that is passed ends at the junction
+-- A junction was visited: some passed line ends there.
 abbrev pub is_met : List Bool → List Edge → ℕ → Bool
 is_met [] edges j = false
 is_met (p ∷ passed) [] j = false
 is_met (p ∷ passed) (e ∷ edges) j = (p && touches e j) || is_met passed edges j
 
--- all lines that end at the junction are passed
+-- A junction is exhausted: all lines that end there were passed.
 abbrev pub is_spent : List Bool → List Edge → ℕ → Bool
 is_spent [] edges j = true
 is_spent (p ∷ passed) [] j = true
 is_spent (p ∷ passed) (e ∷ edges) j = (p || not (touches e j)) && is_spent passed edges j
 
--- the line at a place
+-- The edge at an index.
 abbrev pub edge_at : List Edge → ℕ → Edge
 edge_at edges place = get_or edges place (record { a = 0; b = 0; cost = 0 })
 
--- what the lines cost that are passed, each once
+-- The cost of the passed lines, each once.
 abbrev pub passed_cost : List Bool → List Edge → ℕ
 passed_cost [] edges = 0
 passed_cost (p ∷ passed) [] = 0
 passed_cost (true ∷ passed) (e ∷ edges) = e.cost + passed_cost passed edges
 passed_cost (false ∷ passed) (e ∷ edges) = passed_cost passed edges
 
--- one of the legs leads from that junction
+-- A junction is on the stack: one of the legs starts there.
 abbrev pub is_on_way : List Edge → List Leg → ℕ → Bool
 is_on_way edges [] j = false
 is_on_way edges (leg ∷ out) j = start_of (edge_at edges leg.place) leg.back == j
     || is_on_way edges out j
 
--- each leg is one of so many lines
+-- All legs have an index below n.
 abbrev pub are_there : ℕ → List Leg → Bool
 are_there n [] = true
 are_there n (leg ∷ out) = nat_lt leg.place n && are_there n out
 
--- the leg is a line that isn't passed, and leads from that junction
+-- A leg along a line that wasn't passed, from a junction.
 pub record LeadsFrom (edges : List Edge) (passed : List Bool) (at : ℕ) (leg : Leg) : Type 0 where
   pub edge : Edge
   pub there : slice_get edges leg.place ≡ Some edge
   pub starts : start_of edge leg.back ≡ at
   pub left : slice_get passed leg.place ≡ Some false
 
--- the walk leads to `at`, and the way home from there to where it began; the two together pass the
--- lines that are passed once in each direction, and no others, and cost twice what these do; and
--- each junction that was met is spent, or lies on the way home
+-- The invariant of a traversal. The walk leads from the root to `at`, and the return walk from
+-- there to the root. Together they pass each passed line once in each direction, and no others, at
+-- twice the cost of these lines. Each visited junction is exhausted, is `at`, or is on the stack.
 pub record Keeps (lines : List ℕ) (edges : List Edge) (walk : List Pass) (out : List Leg)
     (passed : List Bool) (root at : ℕ) : Type 0 where
   pub beside : length passed ≡ length edges
@@ -85,21 +86,21 @@ pub record Keeps (lines : List ℕ) (edges : List Edge) (walk : List Pass) (out 
   pub spent : (j : ℕ) → is_met passed edges j ≡ true → (at == j) ≡ false
       → is_on_way edges out j ≡ false → is_spent passed edges j ≡ true
 
--- where the first line begins
+-- The junction where the first line starts.
 abbrev pub root_of : List Edge → ℕ
 root_of [] = 0
 root_of (e ∷ edges) = e.a
 
--- the same of an outing over a piece
+-- The invariant of a traversal over a piece.
 abbrev pub KeepsOuting : PieceValue → Outing → Type 0
 KeepsOuting p o = Keeps p.lines p.edges o.walk o.out.items o.passed.items (root_of p.edges) o.at
 
--- its chains and its cursors
+-- The linked lists and cursors of a traversal fit the piece.
 abbrev pub IsReady : PieceValue → Outing → Type 0
 IsReady p o =
     AreReady p.edges (length p.junctions) o.passed.items o.ends.last.items o.ends.before.items o.at
 
--- both, and it began with the first line
+-- A traversal over a piece that began with the first line, forwards.
 pub record IsOuting (p : PieceValue) (o : Outing) : Type 0 where
   pub keeps : KeepsOuting p o
   pub ready : IsReady p o

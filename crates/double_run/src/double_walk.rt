@@ -8,11 +8,11 @@ use design_model::Memory;
 use line_graph::{Piece, Walk};
 use std::alloc::Global;
 
-/// A closed walk over a piece that passes each line once forwards and once backwards, and begins
-/// with the piece's first line, forwards. A start and an end of the piece aren't looked at. It goes
-/// out and comes back as the search of J. Hopcroft and R. Tarjan does, "Algorithm 447: Efficient
-/// algorithms for graph manipulation", Communications of the ACM 16 (1973), in time linear in the
-/// lines and junctions. It fails only for want of memory.
+/// Returns a closed walk over a piece that passes each line once forwards and once backwards, and begins with
+/// the piece's first line, forwards. A required start or end of the piece is ignored. The walk is a
+/// depth-first search as in J. Hopcroft and R. Tarjan, "Algorithm 447: Efficient algorithms for graph
+/// manipulation", Communications of the ACM 16 (1973). The time is linear in the lines and junctions. The
+/// only error is out of memory.
 pub fn double(alloc: Global, p: &Piece) -> Result<Walk, Memory>
     ensures double { IfOk result (IsDouble (graph_of p.now)) }
     ensures fits { IfOk result (λ walk. fits (unbound (graph_of p.now)) walk ≡ true) }

@@ -5,7 +5,7 @@ ghost use Rattle.line_graph.specs.PieceWalks.{end_of, start_of};
 
 use line_graph::{Edge, Pass};
 
-/// A line by its place among those of a piece, forwards or backwards.
+/// A line by its index among those of a piece, forwards or backwards.
 #[derive(Clone, Copy)]
 pub struct Leg {
     pub place: u32,
@@ -13,7 +13,7 @@ pub struct Leg {
 }
 
 impl Leg {
-    /// The same line the other way.
+    /// Returns the same line in the other direction.
     pub fn turned(self) -> Leg
         ensures { result ≡ record { place = self.place; back = not self.back } }
     {
@@ -23,7 +23,7 @@ impl Leg {
         }
     }
 
-    /// The pass along it.
+    /// Returns the pass along the leg.
     pub fn pass(self, lines: &[u32]) -> Pass
         requires { self.place < length lines.now }
         ensures { result ≡ pass_along lines.now self }
@@ -35,7 +35,7 @@ impl Leg {
     }
 }
 
-/// The line with that end, from there.
+/// Returns the leg that starts at a line end.
 pub fn leg_from(end: u32) -> Leg
     ensures { result ≡ record { place = end / 2; back = is_odd end } }
 {
@@ -45,14 +45,14 @@ pub fn leg_from(end: u32) -> Leg
     }
 }
 
-/// Where a line begins, passed that way.
+/// Returns the junction where a line starts, in a direction.
 pub fn start_of_leg(edge: Edge, back: bool) -> u32
     ensures { result ≡ start_of edge back }
 {
     if back { edge.b } else { edge.a }
 }
 
-/// Where it ends.
+/// Returns the junction where a line ends, in a direction.
 pub fn end_of_leg(edge: Edge, back: bool) -> u32
     ensures { result ≡ end_of edge back }
 {

@@ -1,4 +1,4 @@
-//! Walks that sew each line of a piece once in each direction, as reversible work is sewn.
+//! Double walks: walks that sew each line of a piece once in each direction, as reversible work is sewn.
 #![tactic(auto)]
 
 mod double_walk;

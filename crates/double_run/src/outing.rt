@@ -9,9 +9,8 @@ use euler_tour::{LineEnds, chain, put_number};
 use line_graph::{Piece, Walk};
 use std::alloc::Global;
 
-/// A double walk in the making: the walk so far, which leads to `at`; the legs that it went out and
-/// is to come back, the last of them last; and which lines it passed. `ends.last` goes back over the
-/// ends at each junction, past those whose lines are passed.
+/// A traversal: the walk up to now, which leads to `at`; the stack of legs that it went out; and which lines
+/// it passed. `ends.last` is a cursor at each junction, which skips the ends whose lines were passed.
 #[derive(Drop)]
 pub struct Outing {
     pub walk: Walk,
@@ -21,7 +20,7 @@ pub struct Outing {
     at: u32,
 }
 
-/// An outing that went out along the first line, forwards.
+/// Returns a traversal that went out along the first line, forwards.
 pub fn set_out(alloc: Global, p: &Piece) -> Result<Outing, Memory>
     ensures { IfOk result (IsOuting (graph_of p.now)) }
 {
@@ -34,8 +33,8 @@ pub fn set_out(alloc: Global, p: &Piece) -> Result<Outing, Memory>
     Ok(o)
 }
 
-/// Goes out along a line that isn't passed, or leaves an end behind, or comes back along the last
-/// line. Answers whether there was anything to do.
+/// Goes out along a line that wasn't passed, or skips an end, or comes back along the last leg. Returns
+/// whether there was anything to do. The only error is out of memory.
 pub fn step(o: &mut Outing, p: &Piece) -> Result<bool, Memory>
     requires keeps { KeepsOuting (graph_of p.now) o.old }
     requires ready { IsReady (graph_of p.now) o.old }
@@ -54,7 +53,7 @@ pub fn step(o: &mut Outing, p: &Piece) -> Result<bool, Memory>
     Ok(true)
 }
 
-/// An outing that passed nothing, where the first line begins.
+/// Returns a traversal without a pass, at the start of the first line.
 fn at_the_start(alloc: Global, p: &Piece) -> Result<Outing, Memory>
     ensures keeps { IfOk result (KeepsOuting (graph_of p.now)) }
     ensures ready { IfOk result (IsReady (graph_of p.now)) }
@@ -71,7 +70,7 @@ fn at_the_start(alloc: Global, p: &Piece) -> Result<Outing, Memory>
     })
 }
 
-/// Goes out along a line that leads from where the outing is.
+/// Goes out along a leg from the junction of the traversal.
 fn go_out(o: &mut Outing, p: &Piece, leg: Leg) -> Result<(), Memory>
     requires keeps { KeepsOuting (graph_of p.now) o.old }
     requires ready { IsReady (graph_of p.now) o.old }
@@ -85,7 +84,7 @@ fn go_out(o: &mut Outing, p: &Piece, leg: Leg) -> Result<(), Memory>
     Ok(())
 }
 
-/// Leaves an end behind whose line is passed.
+/// Skips an end whose line was passed.
 fn pass_over(o: &mut Outing, end: u32)
     requires junction { o.old.at < length o.old.ends.last.items }
     requires end { end < length o.old.ends.before.items }
@@ -94,7 +93,7 @@ fn pass_over(o: &mut Outing, end: u32)
     put_number(&mut o.ends.last, o.at, o.ends.before[end as usize]);
 }
 
-/// Comes back along the last line that the outing went out, if there is one.
+/// Comes back along the last leg of the stack, if there is one.
 fn come_back(o: &mut Outing, p: &Piece) -> Result<bool, Memory>
     requires keeps { KeepsOuting (graph_of p.now) o.old }
     requires ready { IsReady (graph_of p.now) o.old }

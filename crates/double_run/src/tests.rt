@@ -7,11 +7,11 @@ use std::test::Fail;
 /// The points of the lines of a block.
 type Lines = &'static [&'static [(i32, i32)]];
 
-/// The blocks of a drawing, and the passes of its double walks, one piece after the other: the line,
+/// The cases: the blocks of a drawing, and the passes of its double walks, piece by piece. A pass is a line,
 /// and whether it is passed backwards.
 const TABLE: [(&[Lines], &[(u32, bool)]); 5] = [
     (&[&[&[(0, 0), (40, 0)]]], &[(0, false), (0, true)]),
-    // A triangle is gone round, and back.
+    // A triangle is passed around, and back.
     (
         &[&[&[(0, 0), (50, 0)], &[(50, 0), (0, 30)], &[(0, 30), (0, 0)]]],
         &[
@@ -23,7 +23,7 @@ const TABLE: [(&[Lines], &[(u32, bool)]); 5] = [
             (0, true),
         ],
     ),
-    // Three lines from one point, of which the last one leads there.
+    // Three lines at one point, the last one towards it.
     (
         &[&[&[(0, 0), (50, 0)], &[(0, 0), (0, 50)], &[(-50, 0), (0, 0)]]],
         &[
@@ -35,7 +35,7 @@ const TABLE: [(&[Lines], &[(u32, bool)]); 5] = [
             (1, true),
         ],
     ),
-    // A closed line, and a stick that leads to its end.
+    // A closed line, and a line that leads to its end.
     (
         &[&[&[(20, 0), (40, 0), (40, 20), (20, 0)], &[(0, 0), (20, 0)]]],
         &[(0, false), (1, true), (1, false), (0, true)],
@@ -78,7 +78,7 @@ fn line_of(alloc: Global, points: &[(i32, i32)]) -> Result<Points, Memory> {
     Ok(line)
 }
 
-/// The passes of the double walks over the pieces of a drawing.
+/// Returns the passes of the double walks over the pieces of a drawing.
 fn passes(alloc: Global, drawing: &Drawing) -> Result<Vec<(u32, bool)>, Memory> {
     let mut told = Vec::new(alloc);
     let pieces = pieces(alloc, drawing)?;
@@ -101,7 +101,7 @@ fn each_line_is_passed_forwards_and_backwards(rt: HostRuntime) -> Result<(), Fai
     Ok(())
 }
 
-/// A drawing of 1,000 lines, one behind the other and each 30 long.
+/// Returns a drawing of 1,000 lines, one after the other and each 30 long.
 fn long_row(alloc: Global) -> Result<Drawing, DrawKind> {
     let mut maker = DrawingMaker::new(alloc, b"", 10);
     maker.add_block(1)?;

@@ -3,7 +3,7 @@ use Rattle.double_run.specs.OutingSteps.{rank}
 use Rattle.double_run.specs.Outings.{IsOuting}
 use Rattle.double_run.proofs.double_walk.double.Given as goal
 
--- the outing is one over the piece
+-- the traversal is one over the piece
 abbrev pub invariant-loop-o : goal.invariant-loop-o
 invariant-loop-o l = IsOuting (graph_of l.p) l.o
 
