@@ -13,7 +13,7 @@ abbrev pub climb : Site → (i j : ℕ) → List Moat → ℕ
 climb g i j [] = 0
 climb g i j (m ∷ rest) = (level g m j - level g m i) + climb g i j rest
 
--- the costs of two junctions from each place differ by no more than that
+-- the costs of two junctions from each terminal differ by no more than that
 pub record IsLine (g : Site) (i j c : ℕ) : Type 0 where
   pub forth : (t : ℕ) → t < g.places → g.least t j ≤ g.least t i + c
   pub back : (t : ℕ) → t < g.places → g.least t i ≤ g.least t j + c

@@ -36,7 +36,7 @@ known_empty = refl
 pub known_twice : cuts_fault closed 6 (cut 4 (1 ∷ 1 ∷ 3 ∷ []) ∷ []) ≡ Some (fault.EvenCut 1 2)
 known_twice = refl
 
--- the first cut with a fault tells, and of one cut the stranger
+-- the first cut with a fault is reported, and of one cut the stranger
 pub known_order : cuts_fault closed 6 (cut 4 (1 ∷ 2 ∷ []) ∷ cut 6 (9 ∷ []) ∷ []) ≡ Some (fault.EvenCut 1 2)
 known_order = refl
 
@@ -67,7 +67,7 @@ known_between = refl
 pub known_changed : cuts_fault (star (Some 1) (Some 3)) 3 (cut 6 (3 ∷ []) ∷ []) ≡ Some (fault.EvenCut 1 0)
 known_changed = refl
 
--- where one junction is said, none changes
+-- where a single junction is required, none changes
 pub known_unchanged : cuts_fault (star (Some 1) None) 6 ends ≡ None
 known_unchanged = refl
 

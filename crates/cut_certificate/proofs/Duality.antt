@@ -1,4 +1,4 @@
--- The bound: each cut is crossed once more than the lines cross it, and the loads bound what is crossed more.
+-- The bound: a walk crosses each cut once more than the lines do, and the loads bound the extra crossings.
 use Rattle.std.proofs.Common.{◌≡◌, ◌≤◌, ℕ, ◌+◌, ◌*◌, ◌%◌, ◌==◌, Bool, true, false, cond, not, List, [], ◌∷◌, ◌++◌, length, Option, Some, None, All, arith, refl, sym, ◌∙◌, ap}
 use Rattle.std.proofs.lemmas.Bool.Decides.{nat_tests}
 use Rattle.std.proofs.lemmas.Bool.{and_parts}

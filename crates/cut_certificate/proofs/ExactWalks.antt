@@ -12,12 +12,12 @@ use Rattle.cut_certificate.specs.declared.faults.WalkFault.TheVariants as fault
 use Rattle.cut_certificate.specs.Faults.{first_fault}
 use Rattle.cut_certificate.specs.WalkFaults.{ChecksWalk, ends_fault, faults_at, faults_from, leading_fault, missing_fault, pass_fault, pass_faults, walk_fault}
 
--- nothing is told
+-- no fault is reported
 abbrev is_right : {F : Type 0} → Option F → Bool
 is_right None = true
 is_right (Some found) = false
 
--- a test that tells a fault where it fails
+-- a test that reports a fault where it fails
 told : {F : Type 0} (test : Bool) (found : F) → is_right (cond test None (Some found)) ≡ test
 told true found = refl
 told false found = refl

@@ -1,4 +1,4 @@
--- Rows of a piece and moats over its odd junctions make a site on which the cuts of the moats are a packing.
+-- Rows of a piece and moats over its odd junctions are an input of lifting whose cuts are a packing.
 use Rattle.std.proofs.Common.{◌≡◌, ℕ, zero, suc, ◌+◌, ◌*◌, ◌%◌, ◌<◌, ◌≤◌, List, [], ◌∷◌, length, Vec, Global, All, Bool, drop, true, false, not, ◌&&◌, get_or, nat_lt, Some, slice_get, arith, refl, sym, ◌∙◌, ap, subst}
 use Rattle.std.proofs.lemmas.Bool.{and_parts, ltb-true}
 use Rattle.std.proofs.lemmas.List.Elements.{All-weaker}
@@ -27,7 +27,7 @@ use Rattle.cut_certificate.proofs.LaminarLemmas.{below, differ, held_below, lami
 use Rattle.cut_certificate.proofs.LiftLemmas.{AreCutsOf, AreLifted, IsMade, all_lifted, as_moat}
 use Rattle.cut_certificate.proofs.MoatLemmas.{Fits, parts}
 
--- the site of a piece
+-- the input of lifting for a piece
 abbrev pub piece_site : PieceValue → RowsValue → List Moat → Site
 piece_site p rows moats = site_of rows (length p.junctions) moats
 
@@ -42,7 +42,7 @@ both_parts : (t u : ℕ) (ms : List Moat) → widths (parts t u) ms + widths (pa
 both_parts t u [] = refl
 both_parts t u (m ∷ ms) = two_parts (holds m.members t) (holds m.members u) m.width _ _ _ (both_parts t u ms)
 
--- the widths between two places, from both sides
+-- the widths between two terminals, from both sides
 between_is : (t u : ℕ) (ms : List Moat) → widths (parts t u) ms + widths (parts u t) ms ≡ moats_between ms t u
 between_is t u ms =
     both_parts t u ms
@@ -136,7 +136,7 @@ reaching p rows moats kept are = record {
   laminar = are.laminar;
 }
 
--- reaches can be made
+-- the distances can be computed
 pub can_reach : (p : PieceValue) (rows : RowsValue) (moats seen : List Moat) (size : ℕ) → KeepsPiece p → AreMoats p rows moats
     → seen ≡ moats
     → size ≡ length p.junctions → CanReach rows size seen
@@ -144,7 +144,7 @@ can_reach p rows moats seen size kept are same sized =
     subst (λ (n : ℕ). CanReach rows n seen) (sym sized)
     (subst (λ (ms : List Moat). CanReach rows (length p.junctions) ms) (sym same) (reaching p rows moats kept are))
 
--- the reach at an index, as the code reads it
+-- the distances at an index, as the code reads them
 pub reach_at : (p : PieceValue) (rows : RowsValue) (moats : List Moat) (size index : ℕ) (s : Moat) (reaches : List (Vec ℕ Global))
     (v : Vec ℕ Global)
     (read : List ℕ) → size ≡ length p.junctions → AreAllReaches (site_of rows size moats) reaches → index < length moats → s ≡ get_or
@@ -170,7 +170,7 @@ cuts_of g s read width old new is wide adds = record {
   is = adds.is;
 }
 
--- behind the last moat
+-- after the last moat
 pub lifted_by : (p : PieceValue) (rows : RowsValue) (moats seen : List Moat) (i : ℕ) (cuts : List Cut) → seen ≡ moats → KeepsPiece p
     → AreDistances p → AreMoats p rows moats → length seen ≤ i → AreLifted (piece_site p rows seen) (drop i seen) cuts
     → IsLifted p moats cuts

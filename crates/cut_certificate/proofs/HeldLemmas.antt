@@ -27,7 +27,7 @@ abbrev held : List ℕ → List ℕ → ℕ
 held members [] = 0
 held members (t ∷ ts) = cond (holds members t) (1 + held members ts) (held members ts)
 
--- how many of the places from k on, as many as the list has, are members
+-- how many of the terminals from k on, as many as the list has, are members
 abbrev tally : ℕ → List ℕ → List ℕ → ℕ
 tally k xs [] = 0
 tally k xs (t ∷ ts) = cond (holds xs k) (1 + tally (k + 1) xs ts) (tally (k + 1) xs ts)

@@ -1,4 +1,4 @@
--- Moats as they are told, and as inductions want them: no number named twice, all below a limit, any two apart.
+-- Moats as they are given, and as inductions need them: no number twice, all below a limit, any two apart.
 use Rattle.std.proofs.Common.{◌≡◌, ◌≢◌, ℕ, suc, ◌<◌, ◌⊎◌, List, [], ◌∷◌, All, AllPairs, Bool, true, false, arith, inl, inr, refl, sym, subst}
 use Rattle.std.proofs.lemmas.Bool.{both_ways, eqb-true, ne_eqb, or_cases}
 use Rattle.std.proofs.lemmas.List.Elements.{All-head, All-tail, All-weaker}

@@ -1,5 +1,5 @@
--- Four places, each on a line of its own to a hub: these cost 1, 1, 2 and 5. Moats of width 2 and 1 round the first two,
--- of width 11 round the last, and of width 3 round the first three.
+-- Four terminals, each on a line of its own to a hub, at costs 1, 1, 2 and 5. Moats of width 2 and 1 around the first two,
+-- of width 11 around the last, and of width 3 around the first three.
 use Rattle.std.proofs.Common.{◌≡◌, [], ◌∷◌, Some, None, true, nat_lt, ◌-◌, refl}
 use Rattle.blossom_match.specs.declared.matching.Moat.{Moat}
 use Rattle.odd_paths.specs.LeastRows.{RowsValue}
@@ -35,12 +35,12 @@ pub known_widths : (widths (λ m. true) (first ∷ around_three ∷ second ∷ l
     × (widths (λ m. nat_lt 2 m.width) (first ∷ around_three ∷ second ∷ last ∷ []) ≡ 14)
 known_widths = (refl, refl)
 
--- a moat is not below itself, nor one round another place
+-- a moat is not below itself, nor one around another terminal
 pub known_depths : (depth star around_three 0 ≡ 2) × (depth star around_three 1 ≡ 1) × (depth star around_three 2 ≡ 0) ×
     (depth star first 0 ≡ 0)
 known_depths = (refl, refl, refl, refl)
 
--- twice the cost, less the moat round the first place
+-- twice the cost, less the moat around the first terminal
 pub known_beyond : (beyond star around_three 3 0 ≡ 10) × (beyond star around_three 4 0 ≡ 0) × (beyond star around_three 4 2 ≡ 4)
 known_beyond = (refl, refl, refl)
 
@@ -48,25 +48,25 @@ pub known_lowest : (lowest (λ t. 10 - t) 8 (1 ∷ 4 ∷ 3 ∷ []) ≡ 6) × (lo
     (lowest (λ t. t) 8 [] ≡ 8)
 known_lowest = (refl, refl, refl)
 
--- members at once, the hub at once by the first two, and the last place never
+-- members at once, the hub at once by the first two, and the last terminal never
 pub known_levels : (level star around_three 0 ≡ 0) × (level star around_three 2 ≡ 0) × (level star around_three 4 ≡ 0) ×
     (level star around_three 3 ≡ 3)
 known_levels = (refl, refl, refl, refl)
 
--- the hub behind twice the cost, or never where that is no less than the width
+-- the hub after twice the cost, or never where that is no less than the width
 pub known_hub_levels : (level star last 4 ≡ 10) × (level star last 0 ≡ 11) × (level star first 4 ≡ 2) × (level star second 4 ≡ 1)
 known_hub_levels = (refl, refl, refl, refl)
 
--- the first member stands for its moat
+-- the moat is recorded at its first member
 pub known_stands : surrounded (stand.Free ∷ stand.First 7 ∷ stand.Inside ∷ stand.Free ∷ stand.Free ∷ []) (3 ∷ 1 ∷ 2 ∷ []) 9
     ≡ stand.Free ∷ stand.Inside ∷ stand.Inside ∷ stand.First 9 ∷ stand.Free ∷ []
 known_stands = refl
 
--- from a free place, and from none that stands inside
+-- from a free terminal, and from none that is inside
 pub known_ways : (way star [] 3 4 (Some stand.Free) ≡ Some 10) × (way star [] 3 4 (Some stand.Inside) ≡ None) ×
     (way star [] 3 4 None ≡ None)
 known_ways = (refl, refl, refl)
 
--- by the nearer of two free places, and not by the one that is inside
+-- by the nearer of two free terminals, and not by the one that is inside
 pub known_lowered : lowered star (stand.Inside ∷ stand.Free ∷ stand.Free ∷ []) [] 4 100 (0 ∷ 2 ∷ 1 ∷ []) ≡ 2
 known_lowered = refl

@@ -1,4 +1,4 @@
--- The levels at which junctions enter the cuts of moats, and for each junction a place that puts it into every cut that holds it.
+-- The levels at which junctions enter the cuts of moats, and for each junction a terminal that puts it into every cut that holds it.
 use Rattle.std.proofs.Common.{◌≡◌, ℕ, ◌+◌, ◌-◌, ◌*◌, ◌<◌, ◌≤◌, ◌⊎◌, min, List, [], ◌∷◌, length, Bool, true, false, ◌||◌, ◌==◌, nat_lt, arith, inl, inr, refl, sym, ap, subst}
 use Rattle.std.proofs.lemmas.Bool.{both_ways, cases_Bool, cases_lt, eq-eqb, eqb-true, lt-ltb, ltb-true, or_cases}
 use Rattle.blossom_match.specs.declared.matching.Moat.{Moat}
@@ -11,7 +11,7 @@ pub lowest_most : (at : ℕ → ℕ) (limit : ℕ) (ts : List ℕ) → lowest at
 lowest_most at limit [] = omega arith
 lowest_most at limit (t ∷ ts) = omega (arith, lowest_most at limit ts)
 
--- and than the number at each of the places
+-- at most the number at each of the terminals
 pub lowest_by : (at : ℕ → ℕ) (limit t : ℕ) (ts : List ℕ) → holds ts t ≡ true → lowest at limit ts ≤ at t
 lowest_by at limit t [] h = absurd (both_ways false refl h)
 lowest_by at limit t (x ∷ ts) h = elim (or_cases (t == x) (holds ts t) h) [
@@ -26,7 +26,7 @@ later : (a b : Bool) → b ≡ true → (a || b) ≡ true
 later true b h = refl
 later false b h = h
 
--- below the limit it is the number at one of the places
+-- a minimum below the limit is the number at one of the terminals
 pub lowest_some : (at : ℕ → ℕ) (limit : ℕ) (ts : List ℕ) → lowest at limit ts < limit
     → (t : ℕ) × (holds ts t ≡ true) × (lowest at limit ts ≡ at t)
 lowest_some at limit [] h = absurd (omega arith)
@@ -81,7 +81,7 @@ insider g f a u fits in_a =
     let most : level g a (g.spot u) ≤ 2 * g.least u (g.spot u) - depth g a u = level_by g a (g.spot u) u in_a in
     omega (arith, f.home u fits)
 
--- and that of any other place in none
+-- the junction of any other terminal is in no cut of the moat
 pub outsider : (g : Site) → Fits g → (a : Moat) (u : ℕ) → IsOf g.moats a → u < g.places → holds a.members u ≡ false
     → level g a (g.spot u) ≡ a.width
 outsider g f a u is fits out = elim (cases_lt (level g a (g.spot u)) a.width) [
@@ -94,7 +94,7 @@ outsider g f a u is fits out = elim (cases_lt (level g a (g.spot u)) a.width) [
   | inr more ↦ omega (arith, level_most g a (g.spot u))
 ]
 
--- a place that puts a junction into every cut that holds it
+-- a terminal that puts a junction into every cut that holds it
 pub record IsBest (g : Site) (i t : ℕ) : Type 0 where
   pub inside : (m : Moat) → IsOf g.moats m → level g m i < m.width → holds m.members t ≡ true
   pub first : (m : Moat) → IsOf g.moats m → level g m i < m.width → 2 * g.least t i - depth g m t ≤ level g m i
@@ -156,7 +156,7 @@ inside_all g f i t s m in_i is_s is_m low has e le h (inr (inr (inr j))) =
     let over : depth g s t + s.width ≤ depth g m t = above g s m t is_s has j.0 in
     (j.1 t has, omega arith)
 
--- either no cut holds the junction, or a place puts it into every cut that does
+-- either no cut holds the junction, or a terminal puts it into every cut that does
 pub best : (g : Site) → Fits g → (i : ℕ) → i < g.size
     → ((m : Moat) → IsOf g.moats m → m.width ≤ level g m i) ⊎ ((t : ℕ) × (t < g.places) × IsBest g i t)
 best g f i in_i = elim (smallest (λ m. nat_lt (level g m i) m.width) g.moats) [

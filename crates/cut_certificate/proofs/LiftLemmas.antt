@@ -38,7 +38,7 @@ pub record AreLifted (g : Site) (rest : List Moat) (cuts : List Cut) : Type 0 wh
   pub total : total_of cuts + width_of rest ≡ width_of g.moats
   pub each : All (IsMade g) cuts
 
--- the cuts of one moat, by its reach
+-- the cuts of one moat, by the distances from it
 pub record AreCutsOf (g : Site) (s : Moat) (cuts : List Cut) : Type 0 where
   pub reach : List ℕ
   pub is : IsReach g s reach
@@ -52,7 +52,7 @@ one_load : (w a b x y l p q r : ℕ) → min w x ≡ a → min w y ≡ b → l �
     → (p + l) + (q + r) ≡ p + (((b - a) + q) + ((a - b) + r))
 one_load w a b x y l p q r hx hy hl = omega arith
 
--- below the width a reach and a level pass the same limits
+-- below the width a distance and a level are within the same limits
 same_limit : (w x a limit : ℕ) → min w x ≡ a → limit < w → nat_le x limit ≡ nat_le a limit
 same_limit w x a limit is low = elim (cases_lt limit x) [
   | inl over ↦ lt-leb x limit over ∙ sym (lt-leb a limit (omega arith))
@@ -117,11 +117,11 @@ next_lifted g i s old new lt is l a =
     more_lifted g s (drop (i + 1) g.moats) old new (subst (λ (z : Moat). IsOf g.moats z) (sym is) (is_at g.moats i s lt))
     (subst (λ (z : List Moat). AreLifted g z old) here l) a
 
--- behind the last moat
+-- after the last moat
 pub all_lifted : (g : Site) (i : ℕ) (cuts : List Cut) → length g.moats ≤ i → AreLifted g (drop i g.moats) cuts → AreLifted g [] cuts
 all_lifted g i cuts le l = subst (λ (z : List Moat). AreLifted g z cuts) (drop_all i g.moats le) l
 
--- a cut of a moat holds the junction of a place exactly where the moat holds the place
+-- a cut of a moat holds the junction of a terminal exactly where the moat holds the terminal
 pub as_moat : (g : Site) → Fits g → (c : Cut) (made : IsMade g c) (u : ℕ) → u < g.places → g.spot u < g.size
     → holds c.members (g.spot u) ≡ holds made.moat.members u
 as_moat g f c made u fits in_u = elim (cases_Bool (holds made.moat.members u)) [

@@ -1,4 +1,4 @@
--- Loads and totals, as they are summed up.
+-- Loads and totals, as they are added up.
 use Rattle.std.proofs.Common.{◌≡◌, ◌≤◌, ◌<◌, ℕ, suc, ◌+◌, ◌*◌, ◌^◌, All, true, nat_le, List, [], ◌∷◌, Option, Some, None, Result, Ok, Err, length, get_or, replicate, set, slice_get, inl, inr, arith, refl, sym, ap, subst, ◌∙◌}
 use Rattle.std.proofs.lemmas.Bool.{cases_eq}
 use Rattle.std.proofs.lemmas.Bool.Decides.{nat_tests}
@@ -38,7 +38,7 @@ loads_blank cuts count i e = rw (blank {X = ℕ} 0 count i) refl
 pub no_load : (i : ℕ) → get_or (replicate MAX_LINES 0) i 0 ≤ 4294967295
 no_load i = rw (blank {X = ℕ} 0 MAX_LINES i) (omega arith)
 
--- the members of the next cut, and of those behind it
+-- the members of the next cut, and of those after it
 pub next_numbered : (cuts : List Cut) (cut : Cut) (rest : List Cut) → cuts ≡ cut ∷ rest → AreNumbered cuts
     → All (λ j. j + 1 < 2 ^ 32) cut.members × AreNumbered rest
 next_numbered cuts cut rest is are =
@@ -58,12 +58,12 @@ pub cuts_next : (cuts rest : List Cut) (cut : Cut) (number count : ℕ) → cuts
     → number + 1 + length rest ≡ count
 cuts_next cuts rest cut number count is told = omega (arith, told, ap (λ (cuts : List Cut). length cuts) is)
 
--- a cut without a fault leaves the faults to those behind it
+-- after a cut without a fault the first fault is that of the cuts after it
 pub faults_next : (p : PieceValue) (cuts rest : List Cut) (cut : Cut) (number : ℕ) (whole : Option CutFault) → cuts ≡ cut ∷ rest
     → cut_faults p number cuts ≡ whole → cut_fault p number cut ≡ None → cut_faults p (number + 1) rest ≡ whole
 faults_next p cuts rest cut number whole is told none = rw (is, none) at told
 
--- once none is left, none has a fault, and the loads are whole
+-- when no cut remains, none has a fault, and the loads are complete
 pub cuts_end : (p : PieceValue) (cuts : List Cut) (number : ℕ) (whole : Option CutFault) → cuts ≡ []
     → cut_faults p number cuts ≡ whole → whole ≡ None
 cuts_end p cuts number whole is told = sym (rw is at told)
@@ -71,7 +71,7 @@ cuts_end p cuts number whole is told = sym (rw is at told)
 pub load_end : (cuts : List Cut) (load whole : ℕ) (e : Edge) → cuts ≡ [] → load_with load cuts e ≡ whole → load ≡ whole
 load_end cuts load whole e is told = rw is at told
 
--- the shares of the edges before the next place
+-- the shares of the edges before the next index
 pub before_next : (cut : Cut) (edges : List Edge) (old now : List ℕ) (at share : ℕ) (d : Edge) → at < length edges → at < length now
     → share ≡ share_of cut (get_or edges at d)
     → ((i : ℕ) (e : Edge) → i < at → slice_get edges i ≡ Some e → get_or now i 0 ≡ get_or old i 0 + share_of cut e)
@@ -106,7 +106,7 @@ most_next old now at share more sized little behind most i = elim (cases_eq i at
   | inr apart ↦ rw (get_or-set_other now at i (get_or now at 0 + share) 0 apart) (most i)
 ]
 
--- with the loads by place, the first line that carries too much is the first one
+-- with the loads by index, the first line with too high a load is the first one
 pub sums_told : (cuts : List Cut) (lines : List ℕ) (edges : List Edge) (loads : List ℕ)
     → AreLoads cuts edges loads → sum_faults lines edges loads ≡ load_faults cuts lines edges
 sums_told cuts [] edges loads are = refl
@@ -127,13 +127,13 @@ pub loads_found : (p : PieceValue) (retraced : ℕ) (cuts : List Cut) (loads : L
     → cuts_fault p retraced cuts ≡ Some found
 loads_found p retraced cuts loads found are is = rw (are.0, ← sums_told cuts p.lines p.edges loads are.1, is) refl
 
--- where there is none, the total tells
+-- where there is none, the total is compared
 pub total_found : (p : PieceValue) (retraced : ℕ) (cuts : List Cut) (loads : List ℕ)
     → (cut_faults p 1 cuts ≡ None) × AreLoads cuts p.edges loads → sum_faults p.lines p.edges loads ≡ None
     → total_fault (total_of cuts) (2 * retraced) ≡ cuts_fault p retraced cuts
 total_found p retraced cuts loads are is = rw (are.0, ← sums_told cuts p.lines p.edges loads are.1, is) refl
 
--- an answer with that fault tells it
+-- a result with that fault reports it
 pub told_on : {T F : Type 0} (found : Option F) (fault : F) (result : Result T F) → IsErrAnd result (λ (f : F). f ≡ fault)
     → found ≡ Some fault → Tells found result
 told_on found fault (Ok x) is told = absurd is

@@ -1,4 +1,4 @@
--- What plain programs tell of moats, item by item.
+-- The results of the plain checks of moats, item by item.
 use Rattle.std.proofs.Common.{◌≡◌, ◌≢◌, ℕ, ◌+◌, ◌<◌, ◌≤◌, List, [], ◌∷◌, length, All, AllPairs, Bool, true, false, get_or, take, ◌==◌, ◌||◌, arith, inl, inr, refl, sym, ◌∙◌, subst}
 use Rattle.std.proofs.lemmas.Bool.{both_ways, eq-eqb, eqb-true, or_cases}
 use Rattle.std.proofs.lemmas.List.{take_all}
@@ -43,14 +43,14 @@ other_than x (y ∷ ys) misses =
     behind true h = absurd (cc)
     behind false h = h
 
--- one more number that differs from those behind it
+-- one more number that differs from those after it
 pub different_next : (numbers rest after : List ℕ) (x : ℕ) → rest ≡ x ∷ after → holds after x ≡ false
     → (AllPairs (λ u v. u ≢ v) rest → AllPairs (λ u v. u ≢ v) numbers) → AllPairs (λ u v. u ≢ v) after → AllPairs (λ u v. u ≢ v) numbers
 different_next numbers rest after x is misses whole pairs =
     whole (subst (λ (l : List ℕ). AllPairs (λ u v. u ≢ v) l) (sym is)
     (AllPairs-cons (λ u v. u ≢ v) x after (other_than x after misses) pairs))
 
--- one more moat that is laminar with those behind it
+-- one more moat that is laminar with those after it
 pub laminar_next : (moats rest after : List Moat) (m : Moat) → rest ≡ m ∷ after → All (AreLaminar m) after
     → (AllPairs AreLaminar rest → AllPairs AreLaminar moats) → AllPairs AreLaminar after → AllPairs AreLaminar moats
 laminar_next moats rest after m is all whole pairs =
@@ -59,7 +59,7 @@ laminar_next moats rest after m is all whole pairs =
 no_pairs : {X : Type 0} (R : X → X → Type 0) → AllPairs R []
 no_pairs {X} R = λ i j d less below. absurd (omega arith)
 
--- behind the last number, and the last moat
+-- after the last number, and the last moat
 pub different_done : (numbers rest : List ℕ) → rest ≡ [] → (AllPairs (λ u v. u ≢ v) rest → AllPairs (λ u v. u ≢ v) numbers)
     → AllPairs (λ u v. u ≢ v) numbers
 different_done numbers rest is whole = whole (subst (λ (l : List ℕ). AllPairs (λ u v. u ≢ v) l) (sym is) (no_pairs (λ u v. u ≢ v)))
@@ -88,7 +88,7 @@ odds_are_terminals p = record {
     differ n i j d less below same =
         omega (arith, less, get_or-range_with_len 0 n i d (omega (arith, less, below)), get_or-range_with_len 0 n j d below, same)
 
--- moats of which plain programs tell all this
+-- moats that pass all plain checks
 pub moats_are : (p : PieceValue) (rows : RowsValue) (moats seen : List Moat) (terminals : List ℕ) → AreRows p rows
     → rows.terminals ≡ terminals
     → terminals ≡ odd_junctions p → seen ≡ moats → All (IsOddMoat (length terminals)) seen → AllPairs AreLaminar seen

@@ -11,11 +11,11 @@ abbrev pub IsOf : List Moat → Moat → Type 0
 IsOf [] m = ⊥
 IsOf (x ∷ xs) m = (m ≡ x) ⊎ IsOf xs m
 
--- the moat holds the first place and not the second
+-- the moat holds the first terminal and not the second
 abbrev pub parts : ℕ → ℕ → Moat → Bool
 parts t u m = holds m.members t && not (holds m.members u)
 
--- no place is a member of both
+-- no terminal is a member of both
 abbrev pub Disjoint : Moat → Moat → Type 0
 Disjoint a b = (t : ℕ) → holds a.members t ≡ true → holds b.members t ≡ true → ⊥
 
@@ -37,7 +37,7 @@ abbrev pub Laminar : List Moat → Type 0
 Laminar [] = Unit {0}
 Laminar (m ∷ ms) = ApartFromAll m ms × Laminar ms
 
--- laminar moats over the places of a site, and costs that are distances; no two places have more between
+-- laminar moats over the terminals, and costs that are distances; no two terminals have more between
 -- them than two halves for each step from one to the other
 pub record Fits (g : Site) : Type 0 where
   pub laminar : Laminar g.moats
@@ -100,7 +100,7 @@ related (m ∷ ms) a b l (inl x) (inr y) = inr (subst (λ (z : Moat). Apart z b)
 related (m ∷ ms) a b l (inr x) (inl y) = inr (subst (λ (z : Moat). Apart a z) (sym y) (turned m a (one_apart m ms a l.0 x)))
 related (m ∷ ms) a b l (inr x) (inr y) = related ms a b l.1 x y
 
--- a place of the one of two disjoint moats is none of the other
+-- a member of one of two disjoint moats is no member of the other
 pub not_in : (a b : Moat) (t : ℕ) → Disjoint a b → holds a.members t ≡ true → holds b.members t ≡ false
 not_in a b t d h = elim (cases_Bool (holds b.members t)) [
   | inl has ↦ absurd (d t h has)

@@ -1,4 +1,4 @@
--- The levels of the moats around one place don't overlap.
+-- The levels of the moats around one terminal don't overlap.
 use Rattle.std.proofs.Common.{◌≡◌, ℕ, ◌+◌, ◌-◌, ◌≤◌, ◌⊎◌, min, max, List, [], ◌∷◌, true, arith, inl, inr, refl}
 use Rattle.std.proofs.lemmas.Bool.{cases_Bool}
 use Rattle.std.specs.Prelude.{if◌then◌else◌}
@@ -11,7 +11,7 @@ use Rattle.cut_certificate.proofs.MoatLemmas.{Apart, ApartFromAll, IsOf, Laminar
 abbrev pub overlap : (low high from to : ℕ) → ℕ
 overlap low high from to = min high to - max low from
 
--- how much of the levels of a moat above a place is within limits
+-- how much of the levels of a moat above a terminal is within limits
 abbrev pub part_at : Site → (t from to : ℕ) → Moat → ℕ
 part_at g t from to m = if holds m.members t then overlap (depth g m t) (depth g m t + m.width) from to else 0
 

@@ -1,4 +1,4 @@
--- The parities of junctions tell how many odd ones a cut holds.
+-- The parities of junctions give the number of odd ones that a cut holds.
 use Rattle.std.proofs.Common.{◌≡◌, ◌≤◌, ℕ, zero, suc, ◌+◌, Bool, true, false, List, [], ◌∷◌, ◌++◌, Option, Some, None, length, get_or, arith, refl, sym, ◌∙◌, ap}
 use Rattle.cut_certificate.specs.declared.cut.Cut.{Cut}
 use Rattle.cut_certificate.specs.declared.faults.CutFault.TheVariants as fault
@@ -25,7 +25,7 @@ odds_told : (set : ℕ → Bool) (from to : Option ℕ) (es : List Edge) (at n :
 odds_told set from to es at zero = refl
 odds_told set from to es at (suc n) = rw (degree_closed from to es at, odds_told set from to es (at + 1) n) refl
 
--- so the parities of a piece tell how many odd junctions are in a set
+-- the parities of a piece give the number of odd junctions in a set
 odds_held : (p : PieceValue) (members : List ℕ) → KeepsPiece p
     → odd_among (holds members) 0 (parities_from (from_of p) (to_of p) 0 p.degrees) ≡ odd_held p members
 odds_held p members keeps =

@@ -1,4 +1,4 @@
--- The places of lines, as the table of them is made.
+-- The indexes of lines, as their table is computed.
 use Rattle.std.proofs.Common.{◌≡◌, ◌≤◌, ◌<◌, ℕ, ◌+◌, ◌==◌, Bool, true, false, cond, nat_lt, List, [], ◌∷◌, Option, Some, None, length, drop, get_or, replicate, slice_get, set, arith, refl}
 use Rattle.std.proofs.lemmas.Bool.{and_parts}
 use Rattle.std.proofs.lemmas.Bool.Decides.{nat_tests}
@@ -54,7 +54,7 @@ place_next n rest e es edges places at line told greater found there is = by_tes
         rw (same line n here, none_above n rest es greater, get_or-set_same places n at MAX_LINES there, found) is
     by_test false other is = rw (get_or-set_other places n line at MAX_LINES (apart line n other)) is
 
--- so the lines that are left rise, and the table with them tells all
+-- the remaining lines rise, and with them the table is complete
 pub places_next : (lines : List ℕ) (edges : List Edge) (places : List ℕ) (at : ℕ)
     → at < length lines → length lines ≡ length edges → get_or lines at 0 < length places → rises (drop at lines) ≡ true
     → ((line : ℕ) → earlier (edge_of (drop at lines) (drop at edges) line) (slice_get edges (get_or places line MAX_LINES))

@@ -1,4 +1,4 @@
--- How places stand, and the reaches, from one moat to the next.
+-- The states of the terminals, and the distances, from one moat to the next.
 use Rattle.std.proofs.Common.{◌≡◌, ◌≢◌, ℕ, zero, suc, ◌+◌, ◌%◌, ◌<◌, ◌≤◌, List, [], ◌∷◌, Some, Vec, Global, length, All, AllPairs, true, get_or, replicate, slice_get, slice_set, arith, inl, inr, refl, sym, ◌∙◌, ap, subst}
 use Rattle.std.proofs.lemmas.Bool.{cases_eq}
 use Rattle.std.proofs.lemmas.List.{length-replicate}
@@ -30,7 +30,7 @@ apart_at n ms i k a b odd l at_a at_b lt =
     (subst (λ (x : Moat). AreLaminar x b) (get_or_from_slice_get ms i a a at_a)
     (subst (λ (x : Moat). AreLaminar (get_or ms i a) x) (get_or_from_slice_get ms k b a at_b) pair))
 
--- a moat gone through that shares a place with the next one is smaller
+-- a processed moat that shares a terminal with the next one is smaller
 smaller : (n : ℕ) (ms : List Moat) (index : ℕ) (s : Moat) → All (IsOddMoat n) ms → AllPairs AreLaminar ms → slice_get ms index ≡ Some s
     → (c : ℕ) (m : Moat) (t : ℕ) → slice_get ms c ≡ Some m → IsDone (length s.members) index c m → holds m.members t ≡ true
     → holds s.members t ≡ true → length m.members < length s.members
@@ -126,7 +126,7 @@ put_length (x ∷ xs) (suc i) v = ap suc (put_length xs i v)
 same_reach : (v w : Vec ℕ Global) → Some v ≡ Some w → v ≡ w
 same_reach v w h = cc
 
--- behind the next moat
+-- after the next moat
 pub next_progress : (g : Site) (s : Moat) (index : ℕ) (stands : List Stand) (reaches : List (Vec ℕ Global)) (v : Vec ℕ Global)
     → Finds g s index stands reaches → IsReach g s v.items
     → IsProgress g (length s.members) (index + 1) (surrounded stands s.members index) (slice_set reaches index v)
@@ -210,7 +210,7 @@ skipped g members index s stands reaches at other progress = progress_alike g me
         not_last : (i k : ℕ) → i ≢ k → i < k + 1 → i < k
         not_last i k other lt = omega arith
 
--- behind the last moat with so many members
+-- after the last moat with that number of members
 pub next_size : (g : Site) (members index : ℕ) (stands : List Stand) (reaches : List (Vec ℕ Global)) → members % 2 ≡ 1
     → ((i : ℕ) (m : Moat) → slice_get g.moats i ≡ Some m → length m.members % 2 ≡ 1) → length g.moats ≤ index
     → IsProgress g members index stands reaches → IsProgress g (members + 2) 0 stands reaches
@@ -231,7 +231,7 @@ next_size g members index stands reaches odd all last progress = progress_alike 
         next_odd : (i k : ℕ) → i ≢ k → i % 2 ≡ 1 → k % 2 ≡ 1 → i < k + 2 → i < k
         next_odd i k other odd_i odd_k lt = omega arith
 
--- behind the last moat
+-- after the last moat
 pub all_reached : (g : Site) (most members : ℕ) (stands : List Stand) (reaches : List (Vec ℕ Global))
     → All (λ (m : Moat). length m.members ≤ most) g.moats → most < members → IsProgress g members 0 stands reaches → AreAllReaches g reaches
 all_reached g most members stands reaches few lt progress = (
@@ -257,7 +257,7 @@ is_next g s members index stands seen reaches read at size is are progress = rec
       (subst (λ (vs : List (Vec ℕ Global)). IsProgress g members index stands vs) (sym are) progress));
 }
 
--- behind the next moat, as the code brings it about
+-- after the next moat, as the code computes it
 pub progress_on : (rows : RowsValue) (size : ℕ) (moats : List Moat) (s : Moat) (members index : ℕ) (stands new : List Stand)
     (reaches : List (Vec ℕ Global)) (v : Vec ℕ Global) → CanReach rows size moats → slice_get moats index ≡ Some s → length s.members ≡
     members

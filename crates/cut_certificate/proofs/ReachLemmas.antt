@@ -1,4 +1,4 @@
--- The reach of the next moat, from those of the outermost moats inside it.
+-- The distances from the next moat, computed from those of the outermost moats inside it.
 use Rattle.std.proofs.Common.{◌≡◌, ℕ, ◌+◌, ◌-◌, ◌*◌, ◌<◌, ◌≤◌, ◌⊎◌, min, List, [], ◌∷◌, Option, Some, None, Vec, Global, length, Bool, true, false, nat_lt, get_or, slice_get, arith, inl, inr, refl, sym, ◌∙◌, ap, subst}
 use Rattle.std.proofs.lemmas.Bool.{and_from, and_parts, both_ways, cases_Bool, cases_lt, eq-eqb, eqb-true, lt-ltb, ltb-true, or_cases}
 use Rattle.std.proofs.lemmas.Option.{slice_get_cases, slice_get_within}
@@ -14,7 +14,7 @@ use Rattle.cut_certificate.proofs.LevelLemmas.{level_by, level_most, level_some}
 use Rattle.cut_certificate.proofs.MoatLemmas.{Apart, Inside, IsOf, Laminar, above, one_apart, related, widths_mono}
 use Rattle.cut_certificate.proofs.StandLemmas.{first_held, index_of, is_of}
 
--- a reach and the width make the level
+-- the level is the minimum of the distance and the width
 pub level_is : (g : Site) (s : Moat) (reach : List ℕ) (j : ℕ) → IsReach g s reach → j < g.size
     → min s.width (slice_index reach j) ≡ level g s j
 level_is g s reach j is in_j =
@@ -91,7 +91,7 @@ done_small : (g : Site) (s : Moat) (index : ℕ) (k : Moat) → IsOf g.moats k �
     → (i : ℕ) × (slice_get g.moats i ≡ Some k) × IsDone (length s.members) index i k
 done_small g s index k is less = let p = index_of g.moats k is in (p.0, p.1, inl less)
 
--- no smaller moat is around a free place
+-- no smaller moat is around a free terminal
 depth_free : (g : Site) (s : Moat) (index t : ℕ) → IsFree g.moats (length s.members) index t → depth g s t ≡ 0
 depth_free g s index t free = none_wide (is_inner s t) g.moats none
   where
@@ -104,7 +104,7 @@ depth_free g s index t free = none_wide (is_inner s t) g.moats none
       | inr misses ↦ misses
     ]
 
--- the smaller moats around a place are the outermost one gone through and the smaller ones than this
+-- the smaller moats around a terminal are the outermost processed one and those smaller than it
 depth_first : (g : Site) (s : Moat) (index t h c : ℕ) → Laminar g.moats → (o : IsOutermost g.moats (length s.members) index t h c)
     → depth g s t ≤ depth g o.moat t + o.moat.width
 depth_first g s index t h c l o = widths_but (is_inner o.moat t) (is_inner s t) o.moat t g.moats l o.around either
@@ -125,7 +125,7 @@ depth_first g s index t h c l o = widths_but (is_inner o.moat t) (is_inner s t) 
         same in_k size (inr (inr (inl i))) = absurd (omega (arith, i.0))
         same in_k size (inr (inr (inr i))) = absurd (omega (arith, i.0))
 
--- a moat gone through that shares a place with the next one lies inside
+-- a processed moat that shares a terminal with the next one is inside
 inside_next : (g : Site) (s : Moat) (index : ℕ) (stands : List Stand) (reaches : List (Vec ℕ Global)) → Finds g s index stands reaches
     → (c : ℕ) (m : Moat) (t : ℕ) → slice_get g.moats c ≡ Some m → IsDone (length s.members) index c m → holds m.members t ≡ true
     → holds s.members t ≡ true → Inside m s
@@ -153,7 +153,7 @@ lowered_most g stands reaches j far (t ∷ ts) =
     one None = omega arith
     one (Some x) = omega arith
 
--- nor does it leave more than a way from one of the places
+-- each distance is also at most that from each of the terminals
 lowered_by : (g : Site) (stands : List Stand) (reaches : List (Vec ℕ Global)) (j far : ℕ) (ts : List ℕ) (t x : ℕ) → holds ts t ≡ true
     → way g reaches t j (slice_get stands t) ≡ Some x → lowered g stands reaches j far ts ≤ x
 lowered_by g stands reaches j far [] t x has is = absurd (both_ways false refl has)
@@ -215,7 +215,7 @@ same_number a b h = cc
 no_number : (b : ℕ) → None ≡ Some b → ⊥
 no_number b h = cc
 
--- a moat gone through has a reach
+-- a processed moat has its distances
 reach_there : (g : Site) (members index : ℕ) (stands : List Stand) (reaches : List (Vec ℕ Global)) (c : ℕ) (m : Moat)
     → IsProgress g members index stands reaches → slice_get g.moats c ≡ Some m → (v : Vec ℕ Global) × (slice_get reaches c ≡ Some v)
 reach_there g members index stands reaches c m progress at = found (slice_get_cases reaches c).1
@@ -286,7 +286,7 @@ from_some g s index stands reaches j t x (Some (stand.First c)) f in_j has at is
     at_first : (far d e w v x : ℕ) → d + w ≤ e → far - d ≤ v → v - w ≡ x → far - e ≤ x
     at_first far d e w v x over near same = omega arith
 
--- the reach of the next moat
+-- the distances from the next moat
 pub reach_found : (g : Site) (s : Moat) (index : ℕ) (stands : List Stand) (reaches : List (Vec ℕ Global)) (reach : List ℕ) (far : ℕ)
     → Finds g s index stands reaches → length reach ≡ g.size → ((t j : ℕ) → t < g.places → j < g.size → 2 * g.least t j ≤ far)
     → ((j : ℕ) → j < g.size → slice_index reach j ≡ lowered g stands reaches j far s.members) → IsReach g s reach

@@ -1,4 +1,4 @@
--- Where places stand when one more moat was gone through.
+-- The states of terminals after another moat was processed.
 use Rattle.std.proofs.Common.{◌≡◌, ◌≢◌, ℕ, zero, suc, ◌+◌, ◌<◌, ◌≤◌, ◌⊎◌, List, [], ◌∷◌, Some, length, true, false, slice_get, slice_set, arith, inl, inr, refl, sym, ◌∙◌, ap, subst}
 use Rattle.std.proofs.lemmas.Bool.{both_ways, cases_Bool, cases_eq, cases_lt, eq-eqb, eqb-true, ne_eqb, or_cases}
 use Rattle.std.proofs.lemmas.Option.{slice_get_within}
@@ -31,7 +31,7 @@ covered_length : (stands : List Stand) (ts : List ℕ) → length (covered stand
 covered_length stands [] = refl
 covered_length stands (t ∷ ts) = covered_length (slice_set stands t stand.Inside) ts ∙ set_length stands t stand.Inside
 
--- a place that isn't covered stands as it did
+-- a terminal that isn't covered keeps its state
 covered_out : (stands : List Stand) (ts : List ℕ) (x : ℕ) → holds ts x ≡ false → slice_get (covered stands ts) x ≡ slice_get stands x
 covered_out stands [] x out = refl
 covered_out stands (t ∷ ts) x out = elim (cases_eq x t) [
@@ -50,7 +50,7 @@ stays_inside stands (t ∷ ts) x is = stays_inside (slice_set stands t stand.Ins
   | inr other ↦ set_other stands t x stand.Inside other ∙ is
 ])
 
--- a covered place is inside
+-- a covered terminal is inside
 covered_in : (stands : List Stand) (ts : List ℕ) (x : ℕ) → x < length stands → holds ts x ≡ true
     → slice_get (covered stands ts) x ≡ Some stand.Inside
 covered_in stands [] x lt h = absurd (both_ways false refl h)
@@ -102,7 +102,7 @@ stays_done : (members index i : ℕ) (m : Moat) → IsDone members index i m →
 stays_done members index i m (inl less) = inl less
 stays_done members index i m (inr as_many) = inr (as_many.0, omega (arith, as_many.1))
 
--- what is the largest moat around a place stays so, where the next moat doesn't hold the place
+-- the largest moat around a terminal stays the largest, where the next moat doesn't hold the terminal
 stays_outermost : (ms : List Moat) (index : ℕ) (s : Moat) (t h c : ℕ) → slice_get ms index ≡ Some s → holds s.members t ≡ false
     → IsOutermost ms (length s.members) index t h c → IsOutermost ms (length s.members) (index + 1) t h c
 stays_outermost ms index s t h c at out o = record {
@@ -117,7 +117,7 @@ stays_outermost ms index s t h c at out o = record {
   ];
 }
 
--- the next moat is the largest around each of its places
+-- the next moat is the largest around each of its terminals
 is_outermost : (ms : List Moat) (index : ℕ) (s : Moat) (t h : ℕ) → slice_get ms index ≡ Some s → holds s.members t ≡ true
     → holds s.members h ≡ true → IsOutermost ms (length s.members) (index + 1) t h index
 is_outermost ms index s t h at around first = record {
@@ -129,7 +129,7 @@ is_outermost ms index s t h at around first = record {
   largest = λ i m at_m done holds_t. no_larger (length s.members) (index + 1) i m done;
 }
 
--- a moat gone through that holds a place of the next one and another place besides is no such moat
+-- no processed moat holds a terminal of the next one and another terminal besides
 not_across : (ms : List Moat) (index : ℕ) (s m : Moat) (i t h : ℕ) → Laminar ms → slice_get ms index ≡ Some s → slice_get ms i ≡ Some m
     → IsDone (length s.members) index i m → holds m.members t ≡ true → holds s.members t ≡ false → holds m.members h ≡ true
     → holds s.members h ≡ false
@@ -149,7 +149,7 @@ pub first_held : (ts : List ℕ) → 1 ≤ length ts → holds ts (slice_index t
 first_held [] some = absurd (omega arith)
 first_held (t ∷ ts) some = rw (eq-eqb t t refl) refl
 
--- the stands behind the next moat
+-- the states after the next moat
 pub next_stands : (ms : List Moat) (places index : ℕ) (s : Moat) (stands : List Stand) → Laminar ms → slice_get ms index ≡ Some s
     → 1 ≤ length s.members → ((t : ℕ) → holds s.members t ≡ true → t < places)
     → AreStands ms places (length s.members) index stands

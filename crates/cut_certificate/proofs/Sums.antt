@@ -7,7 +7,7 @@ use Rattle.line_graph.specs.declared.pass.Pass.{Pass}
 use Rattle.line_graph.specs.PieceGraphs.{bit}
 use Rattle.line_graph.specs.PieceWalks.{above, covers, edge_of, edge_sum, of_edge, pass_sum, passed, passes, rises}
 
--- each line's number, as often as y says
+-- each line's number, y times
 abbrev pub weigh : List ℕ → List Edge → (ℕ → ℕ) → (Edge → ℕ) → ℕ
 weigh [] es y f = 0
 weigh (n ∷ ns) [] y f = 0

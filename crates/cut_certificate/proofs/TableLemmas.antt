@@ -1,4 +1,4 @@
--- Tables and lists by place.
+-- Tables and lists by index.
 use Rattle.std.proofs.Common.{◌≡◌, ◌≤◌, ◌<◌, ℕ, zero, suc, ◌+◌, ◌&&◌, true, nat_lt, List, [], ◌∷◌, length, drop, get_or, replicate, set, arith, refl, ◌∙◌}
 use Rattle.std.proofs.lemmas.Bool.{and_from, and_parts}
 use Rattle.std.proofs.lemmas.Bool.Decides.{nat_tests}
@@ -14,11 +14,11 @@ blank x zero i = refl
 blank x (suc count) zero = refl
 blank x (suc count) (suc i) = blank x count i
 
--- what is left from a place on begins with what is there
+-- the items from an index on begin with the item there
 pub at_place : {X : Type 0} (xs : List X) (i : ℕ) (d : X) → i < length xs → drop i xs ≡ get_or xs i d ∷ drop (i + 1) xs
 at_place xs i d less = at_drop_more (λ ys. ys) xs i d less
 
--- what is below a number throughout is so at a place
+-- where all numbers are below a limit, so is that at an index
 pub below_at : (most : ℕ) (xs : List ℕ) (i d : ℕ) → all_below most xs ≡ true → i < length xs → get_or xs i d < most
 below_at most [] i d below less = absurd (omega (arith, less))
 below_at most (x ∷ xs) zero d below less =
@@ -27,7 +27,7 @@ below_at most (x ∷ xs) zero d below less =
 below_at most (x ∷ xs) (suc i) d below less =
     below_at most xs i d (and_parts (nat_lt x most) (all_below most xs) below).1 (omega (arith, less))
 
--- so are both ends of the edge at a place
+-- both ends of the edge at an index are below the limit
 pub ends_at : (most : ℕ) (edges : List Edge) (i : ℕ) (d : Edge) → ends_below most edges ≡ true → i < length edges
     → ((get_or edges i d).a < most) × ((get_or edges i d).b < most)
 ends_at most [] i d below less = absurd (omega (arith, less))

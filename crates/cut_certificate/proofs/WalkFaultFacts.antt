@@ -62,7 +62,7 @@ known_first_stranger = refl
 pub known_broken : walk_fault closed (forth 0 ∷ back 0 ∷ forth 2 ∷ back 2 ∷ forth 5 ∷ back 5 ∷ []) ≡ Some (fault.Broken 5)
 known_broken = refl
 
--- the first pass with a fault tells, and of one pass that it is along no line
+-- the first pass with a fault is reported, and of one pass that it is along no line
 pub known_order : walk_fault closed (forth 0 ∷ forth 2 ∷ forth 1 ∷ []) ≡ Some (fault.Broken 2)
 known_order = refl
 
@@ -86,7 +86,7 @@ known_missing = refl
 pub known_last_missing : walk_fault closed (forth 0 ∷ back 0 ∷ forth 2 ∷ back 2 ∷ []) ≡ Some (fault.Missing 6)
 known_last_missing = refl
 
--- an open walk that leaves out a line is open first
+-- an open walk that omits a line is reported as open
 pub known_open_first : walk_fault closed (forth 0 ∷ []) ≡ Some fault.Open
 known_open_first = refl
 
@@ -103,7 +103,7 @@ known_wrong_start = refl
 pub known_wrong_end : walk_fault (star (Some 1) (Some 2)) way ≡ Some fault.WrongEnd
 known_wrong_end = refl
 
--- one junction that is said is both
+-- a single required junction is both start and end
 pub known_wrong_return : walk_fault (star None (Some 1)) way ≡ Some fault.WrongEnd
 known_wrong_return = refl
 
@@ -113,6 +113,6 @@ known_return = refl
 pub known_no_pass : walk_fault (star (Some 0) None) [] ≡ Some fault.WrongStart
 known_no_pass = refl
 
--- and the end is told before a missing line
+-- a wrong end is reported before a missing line
 pub known_end_first : walk_fault (star (Some 0) (Some 2)) (forth 0 ∷ []) ≡ Some fault.WrongEnd
 known_end_first = refl

@@ -1,4 +1,4 @@
--- The ways from the places of the next moat, and a reach that they lowered.
+-- The distances from the terminals of the next moat, and a list that is lowered to them.
 use Rattle.std.proofs.Common.{◌≡◌, ℕ, ◌+◌, ◌-◌, ◌*◌, ◌<◌, ◌≤◌, min, List, ◌++◌, Option, Some, Vec, Global, length, All, drop, get_or, max, replicate, slice_get, take, arith, refl, sym, ◌∙◌, ap, subst}
 use Rattle.std.proofs.lemmas.List.{get_or-replicate, length-replicate, take_all}
 use Rattle.std.proofs.lemmas.List.Elements.{All-more, All-weaker}
@@ -27,7 +27,7 @@ row_low rows size moats t row j can in_t at lt =
     let long : length row ≡ size = ap length_in (sym at) ∙ can.wide t in_t in
     subst (λ (o : Option (List ℕ)). cost_in o j ≤ MAX_COST) at (can.low t j in_t (omega arith))
 
--- the reach of a moat gone through is as long as a row
+-- the distances from a processed moat are as many as a row has
 pub reach_wide : (rows : RowsValue) (size : ℕ) (moats : List Moat) (stands : List Stand) (reaches : List (Vec ℕ Global)) (t c : ℕ)
     (place : Stand)
     (v : Vec ℕ Global) (seen : List ℕ) → HasWay rows size moats stands reaches t → slice_get stands t ≡ Some place → place ≡ stand.First c
@@ -36,7 +36,7 @@ reach_wide rows size moats stands reaches t c place v seen has at is lt read are
     ap (λ (l : List ℕ). length l) are
     ∙ has.wide c v (at ∙ ap (λ (p : Stand). Some p) is) (slice_get_read reaches (length reaches) c v refl lt read)
 
--- lowered by the reach of the outermost moat that begins with the place
+-- lowered to the distances from the outermost moat whose first member is the terminal
 pub first_way : (g : Site) (stands : List Stand) (reaches : List (Vec ℕ Global)) (t j c : ℕ) (place : Stand) (m : Moat) (v : Vec ℕ Global)
     (seen : List ℕ) (old new : ℕ) → slice_get stands t ≡ Some place → place ≡ stand.First c → c < length g.moats → m ≡ get_or g.moats c m
     → c < length reaches → v ≡ get_or reaches c v → seen ≡ v.items → new ≡ min (slice_index seen j - (get_or g.moats c m).width) old
@@ -48,7 +48,7 @@ first_way g stands reaches t j c place m v seen old new at is in_moats at_m in_r
     (sym (past g reaches t j c m v (slice_get stands t) (at ∙ ap (λ (p : Stand). Some p) is)
     (slice_get_read g.moats (length g.moats) c m refl in_moats at_m) (slice_get_read reaches (length reaches) c v refl in_reaches at_v)))
 
--- each place of the next moat has a way
+-- each terminal of the next moat has a distance
 pub have_ways : (rows : RowsValue) (size : ℕ) (moats : List Moat) (s : Moat) (stands : List Stand) (reaches : List (Vec ℕ Global))
     → CanReach rows size moats → IsNext (site_of rows size moats) s stands reaches → All (HasWay rows size moats stands reaches) s.members
 have_ways rows size moats s stands reaches can next =
@@ -69,7 +69,7 @@ written : (len : ℕ) (new old : List ℕ) → length new ≡ len → take len (
 written len new old same = subst (λ (n : ℕ). take n (new ++ drop (length new) old) ≡ new) same
     (take-append_seam new (drop (length new) old))
 
--- lowered by all ways, a reach of far numbers is that of the next moat
+-- a list of FAR that is lowered to all distances has those from the next moat
 pub reach_made : (rows : RowsValue) (size : ℕ) (moats : List Moat) (s : Moat) (stands : List Stand) (reaches : List (Vec ℕ Global))
     (len : ℕ)
     (far now new members : List ℕ) → CanReach rows size moats → IsNext (site_of rows size moats) s stands reaches → far ≡ replicate size FAR
@@ -109,7 +109,7 @@ pub most_all : (ms : List Moat) (i most : ℕ) → length ms ≤ i → All (λ (
     → All (λ (x : Moat). length x.members ≤ most) ms
 most_all ms i most le all = subst (λ (l : List Moat). All (λ (x : Moat). length x.members ≤ most) l) (take_all i ms le) all
 
--- each place of the next moat has a way, as the code reads places and numbers
+-- each terminal of the next moat has a distance, as the code reads terminals and numbers
 pub all_ways : (rows : RowsValue) (size : ℕ) (moats : List Moat) (s : Moat) (stands : List Stand) (reaches : List (Vec ℕ Global))
     (far now members : List ℕ) → CanReach rows size moats → IsNext (site_of rows size moats) s stands reaches → far ≡ replicate size FAR
     → now ≡ far

@@ -1,12 +1,12 @@
--- Certificates that a text can say. Indexes of lines and junctions count from 0.
+-- Certificates that a text can represent. Indexes of lines and junctions count from 0.
 use Rattle.std.specs.Prelude.{◌≢◌, ◌+◌, ◌<◌, ◌^◌, [], All}
 use Rattle.cut_certificate.specs.declared.certificate.PieceCert.{PieceCert}
 use Rattle.cut_certificate.specs.declared.cut.Cut.{Cut}
 use Rattle.cut_certificate.specs.Packings.{IsPlainCut}
 use Rattle.line_graph.specs.declared.pass.Pass.{Pass}
 
--- a piece of a certificate that can be spelled so that it reads back: a walk with a pass, plain
--- cuts, and no index that is the greatest one
+-- A piece of a certificate that has a canonical text, which reads back. The walk has a pass, the
+-- cuts are plain, and no index is the maximum of 32 bits.
 pub record CanBeSpelled (piece : PieceCert) : Type 0 where
   pub some : piece.walk ≢ []
   pub passes : All (λ (pass : Pass). pass.line + 1 < 2 ^ 32) piece.walk

@@ -4,18 +4,18 @@ use Rattle.std.specs.List.{list_any}
 use Rattle.cut_certificate.specs.declared.cut.Cut.{Cut}
 use Rattle.line_graph.specs.declared.edge.Edge.{Edge}
 
--- the junction is one of the members
+-- A junction is a member of a cut.
 abbrev pub holds : List ℕ → ℕ → Bool
 holds members j = list_any (λ m. j == m) members
 
--- exactly one end of the edge is one of the members
+-- A cut holds exactly one end of an edge.
 abbrev pub crosses : List ℕ → Edge → Bool
 crosses members e = if holds members e.a then not (holds members e.b) else holds members e.b
 
--- the weights of the cuts that hold exactly one end of the edge
+-- The load on an edge: the weights of the cuts that hold exactly one of its ends, added up.
 abbrev pub load_on : List Cut → Edge → ℕ
 load_on cuts e = sum_by (λ (cut : Cut). if crosses cut.members e then cut.weight else 0) cuts
 
--- the weights of all cuts
+-- The total weight of all cuts.
 abbrev pub total_of : List Cut → ℕ
 total_of cuts = sum_by (λ (cut : Cut). cut.weight) cuts

@@ -1,4 +1,5 @@
--- No fault is found exactly where there is none. Weights count halves of a step, costs count steps.
+-- The checks are exact: they find a fault exactly where there is one. Weights count halves of a
+-- step, costs count steps.
 use Rattle.std.specs.Prelude.{◌≡◌, ◌↔◌, ℕ, ◌*◌, true, List, None}
 use Rattle.cut_certificate.specs.declared.cut.Cut.{Cut}
 use Rattle.cut_certificate.specs.CutFaults.{cuts_fault}
@@ -10,13 +11,13 @@ use Rattle.line_graph.specs.KeptPieces.{KeepsPiece}
 use Rattle.line_graph.specs.PieceGraphs.{PieceValue}
 use Rattle.line_graph.specs.PieceWalks.{fits}
 
--- a walk over a piece has no fault exactly where it fits
+-- A walk over a piece has no fault exactly where it fits the piece.
 abbrev pub WalkFaultsAreExact : Type 0
 WalkFaultsAreExact = (p : PieceValue) (walk : List Pass) → KeepsPiece p
     → (walk_fault p walk ≡ None) ↔ (fits p walk ≡ true)
 
--- cuts of a piece have none exactly where they are a packing with a total of
--- twice the retraced cost
+-- Cuts of a piece have no fault exactly where they are a packing with a total weight of twice the
+-- retraced cost.
 abbrev pub CutFaultsAreExact : Type 0
 CutFaultsAreExact = (p : PieceValue) (retraced : ℕ) (cuts : List Cut) → KeepsPiece p
     → (cuts_fault p retraced cuts ≡ None) ↔ (IsPacking p cuts × (total_of cuts ≡ 2 * retraced))

@@ -1,12 +1,12 @@
--- Checks that tell the first fault.
+-- Checks that report the first fault.
 use Rattle.std.specs.Prelude.{◌≡◌, Option, Some, None, Result, Ok, Err}
 
--- the first of two faults, if there is one
+-- The first of two optional faults.
 abbrev pub first_fault : {F : Type 0} → Option F → Option F → Option F
 first_fault (Some fault) rest = Some fault
 first_fault None rest = rest
 
--- the answer tells that fault, or is right where there is none
+-- A result reports the given fault, or is Ok where there is none.
 abbrev pub Tells : {T F : Type 0} → Option F → Result T F → Type 0
 Tells found (Ok _) = found ≡ None
 Tells found (Err fault) = found ≡ Some fault

@@ -1,12 +1,13 @@
--- The levels at which junctions enter the cuts of moats. Levels and widths count halves of a step,
--- costs count steps.
+-- The levels at which junctions enter the cuts of moats. A moat is a set of terminals, and a
+-- terminal is given by its index in the rows. Levels and widths count halves of a step, costs count
+-- steps.
 use Rattle.std.specs.Prelude.{ℕ, ◌+◌, ◌-◌, ◌*◌, min, List, [], ◌∷◌, Bool, length, nat_lt, ◌&&◌, if◌then◌else◌}
 use Rattle.blossom_match.specs.declared.matching.Moat.{Moat}
 use Rattle.cut_certificate.specs.Cuts.{holds}
 use Rattle.odd_paths.specs.LeastRows.{RowsValue, cost_at, terminal_of}
 
--- moats over so many places, the junction at each place, and what a least way costs from each place
--- to each of so many junctions
+-- The input of lifting: the numbers of terminals and junctions, the junction of each terminal, the
+-- least costs, and the moats.
 pub record Site : Type 0 where
   pub places : ℕ
   pub size : ℕ
@@ -14,7 +15,7 @@ pub record Site : Type 0 where
   pub least : ℕ → ℕ → ℕ
   pub moats : List Moat
 
--- moats over the terminals of rows, and so many junctions
+-- The input of lifting, from rows of least costs and moats over their terminals.
 abbrev pub site_of : RowsValue → ℕ → List Moat → Site
 site_of rows size moats = record {
   places = length rows.terminals;
@@ -24,29 +25,29 @@ site_of rows size moats = record {
   moats = moats;
 }
 
--- the widths of the moats that pass a test
+-- The total width of the moats that pass a test.
 abbrev pub widths : (Moat → Bool) → List Moat → ℕ
 widths test [] = 0
 widths test (m ∷ rest) = (if test m then m.width else 0) + widths test rest
 
--- the moat holds the place, and has fewer members than the other one
+-- A moat holds a terminal, and has fewer members than the moat s.
 abbrev pub is_inner : Moat → ℕ → Moat → Bool
 is_inner s t m = holds m.members t && nat_lt (length m.members) (length s.members)
 
--- the widths of the moats around a place that are smaller than this one
+-- The total width of the moats around a terminal that are smaller than the moat s.
 abbrev pub depth : Site → Moat → ℕ → ℕ
 depth g s t = widths (is_inner s t) g.moats
 
--- how far a junction is from a place, beyond the smaller moats around that place
+-- The distance of a junction from a terminal, beyond the smaller moats around that terminal.
 abbrev pub beyond : Site → Moat → ℕ → ℕ → ℕ
 beyond g s j t = 2 * g.least t j - depth g s t
 
--- the least of the numbers at these places, and of a limit
+-- The minimum of a limit and of the numbers at the given terminals.
 abbrev pub lowest : (ℕ → ℕ) → ℕ → List ℕ → ℕ
 lowest at limit [] = limit
 lowest at limit (t ∷ rest) = min (at t) (lowest at limit rest)
 
--- the level at which a junction enters the cuts of a moat: how far it is beyond the smaller moats
--- around the member from which this is least, and no more than the width
+-- The level at which a junction enters the cuts of a moat. The value is the minimum of the width
+-- and of the distances from all members, each beyond the smaller moats there.
 abbrev pub level : Site → Moat → ℕ → ℕ
 level g s j = lowest (beyond g s j) s.width s.members

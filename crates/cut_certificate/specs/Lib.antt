@@ -1,21 +1,21 @@
--- words of the crates below that public clauses cite
+-- Definitions of the crates below that public clauses use.
 pub use Rattle.blossom_match.specs.Matchings
 pub mod Cuts
--- read this one first: what a packing of odd cuts is
+-- Read this one first: what a packing of odd cuts is.
 pub mod Packings
 pub mod Bounds
 pub mod Lifts
 pub mod Certificates
--- how moats are lifted
+-- The modules of lifting.
 pub mod Levels
 pub mod Stands
 pub mod Reaches
 pub mod MoatCuts
--- of the tests of lifting
+-- The conditions that the tests of lifting check.
 pub mod MoatFits
 pub mod Faults
 pub mod WalkFaults
 pub mod CutFaults
--- of the checks' inside
+-- The tables of the checks.
 pub mod CheckTables
 pub mod FaultLaws

@@ -1,5 +1,5 @@
--- Moats over the odd junctions of a piece, which become cuts of the piece. Widths
--- count halves of a step.
+-- The lifting of moats over the odd junctions of a piece to cuts of the piece. Widths count halves
+-- of a step.
 use Rattle.std.specs.Prelude.{◌≡◌, ℕ, ◌*◌, ◌<◌, ◌≤◌, List, length}
 use Rattle.std.specs.List.{All, AllPairs}
 use Rattle.blossom_match.specs.declared.matching.Moat.{Moat}
@@ -10,8 +10,8 @@ use Rattle.cut_certificate.specs.Packings.{IsPacking, IsPlainCut}
 use Rattle.line_graph.specs.PieceGraphs.{PieceValue, odd_junctions}
 use Rattle.odd_paths.specs.LeastRows.{AreRows, RowsValue, cost_at, terminal_of}
 
--- moats over the odd junctions of a piece by their places in order: odd sets, nested or disjoint,
--- and no two junctions have more between them than two halves for each step of a least walk
+-- Moats over the odd junctions of a piece, by their indexes in order: odd sets, nested or disjoint.
+-- The load between two junctions is at most two halves for each step of a least walk.
 pub record AreMoats (p : PieceValue) (rows : RowsValue) (moats : List Moat) : Type 0 where
   pub rows_are : AreRows p rows
   pub terminals : rows.terminals ≡ odd_junctions p
@@ -20,8 +20,8 @@ pub record AreMoats (p : PieceValue) (rows : RowsValue) (moats : List Moat) : Ty
   pub loads : (t u : ℕ) → t < length rows.terminals → u < length rows.terminals
       → moats_between moats t u ≤ 2 * cost_at rows t (terminal_of rows u)
 
--- a packing with the total of all widths, whose cuts weigh something and
--- name their members in order
+-- A packing whose total weight is the total width of the moats. Each cut has a weight of at least
+-- 1, and its members rise.
 pub record IsLifted (p : PieceValue) (moats : List Moat) (cuts : List Cut) : Type 0 where
   pub packing : IsPacking p cuts
   pub total : total_of cuts ≡ width_of moats

@@ -4,7 +4,8 @@ use Rattle.cut_certificate.specs.declared.cut.Cut.{Cut}
 use Rattle.cut_certificate.specs.Cuts.{load_on, total_of}
 use Rattle.line_graph.specs.declared.edge.Edge.{Edge}
 
--- the junctions whose level is no more than a limit; the first of the levels is that of junction k
+-- The junctions whose level is at most a limit, where the first of the levels is that of junction
+-- k.
 abbrev pub members_from : (k limit : ℕ) → List ℕ → List ℕ
 members_from k limit [] = []
 members_from k limit (level ∷ rest) =
@@ -12,24 +13,24 @@ members_from k limit (level ∷ rest) =
     then k ∷ members_from (k + 1) limit rest
     else members_from (k + 1) limit rest
 
--- how far two numbers are apart
+-- The distance of two numbers.
 abbrev pub between : ℕ → ℕ → ℕ
 between a b = (a - b) + (b - a)
 
--- each of the levels is at most the one or at least the other
+-- Each level is at most `from` or at least `next`.
 abbrev pub NoneBetween : (from next : ℕ) → List ℕ → Type 0
 NoneBetween from next levels =
     (j : ℕ) → j < length levels → (slice_index levels j ≤ from) ⊎ (next ≤ slice_index levels j)
 
--- a cut of the junctions up to a level below the top
+-- A cut of the junctions up to a level below the top.
 pub record IsLevelCut (levels : List ℕ) (top : ℕ) (cut : Cut) : Type 0 where
   pub limit : ℕ
   pub low : limit < top
   pub heavy : 1 ≤ cut.weight
   pub members : cut.members ≡ members_from 0 limit levels
 
--- the cuts of a moat up to the top: an edge crosses as much of them as the levels of its ends are
--- apart
+-- The cuts of a moat up to the level `top`. Their load on an edge is the distance of the levels of
+-- its ends.
 pub record AreCutsTo (levels : List ℕ) (top : ℕ) (cuts : List Cut) : Type 0 where
   pub loads : (e : Edge) → e.a < length levels → e.b < length levels
       → load_on cuts e
@@ -37,7 +38,7 @@ pub record AreCutsTo (levels : List ℕ) (top : ℕ) (cuts : List Cut) : Type 0 
   pub total : total_of cuts ≡ top
   pub each : All (IsLevelCut levels top) cuts
 
--- cuts of that kind stand behind those before
+-- Cuts of a kind are appended.
 pub record AddsCuts (Kind : List Cut → Type 0) (old new : List Cut) : Type 0 where
   pub more : List Cut
   pub kind : Kind more

@@ -1,34 +1,34 @@
--- What the tests of lifting tell of moats that were made by hand.
+-- Conditions on moats that the tests of lifting check.
 use Rattle.std.specs.Prelude.{◌≡◌, ℕ, ◌*◌, ◌<◌, ◌≤◌, List, [], ◌∷◌, length, true, false, pos, slice_index}
 use Rattle.blossom_match.specs.declared.matching.Moat.{Moat}
 use Rattle.blossom_match.specs.Matchings.{holds, load_on}
 use Rattle.design_model.specs.declared.point.Point.{Point}
 use Rattle.odd_paths.specs.LeastRows.{RowsValue, cost_at}
 
--- a member of the one is no member of the other
+-- Some member of the first moat is no member of the second.
 abbrev pub LiesOut : Moat → Moat → Type 0
 LiesOut m k = (x : ℕ) × (holds m x ≡ true) × (holds k x ≡ false)
 
--- the places t and u carry no more than two halves for each step between them
+-- The load on two terminals is at most two halves for each step between them.
 abbrev pub KeepsLoad : RowsValue → List ℕ → List Moat → ℕ → ℕ → Type 0
 KeepsLoad rows terminals moats t u =
     load_on moats t u ≤ 2 * cost_at rows t (slice_index terminals u)
 
--- so does t with any place
+-- The load between a terminal and each other isn't too high.
 abbrev pub KeepsLoadsFrom : RowsValue → List ℕ → List Moat → ℕ → Type 0
 KeepsLoadsFrom rows terminals moats t =
     (u : ℕ) → u < length terminals → KeepsLoad rows terminals moats t u
 
--- so do any two places
+-- The load on each two terminals isn't too high.
 abbrev pub KeepsLoads : RowsValue → List ℕ → List Moat → Type 0
 KeepsLoads rows terminals moats = (t u : ℕ) → t < length terminals → u < length terminals
     → KeepsLoad rows terminals moats t u
 
--- a point on one line with the others
+-- A point on the x axis.
 abbrev pub corner : ℕ → Point
 corner x = record { x = pos x; y = pos 0 }
 
--- the junctions of a tree
+-- The junctions of a tree.
 abbrev pub corner_points : List Point
 corner_points = corner 0 ∷ corner 10 ∷ corner 20 ∷ corner 30 ∷ corner 40 ∷ corner 50 ∷ corner 60
     ∷ corner 70 ∷ []

@@ -1,6 +1,6 @@
--- The reaches of moats, made from small moats to large ones: how far junctions are from a moat
--- comes from the rows of those of its places that no smaller moat holds, and from the reaches of
--- the outermost moats inside. Reaches and widths count halves of a step, costs count steps.
+-- The distances of junctions from moats, computed from small moats to large ones. They come from
+-- the rows of the terminals that no smaller moat holds, and from the distances of the outermost
+-- moats inside. Distances and widths count halves of a step, costs count steps.
 use Rattle.std.specs.Prelude.{◌≡◌, ℕ, ◌-◌, ◌*◌, ◌<◌, ◌≤◌, List, [], ◌∷◌, Option, Some, None, Vec, length, min, true, All, AllPairs, slice_get, slice_index}
 use Rattle.std.proofs.Common.{Global}
 use Rattle.blossom_match.specs.declared.matching.Moat.{Moat}
@@ -14,7 +14,8 @@ use Rattle.cut_certificate.specs.Stands.{AreStands, IsDone}
 use Rattle.line_graph.specs.declared.limits.TheConstants.{MAX_COST}
 use Rattle.odd_paths.specs.LeastRows.{RowsValue, cost_at, row_length}
 
--- how far the junctions are beyond the smaller moats around the member from which this is least
+-- The distances of all junctions from a moat: each is the least distance from a member, beyond the
+-- smaller moats around that member.
 pub record IsReach (g : Site) (s : Moat) (reach : List ℕ) : Type 0 where
   pub sized : length reach ≡ g.size
   pub most : (j t : ℕ) → j < g.size → holds s.members t ≡ true
@@ -22,7 +23,7 @@ pub record IsReach (g : Site) (s : Moat) (reach : List ℕ) : Type 0 where
   pub some : (j : ℕ) → j < g.size
       → (t : ℕ) × (holds s.members t ≡ true) × (beyond g s j t ≤ slice_index reach j)
 
--- rows with a number for each of so many junctions, and odd moats over their terminals
+-- Rows with a cost for each junction, and odd moats over their terminals.
 pub record CanReach (rows : RowsValue) (size : ℕ) (moats : List Moat) : Type 0 where
   pub rows_sized : length rows.table ≡ length rows.terminals
   pub wide : (t : ℕ) → t < length rows.terminals → row_length rows t ≡ size
@@ -30,20 +31,20 @@ pub record CanReach (rows : RowsValue) (size : ℕ) (moats : List Moat) : Type 0
   pub odd : All (IsOddMoat (length rows.terminals)) moats
   pub laminar : AllPairs AreLaminar moats
 
--- the reaches of the moats that were gone through
+-- The distances of all junctions from each processed moat.
 abbrev pub AreReaches : Site → (members before : ℕ) → List (Vec ℕ Global) → Type 0
 AreReaches g members before reaches = (i : ℕ) (m : Moat) (v : Vec ℕ Global)
     → slice_get g.moats i ≡ Some m
     → IsDone members before i m → slice_get reaches i ≡ Some v → IsReach g m v.items
 
--- the reaches of all moats
+-- The distances of all junctions from each moat.
 abbrev pub AreAllReaches : Site → List (Vec ℕ Global) → Type 0
 AreAllReaches g reaches = (length reaches ≡ length g.moats)
     × ((i : ℕ) (m : Moat) (v : Vec ℕ Global) → slice_get g.moats i ≡ Some m
     → slice_get reaches i ≡ Some v
     → IsReach g m v.items)
 
--- where places stand, and the reaches
+-- The states of the terminals and the distances, when some moats were processed.
 pub record IsProgress (g : Site) (members before : ℕ) (stands : List Stand)
     (reaches : List (Vec ℕ Global))
     : Type 0 where
@@ -51,22 +52,21 @@ pub record IsProgress (g : Site) (members before : ℕ) (stands : List Stand)
   pub beside : length reaches ≡ length g.moats
   pub made : AreReaches g members before reaches
 
--- so far the code has come
+-- The invariant of lifting: the moats of fewer members, and those before an index, were processed.
 abbrev pub HasReached : RowsValue → (size : ℕ) → List Moat → (members before : ℕ) → Progress
     → Type 0
 HasReached rows size moats members before p =
     IsProgress (site_of rows size moats) members before p.stands.items p.reaches.items
 
--- the moat is the next one: those that were gone through have fewer members, or as many and a lower
--- index
+-- The next moat to process: each processed one has fewer members, or as many and a lower index.
 pub record IsNext (g : Site) (s : Moat) (stands : List Stand) (reaches : List (Vec ℕ Global))
     : Type 0 where
   pub index : ℕ
   pub at : slice_get g.moats index ≡ Some s
   pub progress : IsProgress g (length s.members) index stands reaches
 
--- a way from the place can be told: it has a row and a stand, and where it is the first of a moat,
--- that moat has a reach with a number for each of so many junctions
+-- The distance from a terminal can be computed: it has a row and a state, and its outermost moat
+-- has a distance for each junction.
 pub record HasWay (rows : RowsValue) (size : ℕ) (moats : List Moat) (stands : List Stand)
     (reaches : List (Vec ℕ Global)) (t : ℕ) : Type 0 where
   pub place : t < length rows.terminals
@@ -76,44 +76,44 @@ pub record HasWay (rows : RowsValue) (size : ℕ) (moats : List Moat) (stands : 
   pub wide : (c : ℕ) (v : Vec ℕ Global) → slice_get stands t ≡ Some (stand.First c)
       → slice_get reaches c ≡ Some v → length v.items ≡ size
 
--- so it is with each of the places, for a reach as long as this one
+-- The distances from all given terminals can be computed.
 abbrev pub HaveWays : RowsValue → List Moat → List Stand → List (Vec ℕ Global)
     → (places reach : List ℕ) → Type 0
 HaveWays rows moats stands reaches places reach =
     All (HasWay rows (length reach) moats stands reaches) places
 
--- how far a junction is beyond a moat, where its reach is known
+-- The distance of a junction beyond a moat whose distances are known.
 abbrev pub way_past : Option Moat → Option (Vec ℕ Global) → ℕ → Option ℕ
 way_past (Some m) (Some v) j = Some (slice_index v.items j - m.width)
 way_past (Some m) None j = None
 way_past None reach j = None
 
--- how far a junction is from a place that stands there, beyond the outermost moat that begins with
--- the place
+-- The distance of a junction from a terminal in a given state, beyond the outermost moat of which
+-- the terminal is the first member.
 abbrev pub way : Site → List (Vec ℕ Global) → (t j : ℕ) → Option Stand → Option ℕ
 way g reaches t j (Some stand.Free) = Some (2 * g.least t j)
 way g reaches t j (Some (stand.First c)) = way_past (slice_get g.moats c) (slice_get reaches c) j
 way g reaches t j (Some stand.Inside) = None
 way g reaches t j None = None
 
--- the number or the other one, whichever is less
+-- The minimum of an optional number and a number.
 abbrev pub lower_of : Option ℕ → ℕ → ℕ
 lower_of None far = far
 lower_of (Some near) far = min near far
 
--- the number lowered by the ways from each of the places
+-- A number lowered to the distances from each of the terminals.
 abbrev pub lowered : Site → List Stand → List (Vec ℕ Global) → (j far : ℕ) → List ℕ → ℕ
 lowered g stands reaches j far [] = far
 lowered g stands reaches j far (t ∷ rest) =
     lowered g stands reaches j (lower_of (way g reaches t j (slice_get stands t)) far) rest
 
--- each number of the reach is lowered by the ways from the places
+-- Each number is lowered to the distances from the terminals.
 abbrev pub AreLowered : RowsValue → List Moat → List Stand → List (Vec ℕ Global)
     → (places old new : List ℕ) → Type 0
 AreLowered rows moats stands reaches places old new = (j : ℕ) → j < length old
     → slice_index new j
     ≡ lowered (site_of rows (length old) moats) stands reaches j (slice_index old j) places
 
--- each number is the old one or that at its index, whichever is less
+-- Each number is the minimum of its old value and of the one at its index.
 abbrev pub AreLeast : (ℕ → ℕ) → (old new : List ℕ) → Type 0
 AreLeast at old new = (j : ℕ) → j < length old → slice_index new j ≡ min (at j) (slice_index old j)

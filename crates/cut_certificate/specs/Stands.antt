@@ -1,24 +1,23 @@
--- Where places stand while one goes through moats over them, from small moats to large ones: the
--- outermost moat around a place is told by its first member.
+-- The states of terminals while moats are processed, from small moats to large ones. The outermost
+-- moat around a terminal is recorded at its first member.
 use Rattle.std.specs.Prelude.{◌≡◌, ℕ, ◌<◌, ◌≤◌, ◌⊎◌, List, [], ◌∷◌, Some, length, true, false, slice_get, slice_index, slice_set}
 use Rattle.blossom_match.specs.declared.matching.Moat.{Moat}
 use Rattle.cut_certificate.specs.declared.stand.Stand.{Stand}
 use Rattle.cut_certificate.specs.declared.stand.Stand.TheVariants as stand
 use Rattle.cut_certificate.specs.Cuts.{holds}
 
--- the moat with that index was gone through: it has fewer members than so many, or as many and its
--- index is before a limit
+-- A moat was processed: it has fewer members than the limit, or as many and a lower index.
 abbrev pub IsDone : (members before i : ℕ) → Moat → Type 0
 IsDone members before i m =
     (length m.members < members) ⊎ ((length m.members ≡ members) × (i < before))
 
--- no moat that was gone through holds the place
+-- No processed moat holds a terminal.
 abbrev pub IsFree : List Moat → (members before t : ℕ) → Type 0
 IsFree moats members before t = (i : ℕ) (m : Moat) → slice_get moats i ≡ Some m
     → IsDone members before i m → holds m.members t ≡ false
 
--- the moat with index c is the largest that was gone through of those around the place t, and h is
--- another place of it
+-- The moat with index c is the largest processed moat around the terminal t, and h is another
+-- member.
 pub record IsOutermost (moats : List Moat) (members before t h c : ℕ) : Type 0 where
   pub moat : Moat
   pub at : slice_get moats c ≡ Some moat
@@ -28,12 +27,12 @@ pub record IsOutermost (moats : List Moat) (members before t h c : ℕ) : Type 0
   pub largest : (i : ℕ) (m : Moat) → slice_get moats i ≡ Some m → IsDone members before i m
       → holds m.members t ≡ true → length m.members ≤ length moat.members
 
--- the place is the first one of its outermost moat
+-- A terminal whose outermost processed moat is recorded, at the first member of that moat.
 abbrev pub IsFirst : List Moat → (members before t : ℕ) → List Stand → Type 0
 IsFirst moats members before t stands = (h : ℕ) × (c : ℕ)
     × (slice_get stands h ≡ Some (stand.First c)) × IsOutermost moats members before t h c
 
--- where places stand when so many moats were gone through
+-- The states of all terminals, when some moats were processed.
 pub record AreStands (moats : List Moat) (places members before : ℕ) (stands : List Stand)
     : Type 0 where
   pub sized : length stands ≡ places
@@ -43,12 +42,12 @@ pub record AreStands (moats : List Moat) (places members before : ℕ) (stands :
   pub held : (t : ℕ) → t < places
       → (slice_get stands t ≡ Some stand.Free) ⊎ IsFirst moats members before t stands
 
--- the stands where these places are inside a moat
+-- The states after the given terminals are marked as inside a moat.
 abbrev pub covered : List Stand → List ℕ → List Stand
 covered stands [] = stands
 covered stands (t ∷ rest) = covered (slice_set stands t stand.Inside) rest
 
--- the stands where a moat with that index is the outermost one around its members
+-- The states after a moat with an index becomes the outermost one around its members.
 abbrev pub surrounded : List Stand → List ℕ → ℕ → List Stand
 surrounded stands members index =
     slice_set (covered stands members) (slice_index members 0) (stand.First index)

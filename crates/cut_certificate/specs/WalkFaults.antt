@@ -1,5 +1,4 @@
--- The first thing that is wrong with a walk over a piece. Passes and lines are told by number, from
--- 1.
+-- The first fault of a walk over a piece. Passes and lines are reported by number, from 1.
 use Rattle.std.specs.Prelude.{◌≡◌, ℕ, ◌+◌, ◌==◌, Bool, List, [], ◌∷◌, Option, Some, None, Result, Ok, Err, if◌then◌else◌}
 use Rattle.cut_certificate.specs.declared.faults.WalkFault.{WalkFault}
 use Rattle.cut_certificate.specs.declared.faults.WalkFault.TheVariants as fault
@@ -9,33 +8,33 @@ use Rattle.line_graph.specs.declared.pass.Pass.{Pass}
 use Rattle.line_graph.specs.PieceGraphs.{PieceValue, from_of, to_of}
 use Rattle.line_graph.specs.PieceWalks.{are_one, edge_of, end_of, first_start, passed, start_of, walk_cost, walk_on}
 
--- what is wrong with a pass along an edge from a junction; if nothing is, what is from its end on
+-- The fault of a pass along an edge from a junction; if it has none, the first fault after its end.
 abbrev pub pass_fault : (number at : ℕ) → Option Edge → Bool → (ℕ → Option WalkFault)
     → Option WalkFault
 pass_fault number at None back after = Some (fault.Stranger number)
 pass_fault number at (Some e) back after =
     if start_of e back == at then after (end_of e back) else Some (fault.Broken number)
 
--- the first fault of passes from a junction on, the first of them with that number
+-- The first fault of passes from a junction on, where the first of them has the given number.
 abbrev pub faults_from : List ℕ → List Edge → (number at : ℕ) → List Pass → Option WalkFault
 faults_from lines edges number at [] = None
 faults_from lines edges number at (pass ∷ rest) =
     pass_fault number at (edge_of lines edges pass.line) pass.back
     (λ next. faults_from lines edges (number + 1) next rest)
 
--- the first fault of passes that start there, if their first is along a line of the piece
+-- The first fault of passes that start at an optional junction.
 abbrev pub faults_at : List ℕ → List Edge → List Pass → Option ℕ → Option WalkFault
 faults_at lines edges walk None = Some (fault.Stranger 1)
 faults_at lines edges walk (Some at) = faults_from lines edges 1 at walk
 
--- the first pass that is along no line of the piece, or doesn't start where the one before ends
+-- The first pass that is along no line of the piece, or doesn't start where the one before ends.
 abbrev pub pass_faults : List ℕ → List Edge → List Pass → Option WalkFault
 pass_faults lines edges [] = None
 pass_faults lines edges (pass ∷ rest) =
     faults_at lines edges (pass ∷ rest) (first_start lines edges (pass ∷ rest))
 
--- a walk that leads from one junction to another is to begin and to end where that is said, else to
--- be closed
+-- The fault of the ends of a walk: it must start and end where required, or be closed where nothing
+-- is required.
 abbrev pub ends_fault : (from to start end : Option ℕ) → Option WalkFault
 ends_fault (Some from) to start end =
     if are_one start (Some from)
@@ -43,23 +42,23 @@ ends_fault (Some from) to start end =
     else Some fault.WrongStart
 ends_fault None to start end = if are_one end start then None else Some fault.Open
 
--- what is wrong with where the passes of a walk lead from and to
+-- The fault of the ends of a walk over a piece.
 abbrev pub leading_fault : PieceValue → List Pass → Option WalkFault
 leading_fault p walk = ends_fault (from_of p) (to_of p) (first_start p.lines p.edges walk)
     (walk_on p.lines p.edges (first_start p.lines p.edges walk) walk)
 
--- the first of these lines that isn't passed
+-- The first line that isn't passed.
 abbrev pub missing_fault : List ℕ → List Pass → Option WalkFault
 missing_fault [] walk = None
 missing_fault (line ∷ lines) walk =
     if passed line walk then missing_fault lines walk else Some (fault.Missing (line + 1))
 
--- the first fault of a walk: of its passes in order, then of its ends, then of the lines in order
+-- The first fault of a walk: of its passes in order, then of its ends, then of the lines in order.
 abbrev pub walk_fault : PieceValue → List Pass → Option WalkFault
 walk_fault p walk = first_fault (pass_faults p.lines p.edges walk)
     (first_fault (leading_fault p walk) (missing_fault p.lines walk))
 
--- the answer tells the first fault, or what the walk costs where there is none
+-- A result reports the first fault of a walk, or returns its cost where there is none.
 abbrev pub ChecksWalk : PieceValue → List Pass → Result ℕ WalkFault → Type 0
 ChecksWalk p walk (Ok cost) = (walk_fault p walk ≡ None) × (cost ≡ walk_cost p walk)
 ChecksWalk p walk (Err found) = walk_fault p walk ≡ Some found

@@ -2,8 +2,8 @@ use crate::cut::Cuts;
 use design_model::Items;
 use line_graph::Walk;
 
-/// What a certificate says of a piece: the cost in steps of its walk above that of its lines, the walk,
-/// and cuts that show that none costs less.
+/// The certificate of a piece. The fields are the cost in steps of its walk above that of its lines, the
+/// walk, and cuts that prove that no walk costs less.
 #[derive(Debug, Drop)]
 pub struct PieceCert {
     pub retraced: u32,
@@ -11,7 +11,7 @@ pub struct PieceCert {
     pub cuts: Cuts,
 }
 
-/// What a certificate says, piece by piece.
+/// The certificates of all pieces, in order.
 pub type PieceCerts = Items<PieceCert>;
 
 /// The certificate of a route.

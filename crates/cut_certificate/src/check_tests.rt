@@ -15,7 +15,7 @@ fn edge(a: u32, b: u32, cost: u32) -> Edge
     Edge { a, b, cost }
 }
 
-/// The corners of a square.
+/// Returns the corners of a square.
 fn corners(alloc: Global) -> Result<Points, Memory>
     ensures { IfOk result (λ points. points ≡ record { x = pos 0; y = pos 0 }
         ∷ record { x = pos 30; y = pos 0 }
@@ -30,7 +30,7 @@ fn corners(alloc: Global) -> Result<Points, Memory>
     Ok(Items::from_vec(Vec::from_array(alloc, points)?))
 }
 
-/// The lines 1, 3 and 6 from one corner to the others, the last of them towards it.
+/// Returns the lines 1, 3 and 6 from one corner to the others, the last of them towards it.
 fn star(alloc: Global, start: Option<u32>, end: Option<u32>) -> Result<Piece, Memory>
     requires start { is_below 4 start ≡ true }
     requires end { is_below 4 end ≡ true }
@@ -47,7 +47,7 @@ fn star(alloc: Global, start: Option<u32>, end: Option<u32>) -> Result<Piece, Me
     })
 }
 
-/// Six lines between four corners.
+/// Returns six lines between four corners.
 fn complete(alloc: Global) -> Result<Piece, Memory> {
     let edges = [
         edge(0, 1, 1),
@@ -68,7 +68,8 @@ fn complete(alloc: Global) -> Result<Piece, Memory> {
     })
 }
 
-/// What the check says of a walk of so many passes at most, told by line number, backwards below 0.
+/// Returns the result of the check of a walk of at most `count` passes, given by line number, negative for
+/// backwards.
 fn told(p: &Piece, passes: [i8; 6], count: usize) -> Result<u64, WalkFault> {
     let mut walk = [Pass {
         line: 0,
@@ -148,7 +149,7 @@ fn a_walk_is_to_begin_and_to_end_where_that_is_said(rt: HostRuntime) -> Result<(
     Ok(())
 }
 
-/// What the check says of cuts, each with its weight and its junctions by number; 0 is none.
+/// Returns the result of the check of cuts, each given by its weight and its junctions by number; 0 is none.
 fn said(
     alloc: Global,
     p: &Piece,
@@ -196,13 +197,13 @@ fn members_of(alloc: Global, numbers: &[u8]) -> Result<Numbers, Memory>
 /// No cut.
 const NONE: (u32, [u8; 3]) = (0, [0, 0, 0]);
 
-/// Round the second junction.
+/// A cut around the second junction.
 const SECOND: (u32, [u8; 3]) = (4, [2, 0, 0]);
 
-/// Round the third junction.
+/// A cut around the third junction.
 const THIRD: (u32, [u8; 3]) = (6, [3, 0, 0]);
 
-/// Of each of these tables of cuts of the star the check says what stands beside it.
+/// Compares the result of the check with the expected one, for each table of cuts of the star.
 fn says_each(
     rt: &impl Abort,
     alloc: Global,

@@ -14,10 +14,9 @@ use crate::line_loads::{add_shares, check_loads};
 use crate::slices::first_lent;
 use line_graph::{MAX_LINES, Piece};
 
-/// Whether cuts are a packing of a piece with a total of twice the retraced cost, which is in
-/// steps. Else what is wrong with them, first: over the cuts in order a member that is no junction,
-/// then an even number of odd junctions; then over the lines in order one that carries too much;
-/// then the total.
+/// Checks that cuts are a packing of a piece with a total weight of twice the retraced cost, which is in
+/// steps. Reports the first fault. Over the cuts in order: a member that is no junction, then an even number
+/// of odd junctions. Over the lines in order: a load that is too high. Last: the total weight.
 pub fn check_cuts(p: &Piece, retraced: u32, cuts: &[Cut]) -> Result<(), CutFault>
     requires few { length cuts.now < 2 ^ 32 - 1 }
     requires members { AreNumbered cuts.now }
@@ -28,6 +27,7 @@ pub fn check_cuts(p: &Piece, retraced: u32, cuts: &[Cut]) -> Result<(), CutFault
     first_fault(p, retraced, cuts)
 }
 
+/// Reports the first fault of the cuts, the loads and the total.
 fn first_fault(p: &Piece, retraced: u32, cuts: &[Cut]) -> Result<(), CutFault>
     requires few { length cuts.now < 2 ^ 32 - 1 }
     requires members { AreNumbered cuts.now }
@@ -38,7 +38,7 @@ fn first_fault(p: &Piece, retraced: u32, cuts: &[Cut]) -> Result<(), CutFault>
     check_total(total_of(cuts), 2 * u64::from(retraced))
 }
 
-/// What cuts load on the edges of a piece, by place.
+/// Returns the load of the cuts on each edge of a piece, by index, or the first fault of a cut.
 fn loads_of(p: &Piece, cuts: &[Cut]) -> Result<[u64; MAX_LINES], CutFault>
     requires few { length cuts.now < 2 ^ 32 - 1 }
     requires members { AreNumbered cuts.now }
@@ -57,7 +57,7 @@ fn loads_of(p: &Piece, cuts: &[Cut]) -> Result<[u64; MAX_LINES], CutFault>
     Ok(loads)
 }
 
-/// Looks for what is wrong with a cut, and else gives its members.
+/// Returns the members of a cut, or its first fault.
 fn check_cut(
     p: &Piece,
     parities: &[bool],
@@ -78,12 +78,14 @@ fn check_cut(
     }
 }
 
+/// Returns whether a number is odd.
 fn is_odd(n: u32) -> bool
     ensures { result ≡ is_odd_number n }
 {
     n % 2 == 1
 }
 
+/// Reports the first member that is no junction.
 fn check_members(count: usize, number: u32, members: &[u32]) -> Result<(), CutFault>
     requires { All (λ j. j + 1 < 2 ^ 32) members.now }
     ensures { Tells (stranger_fault count number members.now) result }
@@ -101,7 +103,7 @@ fn check_members(count: usize, number: u32, members: &[u32]) -> Result<(), CutFa
     Ok(())
 }
 
-/// The weights of all cuts.
+/// Returns the total weight of all cuts.
 fn total_of(cuts: &[Cut]) -> u64
     requires { length cuts.now < 2 ^ 32 - 1 }
     ensures { result ≡ sum_of cuts.now }
@@ -115,6 +117,7 @@ fn total_of(cuts: &[Cut]) -> u64
     sum
 }
 
+/// Returns the weight of a cut.
 fn weight_of(cut: &Cut) -> u64
     ensures value { result ≡ cut.now.weight }
     ensures most { result ≤ 2 ^ 32 - 1 }
@@ -122,6 +125,7 @@ fn weight_of(cut: &Cut) -> u64
     u64::from(cut.weight)
 }
 
+/// Reports a total weight that isn't the needed one.
 fn check_total(sum: u64, needed: u64) -> Result<(), CutFault>
     ensures { Tells (total_fault sum needed) result }
 {

@@ -1,31 +1,30 @@
-/// What is wrong with a walk over a piece, first. Numbers count from 1; that of a line is the one
-/// that it has in the whole drawing.
+/// The first fault of a walk over a piece. Numbers count from 1; that of a line is its number in the drawing.
 #[derive(Clone, Copy, Debug, PartialEq, Eq)]
 pub enum WalkFault {
-    /// The pass is along no line of the piece.
+    /// A pass is along no line of the piece.
     Stranger { pass: u32 },
-    /// The pass doesn't start where the one before ends.
+    /// A pass doesn't start where the one before ends.
     Broken { pass: u32 },
-    /// The walk doesn't begin where it is to begin.
+    /// The walk doesn't start where required.
     WrongStart,
-    /// It doesn't end where it is to end.
+    /// The walk doesn't end where required.
     WrongEnd,
-    /// It doesn't end where it begins.
+    /// The walk doesn't end where it starts.
     Open,
-    /// The line isn't passed.
+    /// A line isn't passed.
     Missing { line: u32 },
 }
 
-/// What is wrong with cuts of a piece, first. Numbers count from 1; that of a line is the one that
-/// it has in the whole drawing. Loads and sums count halves of a step.
+/// The first fault of cuts of a piece. Numbers count from 1; that of a line is its number in the drawing.
+/// Loads and sums count halves of a step.
 #[derive(Clone, Copy, Debug, PartialEq, Eq)]
 pub enum CutFault {
-    /// The cut names a junction that isn't there.
+    /// A cut has a member that is no junction of the piece.
     Stranger { cut: u32, junction: u32 },
-    /// The cut holds an even number of odd junctions.
+    /// A cut holds an even number of odd junctions.
     EvenCut { cut: u32, odd: u32 },
-    /// The line carries more than twice its cost.
+    /// The load on a line is more than twice its cost.
     Overload { line: u32, load: u64, allowed: u64 },
-    /// The weights add up to something else.
+    /// The total weight isn't the needed one.
     Total { sum: u64, needed: u64 },
 }

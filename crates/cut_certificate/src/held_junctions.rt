@@ -7,10 +7,10 @@ use arrayvec::ArrayVec;
 use line_graph::Piece;
 use odd_paths::is_odd_at;
 
-/// The most junctions of a piece: each further line brings one at most.
+/// The maximum number of junctions of a piece: each further line adds at most one.
 pub(crate) const MAX_JUNCTIONS: usize = 1_025;
 
-/// By index of a junction, whether it is one of the members.
+/// Returns, for each junction, whether it is one of the members.
 pub(crate) fn held_by(members: &[u32]) -> [bool; MAX_JUNCTIONS]
     ensures { AreHeld members.now result }
 {
@@ -23,12 +23,14 @@ pub(crate) fn held_by(members: &[u32]) -> [bool; MAX_JUNCTIONS]
     held
 }
 
+/// Returns flags without a member.
 fn none_held() -> [bool; MAX_JUNCTIONS]
     ensures { (j : ℕ) → get_or result j false ≡ false }
 {
     [false; MAX_JUNCTIONS]
 }
 
+/// Marks a member.
 fn hold(held: &mut [bool; MAX_JUNCTIONS], member: u32)
     ensures { (j : ℕ) → j < most_lines + 1
         → get_or held.new j false ≡ (j == member || get_or held.old j false) }
@@ -39,13 +41,14 @@ fn hold(held: &mut [bool; MAX_JUNCTIONS], member: u32)
     }
 }
 
-/// Whether each junction of a piece is odd, start and end exchanged where they differ.
+/// Returns whether each junction of a piece is odd. A required start and end are flipped where they differ.
 pub(crate) fn parities_of(p: &Piece) -> ArrayVec<bool, MAX_JUNCTIONS>
     ensures { AreParities (graph_of p.now) result.items }
 {
     parities_in(p.degrees.as_slice(), p.from(), p.to())
 }
 
+/// Returns whether each junction is odd, by the degrees.
 fn parities_in(degrees: &[u32], from: Option<u32>, to: Option<u32>) -> ArrayVec<bool, MAX_JUNCTIONS>
     requires { length degrees.now ≤ most_lines + 1 }
     ensures { result.items ≡ parities_from from to 0 degrees.now }
@@ -61,7 +64,7 @@ fn parities_in(degrees: &[u32], from: Option<u32>, to: Option<u32>) -> ArrayVec<
     parities
 }
 
-/// How many odd junctions are members.
+/// Returns the number of odd junctions that are members.
 pub(crate) fn count_odd(held: &[bool; MAX_JUNCTIONS], parities: &[bool]) -> u32
     requires { length parities.now ≤ most_lines + 1 }
     ensures { result ≡ odd_among (λ j. get_or held.now j false) 0 parities.now }

@@ -1,4 +1,4 @@
-//! Packings of odd cuts, which prove walks least, and the certificates that have them.
+//! Packings of odd cuts, which prove walks least, and the certificates that contain them.
 #![tactic(auto)]
 
 mod certificate;

@@ -37,7 +37,8 @@ fn corners(alloc: Global) -> Result<Points, Memory>
     Ok(Items::from_vec(Vec::from_array(alloc, points)?))
 }
 
-/// A tree: junctions 0 and 1 at 2, junctions 4, behind 7, and 5 at 3, and 6 on the way from 2 to 3.
+/// Returns a tree. Junctions 0 and 1 are at 2, junctions 4 and 5 at 3, junction 7 beyond 4, and junction 6
+/// between 2 and 3.
 fn tree(alloc: Global) -> Result<Piece, Memory> {
     let edges = [
         edge(0, 2, 2),
@@ -72,7 +73,7 @@ fn moats_of(alloc: Global, rings: &[Ring]) -> Result<Moats, Memory> {
     Ok(moats)
 }
 
-/// The cuts of moats, where these fit the piece.
+/// Returns the cuts of moats, where the moats fit the piece.
 fn lifted(alloc: Global, p: &Piece, moats: &Moats) -> Result<Option<Cuts>, Memory> {
     let odds = odd(alloc, p)?;
     let places = odds.as_slice();
@@ -88,7 +89,7 @@ fn lifted(alloc: Global, p: &Piece, moats: &Moats) -> Result<Option<Cuts>, Memor
     Ok(Some(cuts))
 }
 
-/// The weight of each cut, above 1,000, and its members.
+/// Returns the weight of each cut, plus 1,000, and its members.
 fn told(alloc: Global, cuts: &Cuts) -> Result<Numbers, Memory> {
     let mut told = Numbers::new(alloc);
     for cut in cuts.as_slice() {
@@ -110,14 +111,14 @@ fn moats_become_cuts_of_the_junctions_that_they_reach(rt: HostRuntime) -> Result
         (&[(&[3], 6)], &[1_004, 3, 1_002, 3, 6, 7]),
         // a further junction enters, and one is as far as the moat is wide
         (&[(&[2, 0, 1], 8)], &[1_004, 0, 1, 2, 1_004, 0, 1, 2, 6]),
-        // the moat inside is taken off
+        // the width of the moat inside is subtracted
         (
             &[(&[0, 1, 2], 5), (&[0], 1), (&[2], 3), (&[1], 1)],
             &[
                 1_001, 0, 1, 2, 1_004, 0, 1, 2, 6, 1_001, 0, 1_003, 2, 1_001, 1,
             ],
         ),
-        // three moats round one place, the largest between the others
+        // three moats around one terminal, the largest listed between the others
         (
             &[(&[0], 1), (&[4, 0, 3, 1, 2], 6), (&[2, 0, 1], 5)],
             &[

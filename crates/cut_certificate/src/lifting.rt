@@ -11,8 +11,8 @@ use line_graph::Piece;
 use odd_paths::{Rows, least_costs_are_distances};
 use std::alloc::Global;
 
-/// A packing of odd cuts of the piece whose total is the sum of the widths: the moats of its odd
-/// junctions, each as cuts of the junctions that it reaches.
+/// Returns a packing of odd cuts of the piece whose total weight is the total width of the moats. Each moat
+/// over the odd junctions becomes cuts of the junctions near it. The only error is out of memory.
 pub fn lift(alloc: Global, p: &Piece, rows: &Rows, moats: &Moats) -> Result<Cuts, Memory>
     requires moats { AreMoats (graph_of p.now) rows.now moats.now }
     requires few { length moats.now < 2 ^ 31 }

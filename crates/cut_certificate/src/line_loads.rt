@@ -10,7 +10,7 @@ use crate::faults::CutFault;
 use crate::held_junctions::MAX_JUNCTIONS;
 use line_graph::{Edge, MAX_LINES, Piece};
 
-/// Adds to the load of each edge what it carries of a cut.
+/// Adds the load of a cut to the load of each edge.
 pub(crate) fn add_shares(
     loads: &mut [u64; MAX_LINES],
     edges: &[Edge],
@@ -30,7 +30,7 @@ pub(crate) fn add_shares(
     }
 }
 
-/// What an edge carries of a cut.
+/// Returns the load of a cut on an edge.
 fn share(held: &[bool; MAX_JUNCTIONS], cut: &Cut, e: Edge) -> u64
     requires held { AreHeld cut.now.members held.now }
     requires first { e.a < most_lines + 1 }
@@ -45,7 +45,7 @@ fn share(held: &[bool; MAX_JUNCTIONS], cut: &Cut, e: Edge) -> u64
     }
 }
 
-/// Looks for a line that carries more than it may.
+/// Reports the first line whose load is too high.
 pub(crate) fn check_loads(p: &Piece, loads: &[u64; MAX_LINES]) -> Result<(), CutFault>
     ensures { Tells (sum_faults p.now.lines p.now.edges loads.now) result }
 {
@@ -57,6 +57,7 @@ pub(crate) fn check_loads(p: &Piece, loads: &[u64; MAX_LINES]) -> Result<(), Cut
     Ok(())
 }
 
+/// Reports a line whose load is more than twice its cost.
 fn check_load(line: u32, load: u64, cost: u32) -> Result<(), CutFault>
     requires { line < most_lines }
     ensures { Tells (load_fault line load cost) result }

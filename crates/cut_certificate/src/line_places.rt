@@ -4,7 +4,8 @@ ghost use Rattle.line_graph.specs.PieceWalks.{edge_of};
 
 use line_graph::{Edge, MAX_LINES, Piece};
 
-/// By index of a line, the place of its edge in the piece, or one where there is none.
+/// Returns, for each line of the drawing, the index of its edge in the piece, or `MAX_LINES` where there is
+/// none.
 pub(crate) fn places_of(p: &Piece) -> [usize; MAX_LINES]
     ensures { ArePlaces p.now.lines p.now.edges result }
 {
@@ -16,7 +17,7 @@ pub(crate) fn places_of(p: &Piece) -> [usize; MAX_LINES]
     places
 }
 
-/// The edge of a line, if it is one of the piece's.
+/// Returns the edge of a line, if the piece has the line.
 pub(crate) fn find_edge(p: &Piece, places: &[usize; MAX_LINES], line: u32) -> Option<Edge>
     requires { ArePlaces p.now.lines p.now.edges places.now }
     ensures { result ≡ edge_of p.now.lines p.now.edges line }
@@ -24,6 +25,7 @@ pub(crate) fn find_edge(p: &Piece, places: &[usize; MAX_LINES], line: u32) -> Op
     edge_at(p.edges.as_slice(), place_of(places, line))
 }
 
+/// Returns the index of a line's edge in the piece.
 fn place_of(places: &[usize; MAX_LINES], line: u32) -> usize
     ensures { result ≡ get_or places.now line MAX_LINES }
 {
@@ -35,6 +37,7 @@ fn place_of(places: &[usize; MAX_LINES], line: u32) -> usize
     }
 }
 
+/// Returns the edge at an index, if there is one.
 fn edge_at(edges: &[Edge], place: usize) -> Option<Edge>
     ensures { result ≡ slice_get edges.now place }
 {

@@ -6,7 +6,7 @@ use crate::cut::{Cut, Cuts};
 use design_model::{Memory, Numbers};
 use std::alloc::Global;
 
-/// Adds the cuts of a moat, whose junctions enter them at these levels.
+/// Appends the cuts of a moat, whose junctions enter them at the given levels.
 pub fn add_cuts(alloc: Global, levels: &[u32], width: u32, cuts: &mut Cuts) -> Result<(), Memory>
     requires { length levels.now ≤ MAX_LINES + 1 }
     ensures { OnOk result (AddsCuts (AreCutsTo levels.now width) cuts.old cuts.new) }
@@ -22,7 +22,7 @@ pub fn add_cuts(alloc: Global, levels: &[u32], width: u32, cuts: &mut Cuts) -> R
     Ok(())
 }
 
-/// The least level above `from`, at most the width.
+/// Returns the least level above `from`, at most the width.
 fn next_level(levels: &[u32], from: u32, width: u32) -> u32
     requires { from < width }
     ensures more { from < result }
@@ -36,7 +36,7 @@ fn next_level(levels: &[u32], from: u32, width: u32) -> u32
     next
 }
 
-/// The junctions whose level is no more than the limit.
+/// Returns the junctions whose level is at most the limit.
 fn members_to(alloc: Global, levels: &[u32], limit: u32) -> Result<Numbers, Memory>
     requires { length levels.now ≤ MAX_LINES + 1 }
     ensures { IfOk result (λ members. members ≡ members_from 0 limit levels.now) }

@@ -10,14 +10,14 @@ use design_model::Memory;
 use odd_paths::Rows;
 use std::alloc::Global;
 
-/// How places stand, and the reaches of moats, as far as these were gone through.
+/// The states of the terminals, and the distances from the moats that were processed.
 #[derive(Drop)]
 struct Progress {
     stands: Vec<Stand>,
     reaches: Vec<Vec<u32>>,
 }
 
-/// The reaches of all moats, in their order.
+/// Returns the distances of all junctions from each moat, in the order of the moats.
 pub fn reaches(
     alloc: Global,
     rows: &Rows,
@@ -37,7 +37,7 @@ pub fn reaches(
     Ok(reaches)
 }
 
-/// Adds the reaches of the moats with so many members.
+/// Computes the distances from the moats with the given number of members.
 fn add_sized(
     alloc: Global,
     rows: &Rows,
@@ -57,7 +57,7 @@ fn add_sized(
     Ok(())
 }
 
-/// Adds the reach of a moat, if it has so many members.
+/// Computes the distances from a moat, if it has the given number of members.
 fn add(
     alloc: Global,
     rows: &Rows,
@@ -91,7 +91,7 @@ fn add(
     Ok(())
 }
 
-/// So many empty reaches.
+/// Returns a number of empty lists.
 fn blank(alloc: Global, count: usize) -> Result<Vec<Vec<u32>>, Memory>
     ensures { IfOk result (λ reaches. length reaches.items ≡ count) }
 {
@@ -102,7 +102,7 @@ fn blank(alloc: Global, count: usize) -> Result<Vec<Vec<u32>>, Memory>
     Ok(reaches)
 }
 
-/// How many members the moat with the most members has.
+/// Returns the greatest number of members of a moat.
 fn most_members(moats: &[Moat]) -> usize
     ensures { All (λ (m : MoatValue). length m.members ≤ result) moats.now }
 {

@@ -4,7 +4,7 @@ ghost use Rattle.line_graph.specs.declared.limits.TheConstants.{MAX_LINES as mos
 
 use line_graph::{MAX_LINES, Pass};
 
-/// By index of a line, whether a walk passes it.
+/// Returns, for each line of the drawing, whether a walk passes it.
 pub(crate) fn passed_lines(walk: &[Pass]) -> [bool; MAX_LINES]
     ensures { (line : ℕ) → line < most_lines → get_or result line false ≡ is_passed line walk.now }
 {
@@ -17,12 +17,14 @@ pub(crate) fn passed_lines(walk: &[Pass]) -> [bool; MAX_LINES]
     passed
 }
 
+/// Returns flags without a passed line.
 fn none_passed() -> [bool; MAX_LINES]
     ensures { (line : ℕ) → get_or result line false ≡ false }
 {
     [false; MAX_LINES]
 }
 
+/// Marks the line of a pass.
 fn pass_line(passed: &mut [bool; MAX_LINES], pass: Pass)
     ensures { (line : ℕ) → line < most_lines
         → get_or passed.new line false ≡ (pass.line == line || get_or passed.old line false) }

@@ -10,10 +10,10 @@ use line_graph::MAX_COST;
 use odd_paths::Rows;
 use std::alloc::Global;
 
-/// No junction is farther from a moat, in halves of a step.
+/// The maximum distance of a junction from a moat, in halves of a step.
 const FAR: u32 = 2 * MAX_COST;
 
-/// The reach of the next moat.
+/// Returns the distances of all junctions from the next moat.
 pub fn reach_of(
     alloc: Global,
     rows: &Rows,
@@ -39,7 +39,7 @@ pub fn reach_of(
     Ok(reach)
 }
 
-/// Lowers a reach by the ways from all of the places.
+/// Lowers distances to those from each of the given terminals.
 fn lower_all(
     reach: &mut [u32],
     rows: &Rows,
@@ -61,7 +61,7 @@ fn lower_all(
     }
 }
 
-/// Lowers a reach by the way from a place.
+/// Lowers distances to those from a terminal.
 fn lower(
     reach: &mut [u32],
     rows: &Rows,
@@ -83,7 +83,7 @@ fn lower(
     }
 }
 
-/// Lowers each number to twice the cost, where this is less.
+/// Lowers each distance to twice the cost, where this is less.
 fn lower_twice(reach: &mut [u32], costs: &[u32])
     requires size { length costs.now ≡ length reach.old }
     requires low { (j : ℕ) → j < length costs.now → slice_index costs.now j ≤ MAX_COST }
@@ -95,7 +95,7 @@ fn lower_twice(reach: &mut [u32], costs: &[u32])
     }
 }
 
-/// Lowers each number to that of an inner moat's reach less its width, where this is less.
+/// Lowers each distance to that from an inner moat less its width, where this is less.
 fn lower_past(reach: &mut [u32], inner: &[u32], width: u32)
     requires size { length inner.now ≡ length reach.old }
     ensures size { length reach.new ≡ length reach.old }

@@ -1,18 +1,18 @@
 ghost use Rattle.std.specs.Prelude.{◌≡◌, ◌<◌, ◌≤◌, All, Some, length, slice_get};
 ghost use Rattle.cut_certificate.specs.Stands.{covered, surrounded};
 
-/// Where a place stands among the moats that were gone through.
+/// The state of a terminal among the moats that were processed.
 #[derive(Clone, Copy, Debug, PartialEq, Eq)]
 pub enum Stand {
-    /// None of them holds it.
+    /// No processed moat holds the terminal.
     Free,
-    /// The outermost one that holds it has this index, and the place is its first member.
+    /// The outermost moat around the terminal has this index, and the terminal is its first member.
     First(usize),
-    /// It is another member of the outermost one that holds it.
+    /// The terminal is another member of the outermost moat around it.
     Inside,
 }
 
-/// Where a place stands.
+/// Returns the state of a terminal.
 pub fn stand_at(stands: &[Stand], t: u32) -> Stand
     requires { t < length stands.now }
     ensures { slice_get stands.now t ≡ Some result }
@@ -20,7 +20,7 @@ pub fn stand_at(stands: &[Stand], t: u32) -> Stand
     stands[t as usize]
 }
 
-/// Notes that the moat with that index is the outermost one around its members.
+/// Records that the moat with an index is the outermost one around its members.
 pub fn surround(stands: &mut Vec<Stand>, members: &[u32], index: usize)
     requires there { All (λ t. t < length stands.old.items) members.now }
     requires some { 1 ≤ length members.now }
@@ -30,6 +30,7 @@ pub fn surround(stands: &mut Vec<Stand>, members: &[u32], index: usize)
     stands[members[0] as usize] = Stand::First(index);
 }
 
+/// Marks all members as inside a moat.
 fn cover(stands: &mut Vec<Stand>, members: &[u32])
     requires { All (λ t. t < length stands.old.items) members.now }
     ensures value { stands.new.items ≡ covered stands.old.items members.now }

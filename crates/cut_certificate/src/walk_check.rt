@@ -13,10 +13,10 @@ use crate::line_places::{find_edge, places_of};
 use crate::passed_lines::passed_lines;
 use line_graph::{Edge, MAX_LINES, Pass, Piece};
 
-/// What a walk over a piece costs, in steps, where it fits: it leads from the piece's start to its
-/// end, or is closed where neither is said, and passes each line. Else what is wrong with it,
-/// first: over the passes in order one along no line of the piece, or that doesn't start where the
-/// one before ends; then its start and its end; then the first line that isn't passed.
+/// Returns the cost in steps of a walk that fits the piece. A fitting walk leads from the required start to
+/// the required end, or is closed where none is required, and passes each line. Reports the first fault. Over
+/// the passes in order: one along no line of the piece, or one that doesn't start where the one before ends.
+/// Afterwards: the start, the end, and the first line that isn't passed.
 pub fn check_walk(p: &Piece, walk: &[Pass]) -> Result<u64, WalkFault>
     requires { length walk.now < 2 ^ 32 - 1 }
     ensures exact { is_ok result ≡ fits (graph_of p.now) walk.now }
@@ -26,6 +26,7 @@ pub fn check_walk(p: &Piece, walk: &[Pass]) -> Result<u64, WalkFault>
     cost_or_fault(p, walk)
 }
 
+/// Returns the cost of a walk, or its first fault.
 fn cost_or_fault(p: &Piece, walk: &[Pass]) -> Result<u64, WalkFault>
     requires { length walk.now < 2 ^ 32 - 1 }
     ensures { ChecksWalk (graph_of p.now) walk.now result }
@@ -36,7 +37,7 @@ fn cost_or_fault(p: &Piece, walk: &[Pass]) -> Result<u64, WalkFault>
     Ok(trail.cost)
 }
 
-/// From where to where a walk leads, and its cost.
+/// The summary of a walk: where it leads from and to, and its cost.
 #[derive(Clone, Copy)]
 struct Trail {
     start: Option<u32>,
@@ -44,6 +45,7 @@ struct Trail {
     cost: u64,
 }
 
+/// Returns the summary of a walk, or its first fault.
 fn trail_of(p: &Piece, walk: &[Pass]) -> Result<Trail, WalkFault>
     requires { length walk.now < 2 ^ 32 - 1 }
     ensures { IsTrail p.now.lines p.now.edges walk.now result }
@@ -62,6 +64,7 @@ fn trail_of(p: &Piece, walk: &[Pass]) -> Result<Trail, WalkFault>
     follow(p, &places, start_of_pass(e, first.back), walk)
 }
 
+/// Returns the summary of the passes from a junction, or their first fault.
 fn follow(
     p: &Piece,
     places: &[usize; MAX_LINES],
@@ -95,18 +98,21 @@ fn follow(
     })
 }
 
+/// Returns the junction where a pass starts.
 fn start_of_pass(e: Edge, back: bool) -> u32
     ensures { result ≡ start_of e back }
 {
     if back { e.b } else { e.a }
 }
 
+/// Returns the junction where a pass ends.
 fn end_of_pass(e: Edge, back: bool) -> u32
     ensures { result ≡ end_of e back }
 {
     if back { e.a } else { e.b }
 }
 
+/// Reports a walk that doesn't start or end where required, or isn't closed.
 fn check_ends(p: &Piece, trail: Trail) -> Result<(), WalkFault>
     ensures { Tells (ends_fault (from_of (graph_of p.now)) (to_of (graph_of p.now))
         trail.start trail.end) result }
@@ -128,6 +134,7 @@ fn check_ends(p: &Piece, trail: Trail) -> Result<(), WalkFault>
     }
 }
 
+/// Returns whether both junctions are there and equal.
 fn is_same(first: Option<u32>, other: Option<u32>) -> bool
     ensures { result ≡ are_one first other }
 {
@@ -137,6 +144,7 @@ fn is_same(first: Option<u32>, other: Option<u32>) -> bool
     }
 }
 
+/// Reports the first line that isn't passed.
 fn check_lines(lines: &[u32], walk: &[Pass]) -> Result<(), WalkFault>
     requires { all_below most_lines lines.now ≡ true }
     ensures { Tells (missing_fault lines.now walk.now) result }

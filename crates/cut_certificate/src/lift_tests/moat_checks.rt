@@ -1,4 +1,4 @@
-//! What lifting asks of moats, by plain programs.
+//! Plain checks of the conditions that lifting has on moats.
 ghost use Rattle.std.specs.Prelude.{◌≡◌, ◌≢◌, ◌<◌, All, AllPairs, IsTrue, false, length};
 ghost use Rattle.blossom_match.specs.Matchings.{AreLaminar, IsOddMoat, LiesBeside, LiesIn, holds, load_on};
 ghost use Rattle.cut_certificate.specs.Cuts.{holds as is_held};
@@ -8,7 +8,7 @@ use crate::slices::first_lent;
 use blossom_match::Moat;
 use odd_paths::Rows;
 
-/// Each of the moats has an odd number of different members below `places`, and a width.
+/// Returns whether each moat has an odd number of different members below `places`, and a width.
 pub fn are_odd(places: usize, moats: &[Moat]) -> bool
     ensures { IsTrue result → All (IsOddMoat places) moats.now }
 {
@@ -20,6 +20,7 @@ pub fn are_odd(places: usize, moats: &[Moat]) -> bool
     true
 }
 
+/// Returns whether a moat has an odd number of different members below `places`, and a width.
 fn is_odd(places: usize, m: &Moat) -> bool
     ensures { IsTrue result → IsOddMoat places m.now }
 {
@@ -32,6 +33,7 @@ fn is_odd(places: usize, m: &Moat) -> bool
     are_different(m.members.as_slice())
 }
 
+/// Returns whether all numbers are below a limit.
 fn are_below(limit: usize, numbers: &[u32]) -> bool
     ensures { IsTrue result → All (λ x. x < limit) numbers.now }
 {
@@ -43,6 +45,7 @@ fn are_below(limit: usize, numbers: &[u32]) -> bool
     true
 }
 
+/// Returns whether all numbers are different.
 fn are_different(numbers: &[u32]) -> bool
     ensures { IsTrue result → AllPairs (λ x y. x ≢ y) numbers.now }
 {
@@ -56,13 +59,14 @@ fn are_different(numbers: &[u32]) -> bool
     true
 }
 
+/// Returns whether a list has a number.
 fn is_among(numbers: &[u32], x: u32) -> bool
     ensures { result ≡ is_held numbers.now x }
 {
     numbers.contains(&x)
 }
 
-/// Two of the moats differ, and are nested or disjoint.
+/// Returns whether each two moats differ, and are nested or disjoint.
 pub fn are_laminar(moats: &[Moat]) -> bool
     ensures { IsTrue result → AllPairs AreLaminar moats.now }
 {
@@ -76,6 +80,7 @@ pub fn are_laminar(moats: &[Moat]) -> bool
     true
 }
 
+/// Returns whether a moat is laminar to each of the others.
 fn is_laminar_with(m: &Moat, others: &[Moat]) -> bool
     ensures { IsTrue result → All (AreLaminar m.now) others.now }
 {
@@ -87,6 +92,7 @@ fn is_laminar_with(m: &Moat, others: &[Moat]) -> bool
     true
 }
 
+/// Returns whether two moats differ, and are nested or disjoint.
 fn is_laminar(m: &Moat, k: &Moat) -> bool
     ensures { IsTrue result → AreLaminar m.now k.now }
 {
@@ -96,6 +102,7 @@ fn is_laminar(m: &Moat, k: &Moat) -> bool
     lies_in(k, m) || lies_beside(m, k)
 }
 
+/// Returns whether each member of the first moat is a member of the second.
 fn lies_in(m: &Moat, k: &Moat) -> bool
     ensures told { IsTrue result → LiesIn m.now k.now }
     ensures other { result ≡ false → LiesOut m.now k.now }
@@ -109,6 +116,7 @@ fn lies_in(m: &Moat, k: &Moat) -> bool
     true
 }
 
+/// Returns whether two moats have no common member.
 fn lies_beside(m: &Moat, k: &Moat) -> bool
     ensures { IsTrue result → LiesBeside m.now k.now }
 {
@@ -121,7 +129,7 @@ fn lies_beside(m: &Moat, k: &Moat) -> bool
     true
 }
 
-/// No two places carry more than two halves for each step between them.
+/// Returns whether no two terminals have a load above two halves for each step between them.
 pub fn keep_loads(rows: &Rows, terminals: &[u32], moats: &[Moat]) -> bool
     requires sized { length rows.now.table ≡ length terminals.now }
     requires few { length moats.now < 1000 }
@@ -135,6 +143,7 @@ pub fn keep_loads(rows: &Rows, terminals: &[u32], moats: &[Moat]) -> bool
     true
 }
 
+/// Returns whether no load between a terminal and any other is too high.
 fn keep_loads_from(rows: &Rows, terminals: &[u32], moats: &[Moat], t: usize) -> bool
     requires there { t < length rows.now.table }
     requires few { length moats.now < 1000 }
@@ -151,7 +160,7 @@ fn keep_loads_from(rows: &Rows, terminals: &[u32], moats: &[Moat], t: usize) -> 
     true
 }
 
-/// The widths of the moats that hold exactly one of the places.
+/// Returns the widths of the moats that hold exactly one of two terminals, added up.
 fn load(moats: &[Moat], t: usize, u: usize) -> u64
     requires { length moats.now < 1000 }
     ensures { result ≡ load_on moats.now t u }
@@ -165,6 +174,7 @@ fn load(moats: &[Moat], t: usize, u: usize) -> u64
     sum
 }
 
+/// Returns whether a moat holds a terminal.
 fn holds_at(m: &Moat, place: usize) -> bool
     ensures { result ≡ holds m.now place }
 {

@@ -4,7 +4,7 @@ use Rattle.line_graph.specs.declared.edge.Edge.{Edge}
 use Rattle.line_graph.specs.declared.limits.TheConstants.{MAX_LINES}
 use Rattle.cut_certificate.proofs.line_loads.add_shares.Given as goal
 
--- the edges before that place have their shares, and the others carry what they did
+-- the edges before that index have their shares, and the loads of the others are unchanged
 abbrev pub invariant-loop-at : goal.invariant-loop-at
 invariant-loop-at l = record {
   sized : length l.loads ≡ MAX_LINES;

@@ -4,7 +4,7 @@ use Rattle.line_graph.specs.declared.limits.TheConstants.{MAX_LINES}
 use Rattle.line_graph.specs.PieceWalks.{edge_of, rises}
 use Rattle.cut_certificate.proofs.line_places.places_of.Given as goal
 
--- the edge of a line is among those that are left, or at its place
+-- the edge of a line is among the remaining ones, or at its index
 abbrev pub invariant-loop-at : goal.invariant-loop-at
 invariant-loop-at l = record {
   sized : length l.places ≡ MAX_LINES;

@@ -4,7 +4,7 @@ use Rattle.cut_certificate.specs.Levels.{site_of}
 use Rattle.cut_certificate.specs.Reaches.{HasWay, lowered}
 use Rattle.cut_certificate.proofs.reach.lower_all.Given as goal
 
--- lowered by the ways from the places that are left, the reach is the one that is wanted
+-- lowering by the remaining terminals gives the wanted distances
 abbrev pub invariant-loop-rest : goal.invariant-loop-rest
 invariant-loop-rest l = record {
   ways : All (HasWay l.rows (length l.fn.reach) l.moats l.stands l.reaches) l.rest;

@@ -2,7 +2,7 @@ use Rattle.std.proofs.Common.{◌≡◌, ◌<◌, All, length}
 use Rattle.cut_certificate.specs.Stands.{covered}
 use Rattle.cut_certificate.proofs.stand.cover.Given as goal
 
--- with the places that are left covered too, the stands are those that are wanted
+-- covering the remaining terminals gives the wanted states
 abbrev pub invariant-loop-rest : goal.invariant-loop-rest
 invariant-loop-rest l = record {
   there : All (λ t. t < length l.stands.items) l.rest;

@@ -3,7 +3,7 @@ use Rattle.cut_certificate.specs.WalkFaults.{faults_from}
 use Rattle.line_graph.specs.PieceWalks.{cost_of, pass_sum, walk_on}
 use Rattle.cut_certificate.proofs.walk_check.follow.Given as goal
 
--- the passes so far stand, and what is left of the walk leads on from where they lead
+-- the passes so far have no fault, and the remaining ones start where they lead
 abbrev pub invariant-loop-rest : goal.invariant-loop-rest
 invariant-loop-rest l = record {
   count : l.number + length l.rest ≡ length l.walk + 1;
