@@ -1,4 +1,4 @@
--- The choosing of starts and ends: labels tell which spots lines join.
+-- The choosing of starts and ends: labels decide which spots are connected.
 use Rattle.std.proofs.Common.{◌≡◌, ◌<◌, ◌≤◌, ◌⊎◌, ℕ, ◌+◌, ◌==◌, Bool, true, false, ◌||◌, List, [], ◌∷◌, ◌++◌, length, get_or, set, Some, Ok, Err, ◌≢◌, All, arith, refl, sym, ◌∙◌, ap, subst}
 use Rattle.std.proofs.lemmas.Bool.{and_parts, both_ways, or_parts}
 use Rattle.std.proofs.lemmas.Bool.Decides.{nat_tests}
@@ -76,13 +76,13 @@ junction_end d s found =
           (sym (same_is s.at end.point end.holds)) end.at_end);
     }
 
--- labels of joined lines agree
+-- labels of connected lines are equal
 chain_agrees : (d : DrawingValue) (labels : List ℕ) → AreLabels d labels → (i j : ℕ) (chain : List ℕ) → Leads d i chain j
     → get_or labels i 0 ≡ get_or labels j 0
 chain_agrees d labels are i j [] leads = ap (λ (k : ℕ). get_or labels k 0) leads
 chain_agrees d labels are i j (k ∷ chain) leads = are.agree i k leads.0 ∙ chain_agrees d labels are k j chain leads.1
 
--- and lines with one label are joined
+-- lines with one label are connected
 labels_join : (d : DrawingValue) (labels : List ℕ) → AreLabels d labels → (i j : ℕ) → i < length d.lines → j < length d.lines
     → get_or labels i 0 ≡ get_or labels j 0 → Joined d i j
 labels_join d labels are i j one two is =
@@ -97,7 +97,7 @@ alike true q to from = sym (to refl)
 alike false true to from = from refl
 alike false false to from = refl
 
--- junctions have one label where lines join them
+-- junctions have one label where lines connect them
 label_tells : (d : DrawingValue) (labels : List ℕ) → AreLabels d labels → (a b : Spot) → is_junction d.lines a ≡ true
     → is_junction d.lines b ≡ true → (label_at d.lines labels a == label_at d.lines labels b) ≡ are_joined d.lines a b
 label_tells d labels are a b one two =
@@ -114,7 +114,7 @@ label_tells d labels are a b one two =
     found_same : (m n : ℕ) → m ≡ n → (m == n) ≡ true
     found_same m n is = grind (arith, nat_tests)
 
--- so the label of a junction tells whether lines join it with one of these
+-- the label of a junction decides whether lines connect it with one of these
 pub table_tells : (d : DrawingValue) (labels : List ℕ) → AreLabels d labels → (spot : Spot) → is_junction d.lines spot ≡ true
     → (spots : List Spot) → All (λ (s : Spot). is_junction d.lines s ≡ true) spots
     → list_any (λ (s : Spot). label_at d.lines labels s == label_at d.lines labels spot) spots
@@ -215,7 +215,7 @@ module _ (d : DrawingValue) (labels : List ℕ) (old : ChosenSpots) (spot : Spot
       let low = are.low (position_or_len (meets spot) d.lines) (omega (arith, there, are.sized)) in
       omega (arith, there, low, chosen.sized)
 
-  -- the table tells whether its piece has one
+  -- the table records whether its piece has one
   told : is_junction d.lines spot ≡ true → (t e : Bool) → t ≡ get_or old.taken.items (get_or labels line 0) e
       → list_any (λ (s : Spot). are_joined d.lines s spot) old.spots.items ≡ t
   told found t e at =

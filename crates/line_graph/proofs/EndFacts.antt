@@ -41,7 +41,7 @@ known_inside = refl
 pub known_other_block : is_junction (drawn [] []).lines (spot 1 30 0) ≡ false
 known_other_block = refl
 
--- the angle joins its three ends, and not the strokes
+-- the angle connects its three ends, and not the strokes
 pub known_joined : are_joined (drawn [] []).lines (spot 0 10 10) (spot 0 0 0) ≡ true
 known_joined = refl
 
@@ -132,7 +132,7 @@ known_one_end = (refl, refl, refl)
 pub known_closed : (goes [] [] (out ++ home) ≡ true) × (goes [] [] out ≡ false)
 known_closed = (refl, refl)
 
--- start and end change from odd to even or back where both are said and differ
+-- start and end change from odd to even or back where both are given and differ
 pub known_odd : (odd_junctions (piece_of (drawn (spot 0 10 10 ∷ []) (spot 0 0 0 ∷ [])) (0 ∷ 2 ∷ [])) ≡ [])
     × (odd_junctions (piece_of (drawn (spot 0 10 10 ∷ []) (spot 0 10 0 ∷ [])) (0 ∷ 2 ∷ [])) ≡ 0 ∷ 1 ∷ [])
     × (odd_junctions (piece_of (drawn (spot 0 10 10 ∷ []) []) (0 ∷ 2 ∷ [])) ≡ 0 ∷ 2 ∷ [])

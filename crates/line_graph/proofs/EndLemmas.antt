@@ -1,4 +1,4 @@
--- Lines lead from one spot to another where chains of lines that touch join lines at them.
+-- Two spots are connected by lines exactly where lines at them are connected.
 use Rattle.std.proofs.Common.{◌≡◌, ◌⊎◌, inl, inr, ℕ, zero, suc, Bool, true, false, cond, List, [], ◌∷◌, map, slice_get, get_or, Some, All, refl, sym, ◌∙◌, ap, subst}
 use Rattle.std.proofs.lemmas.List.Elements.{All-head, All-tail}
 use Rattle.std.proofs.lemmas.Option.{slice_get-get_or}
@@ -14,7 +14,7 @@ use Rattle.line_graph.specs.WalkEnds.{SpotsAreJoined, are_joined, end_spots, sta
 use Rattle.line_graph.proofs.LabelLemmas.{joined_back, joined_on}
 use Rattle.line_graph.proofs.LinkLemmas.{below_get, same_spot, share_of, spot_found, touch_joins, touch_of}
 
--- lines at the two spots are joined
+-- lines at the two spots are connected
 record Linked (d : DrawingValue) (a b : Spot) : Type 0 where
   i : ℕ
   j : ℕ
@@ -22,11 +22,11 @@ record Linked (d : DrawingValue) (a b : Spot) : Type 0 where
   two : IsEnd d j b
   chain : Joined d i j
 
--- the spots are one, or lines at them are joined
+-- the spots are equal, or lines at them are connected
 abbrev Same : DrawingValue → Spot → Spot → Type 0
 Same d a b = (a ≡ b) ⊎ Linked d a b
 
--- lines with an end at one spot are joined
+-- lines with an end at one spot are connected
 meeting : (d : DrawingValue) (a : Spot) (i j : ℕ) → IsEnd d i a → IsEnd d j a → Joined d i j
 meeting d a i j one two = touch_joins d i j (touch_of d i j (record { spot = a; one = one; two = two }))
 
@@ -47,7 +47,7 @@ same_on d a b c (inr l) (inr m) = inr (record {
   chain = joined_on d l.i l.j m.j l.chain (joined_on d l.j m.i m.j (meeting d b l.j m.i l.two m.one) m.chain);
 })
 
--- the line stands in the drawing
+-- the line is in the drawing
 abbrev IsIn : DrawingValue → LineValue → Type 0
 IsIn d line = (i : ℕ) × (slice_get d.lines i ≡ Some line)
 
@@ -69,7 +69,7 @@ ends_linked d line p more (i, is) points =
       chain = ([], refl);
     })
 
--- what stands for a spot is linked with it
+-- the representative of a spot is linked with it
 stands_linked : (d : DrawingValue) (lines : List LineValue) → All (IsIn d) lines → (s : Spot) → Same d s (stands_for lines s)
 stands_linked d [] all s = inl refl
 stands_linked d (line ∷ rest) all s = by_points (λ k. stands_linked d rest (All-tail (IsIn d) line rest all) k) line.points refl
@@ -95,7 +95,7 @@ stands_linked d (line ∷ rest) all s = by_points (λ k. stands_linked d rest (A
     by_points before [] is = before s
     by_points before (p ∷ more) is = by_test before p more is _ refl
 
--- spots that one stands for are linked
+-- spots with the same representative are linked
 led : (d : DrawingValue) (a b : Spot) (i j : ℕ) → IsEnd d i a → IsEnd d j b → are_joined d.lines a b ≡ true → Joined d i j
 led d a b i j one two found = by_same (same_on d a (stands_for d.lines a) b (before a)
     (subst (λ (k : Spot). Same d k b) (sym (same_spot (stands_for d.lines a) (stands_for d.lines b) found))
@@ -112,7 +112,7 @@ led d a b i j one two found = by_same (same_on d a (stands_for d.lines a) b (bef
     by_same (inr l) = joined_on d i l.i j (meeting d a i l.i one l.one)
         (joined_on d l.i l.j j l.chain (meeting d b l.j j l.two two))
 
--- what stands for two spots stays one
+-- two spots with the same representative keep the same one
 stands_kept : (ends : List Spot) (stands : Spot → Spot) (a b : Spot) → stands a ≡ stands b
     → stands_joined ends stands a ≡ stands_joined ends stands b
 stands_kept [] stands a b is = is
@@ -127,7 +127,7 @@ AtEnd line s = (line.block ≡ s.block) × ((first_of line.points ≡ Some s.at)
 some_same : (a b : Point) → Some a ≡ Some b → a ≡ b
 some_same a b is = cc
 
--- one spot stands for both ends of a line
+-- both ends of a line have the same representative
 at_one : (line : LineValue) (stands : Spot → Spot) (a b : Spot) → AtEnd line a → AtEnd line b
     → stands_joined (end_spots line) stands a ≡ stands_joined (end_spots line) stands b
 at_one line stands a b one two = by_points line.points refl one two
@@ -198,7 +198,7 @@ index_stands d i a b one two =
       subst (λ (ps : List Point). (first_of ps ≡ Some s.at) ⊎ (last_of ps ≡ Some s.at)) (ap points_in is) end.at_end,
     )
 
--- one spot stands for the ends of all lines of a chain
+-- the ends of all lines of a chain have the same representative
 chain_stands : (d : DrawingValue) (i j : ℕ) (chain : List ℕ) → Leads d i chain j → (a b : Spot) → IsEnd d i a → IsEnd d j b
     → stands_for d.lines a ≡ stands_for d.lines b
 chain_stands d i j [] leads a b one two = index_stands d i a b one (subst (λ (k : ℕ). IsEnd d k b) (sym leads) two)

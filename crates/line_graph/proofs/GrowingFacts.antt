@@ -27,7 +27,7 @@ pub known_ranges : (are_in_range (place (pos 30000) (negsuc 29999) ∷ place (ne
     × (are_in_range (place (pos 2) (negsuc 30000) ∷ []) ≡ false)
 known_ranges = (refl, refl, refl, refl, refl)
 
--- a place out of range is told before the number of points, and the number before a repeated point
+-- a point out of range is reported before the number of points, and the number before a repeated point
 pub known_out_of_range : line_added begun (place (pos 0) (negsuc 30000) ∷ []) ≡ Err kind.OutOfRange
 known_out_of_range = refl
 
@@ -66,7 +66,7 @@ pub known_ends : (finished blank ≡ Err kind.NoBlock)
     × (finished grown ≡ Ok grown)
 known_ends = (refl, refl, refl, refl)
 
--- an empty block is told before there are too many, of which 255 are the most
+-- an empty block is reported before too many blocks, of which 255 are the most
 abbrev full : DrawingValue
 full = record (with_line begun (place (pos 4) (pos 2) ∷ [])) { threads = replicate 255 1 }
 

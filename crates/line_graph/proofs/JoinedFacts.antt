@@ -1,4 +1,4 @@
--- Worked values of joined drawings: their sections stand in the place of their lines.
+-- Worked values of joined drawings, whose lines are the sections of the lines before.
 use Rattle.std.proofs.Common.{◌≡◌, true, false, List, [], ◌∷◌, Ok, refl}
 use Rattle.line_sections.specs.Lines.{LineValue}
 use Rattle.line_sections.specs.Sections.{lines_through}

@@ -27,7 +27,7 @@ place_before test (x ∷ xs) ys found = by_test (test x) refl found (λ later. p
     by_test true is found rest = rw is refl
     by_test false is found rest = rw is (ap (λ (n : ℕ). 1 + n) (rest found))
 
--- one that is not found is that of the point behind
+-- a point that is not found gets the next number
 place_behind : (test : Point → Bool) (xs : List Point) (y : Point) → list_any test xs ≡ false → test y ≡ true
     → position_or_len test (xs ++ y ∷ []) ≡ position_or_len test xs
 place_behind test [] y none here = rw here refl
@@ -47,7 +47,7 @@ any_before test (x ∷ xs) ys found = elim (or_cases (test x) (list_any test xs)
   | inr later ↦ or_right (test x) (list_any test (xs ++ ys)) (any_before test xs ys later)
 ]
 
--- and the point behind is found
+-- the point after the others is found
 any_behind : (test : Point → Bool) (xs : List Point) (y : Point) → test y ≡ true → list_any test (xs ++ y ∷ []) ≡ true
 any_behind test [] y here = rw here refl
 any_behind test (x ∷ xs) y here = or_right (test x) (list_any test (xs ++ y ∷ [])) (any_behind test xs y here)

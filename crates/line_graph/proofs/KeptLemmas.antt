@@ -1,4 +1,4 @@
--- What the graph of lines keeps that are joined and that no other line touches.
+-- The graph of a piece is valid: of lines that are connected, and that no other line touches.
 use Rattle.std.proofs.Common.{◌≡◌, ◌<◌, ◌≤◌, ◌⊎◌, inl, inr, ℕ, zero, suc, pos, ◌==◌, Bool, true, false, cond, nat_le, nat_lt, List, [], ◌∷◌, length, map, get_or, slice_get, Option, Some, None, position, All, AllPairs, Contains, sum_by, arith, refl, sym, ◌∙◌, ap, subst}
 use Rattle.std.proofs.lemmas.Bool.Decides.{nat_tests}
 use Rattle.std.proofs.lemmas.List.{length-map}
@@ -88,7 +88,7 @@ degree_some (x ∷ edges) e zero j is (inr at) =
     found m n is = grind (arith, nat_tests)
 degree_some (x ∷ edges) e (suc i) j is at = omega (arith, degree_some edges e i j is at)
 
--- a line's edge stands at the line's place
+-- the edge of a line is at the line's index
 edge_at : (f : ℕ → Edge) (lines : List ℕ) (line : ℕ) → Contains lines line → (i : ℕ) × (slice_get (map f lines) i ≡ Some (f line))
 edge_at f [] line (k, below, is) = absurd (omega (arith, below))
 edge_at f (x ∷ lines) line (zero, below, is) = (0, ap (λ (n : ℕ). Some (f n)) is)
@@ -135,7 +135,7 @@ module _ (d : DrawingValue) (lines : List ℕ) (whole : (i j : ℕ) → Contains
   chain_has i j [] among leads = ap has leads
   chain_has i j (k ∷ chain) among leads = touch_has i k among leads.0 ∙ chain_has k j chain (whole i k among leads.0) leads.1
 
--- the lines join all junctions
+-- the lines connect all junctions
 lines_join : (d : DrawingValue) (lines : List ℕ) → IsPart d lines
     → AreJoined (map (edge_between d (junctions_of d lines)) lines) (length (junctions_of d lines))
 lines_join d lines part set closed i j i_below j_below = to_first i i_below ∙ sym (to_first j j_below)
@@ -227,7 +227,7 @@ among_below block js (spot ∷ rest) =
     at_below true = found_below (nat_lt (position_or_len (is_same_point spot.at) js) (length js)) _ refl
     at_below false = refl
 
--- the graph of lines that are joined, and that no other touches, is a piece
+-- the graph of lines that are connected, and that no other touches, is a piece
 pub part_kept : SplitPointsLead → (d : DrawingValue) → KeepsDrawing d → (lines : List ℕ) → IsPart d lines → KeepsPiece (piece_of d lines)
 part_kept lead d keeps lines part =
     let js : List Point = junctions_of d lines in

@@ -18,7 +18,7 @@ pub record IsLowered (links : List Link) (old new : List ℕ) : Type 0 where
   pub low : AreLow new
   pub reached : (d : DrawingValue) → AreLinked d links → AreReached d old → AreReached d new
 
--- joined lines are joined the other way round, and on
+-- connection of lines is symmetric and transitive
 pub joined_back : (d : DrawingValue) (i j : ℕ) → Joined d i j → Joined d j i
 joined_back d i j one = leads_back d i j one.0 one.1
 
@@ -107,7 +107,7 @@ one_more_lowered links link old mid new a b one two = record {
     All-before (x ∷ xs) ys P all =
         All-cons P x xs (All-head P x (xs ++ ys) all) (All-before xs ys P (λ k. λ d. λ below. all (suc k) d (omega (arith, below))))
 
--- each line is joined to its own label
+-- each line is connected to its own label
 own_reached : (d : DrawingValue) (count : ℕ) (labels : List ℕ) → AreOwn count labels → AreReached d labels
 own_reached d count labels own line below = ([], own.own line (omega (arith, below, own.sized)))
 

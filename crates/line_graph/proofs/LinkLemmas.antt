@@ -25,14 +25,14 @@ use Rattle.line_graph.proofs.PieceLimits.{same}
 some_same : {A : Type 0} (a b : A) → Some a ≡ Some b → a ≡ b
 some_same a b is = cc
 
--- spots that are found to be the same are the same
+-- spots that are found to be equal are equal
 pub same_spot : (a b : Spot) → is_same_spot a b ≡ true → a ≡ b
 same_spot a b found =
     let make : ℕ → Point → Spot = λ block at. record { block = block; at = at } in
     let both = and_parts (a.block == b.block) (is_same_point a.at b.at) found in
     ap₂ make (same a.block b.block both.0) (same_is a.at b.at both.1)
 
--- a spot is found to be the same as itself
+-- a spot is found to be equal to itself
 pub spot_found : (a : Spot) → is_same_spot a a ≡ true
 spot_found a = rw (self a.block, same_found a.at a.at refl) refl
   where
@@ -226,7 +226,7 @@ share_of d i j t =
       };
     }
 
--- lines that touch are joined
+-- lines that touch are connected
 pub touch_joins : (d : DrawingValue) (i j : ℕ) → TouchAt d i j → Joined d i j
 touch_joins d i j touch = (j ∷ [], (touch, refl))
 

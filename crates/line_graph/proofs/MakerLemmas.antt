@@ -230,7 +230,7 @@ below_last lines count e there some =
     (All-map (λ (n : ℕ). n < count) (λ (l : LineValue). l.block) lines there) in
     omega (arith, below)
 
--- what the tests say of a line that may be added
+-- the results of the tests of a line that may be added
 pub record MayCome (d : DrawingValue) (points : List Point) (steps : ℕ) : Type 0 where
   pub line : IsLine points
   pub room : length d.lines ≢ 1024

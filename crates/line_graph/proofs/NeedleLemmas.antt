@@ -15,7 +15,7 @@ use Rattle.line_graph.specs.Growing.{step_count}
 use Rattle.line_graph.specs.Walks.{cost_of_line, needles_of}
 use Rattle.line_graph.specs.Needles.{line_steps, needle_points, segment_points, segment_steps}
 
--- the points come from the first one to that point by steps that are no longer than said
+-- the points lead from the first one to that point, by steps within the longest step
 pub record ComesTo (step : ℕ) (first : Option Point) (before : Point) (points : List Point) : Type 0 where
   pub first_is : first_of points ≡ first
   pub last : last_of points ≡ Some before
@@ -23,7 +23,7 @@ pub record ComesTo (step : ℕ) (first : Option Point) (before : Point) (points 
   pub close : AreClose step points
   pub moving : HasNoRepeat points
 
--- a chain goes on where another one begins at its last point
+-- a chain continues where another one begins at its last point
 pub last_from-append : (p : Point) (xs ys : List Point) → last_from p (xs ++ ys) ≡ last_from (last_from p xs) ys
 last_from-append p [] ys = refl
 last_from-append p (x ∷ xs) ys = last_from-append x xs ys
@@ -155,7 +155,7 @@ pub needle_count : (step : ℕ) (points : List Point) → 1 ≤ length points
 needle_count step [] some = omega arith
 needle_count step (p ∷ rest) some = omega (arith, segment_count step p rest)
 
--- a line of a drawing can be sewn, and costs no more than the whole drawing may
+-- a line of a drawing can be sewn, and costs no more than the entire drawing may
 module _ (d : DrawingValue) (line : ℕ) (there : line < length d.lines) (keeps : KeepsDrawing d) where
   none : LineValue
   none = record { block = 0; points = [] }

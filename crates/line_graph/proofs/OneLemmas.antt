@@ -82,7 +82,7 @@ among (piece ∷ pieces) line has = elim (Contains-append_cases piece (concat pi
       record { piece = rest.piece; there = behind piece pieces rest.piece rest.there; has = rest.has }
 ]
 
--- a line of a piece is in the piece of another list that is joined to it
+-- a line of a piece is in the piece of another list that is connected to it
 meets : (d : DrawingValue) (a b : List (List ℕ)) → ArePieces d a → ArePieces d b → (p q : List ℕ) → Contains a p → Contains b q
     → Joined d (first_line p) (first_line q) → (n : ℕ) → Contains p n → Contains q n
 meets d a b one other p q in_a in_b across n has =
@@ -99,7 +99,7 @@ meets d a b one other p q in_a in_b across n has =
     (λ never. never (joined_back d (first_line r) (first_line q) beside)) is.there in_b in
     subst (λ (lines : List ℕ). Contains lines n) same is.has
 
--- pieces of two lists that are joined are the same
+-- pieces of two lists that are connected are equal
 piece_same : (d : DrawingValue) (a b : List (List ℕ)) → ArePieces d a → ArePieces d b → (p q : List ℕ) → Contains a p → Contains b q
     → Joined d (first_line p) (first_line q) → p ≡ q
 piece_same d a b one other p q in_a in_b across =

@@ -77,7 +77,7 @@ range_below at count k e there =
     let place = get_or-range_with_len at count k e (omega (arith, length-range_with_len at count, there)) in
     omega (arith, place, length-range_with_len at count, there)
 
--- what joined lists have
+-- the items of concatenated lists
 pub concat_has : (xss : List (List ℕ)) (xs : List ℕ) (x : ℕ) → Contains xss xs → Contains xs x → Contains (concat xss) x
 concat_has [] xs x (k, below, is) has = absurd (omega (arith, below))
 concat_has (ys ∷ xss) xs x (zero, below, is) has =
@@ -85,7 +85,7 @@ concat_has (ys ∷ xss) xs x (zero, below, is) has =
 concat_has (ys ∷ xss) xs x (suc k, below, is) has =
     Contains-append_right ys (concat xss) x (concat_has xss xs x (k, omega (arith, below), is) has)
 
--- what holds of all parts holds of the whole
+-- what holds of all parts holds of their concatenation
 all_concat : (P : ℕ → Type 0) (xss : List (List ℕ)) → All (λ xs. All P xs) xss → All P (concat xss)
 all_concat P [] all = All-nil P
 all_concat P (xs ∷ xss) all =
@@ -116,7 +116,7 @@ not_found m n apart = by_test (m == n) refl
 
 -- labels of a drawing's lines
 module _ (d : DrawingValue) (labels : List ℕ) (are : AreLabels d labels) where
-  -- joined lines have one label
+  -- connected lines have equal labels
   leads_same : (i j : ℕ) (chain : List ℕ) → Leads d i chain j → get_or labels i 0 ≡ get_or labels j 0
   leads_same i j [] leads = ap (λ (k : ℕ). get_or labels k 0) leads
   leads_same i j (k ∷ chain) leads = are.agree i k leads.0 ∙ leads_same k j chain leads.1
@@ -149,7 +149,7 @@ module _ (d : DrawingValue) (labels : List ℕ) (are : AreLabels d labels) where
   labelled_begins label below first = filter_takes (has_label labels label) label (length labels) below
       (is_found (get_or labels label 0) label first)
 
-  -- the lines with one label are joined, and no other line touches them
+  -- the lines with one label are connected, and no other line touches them
   pub labelled_part : (label : ℕ) → label < length labels → get_or labels label 0 ≡ label → IsPart d (labelled labels label)
   labelled_part label below first = record {
     some = omega (arith, ap length (labelled_begins label below first));
@@ -255,7 +255,7 @@ labels_skip labels label line lines whole below test so_far =
     ap (λ (rest : List ℕ). lines ++ rest) (sym (filter_skips (has_label labels label) line (length labels) below
     (not_found (get_or labels line 0) label test))) ∙ so_far
 
--- a line with the label is put behind the others
+-- a line with the label is added after the others
 pub labels_take : (labels : List ℕ) (label line : ℕ) (lines more whole : List ℕ) → line < length labels → more ≡ lines ++ line ∷ []
     → get_or labels line 0 ≡ label → lines ++ filter (has_label labels label) (range_with_len line (length labels - line)) ≡ whole
     → more ++ filter (has_label labels label) (range_with_len (line + 1) (length labels - (line + 1))) ≡ whole

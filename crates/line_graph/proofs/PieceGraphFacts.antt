@@ -137,7 +137,7 @@ known_open = refl
 pub known_broken : fits (piece_of theta (0 ∷ 1 ∷ 2 ∷ [])) (forth 0 ∷ back 1 ∷ forth 2 ∷ back 0 ∷ []) ≡ false
 known_broken = refl
 
--- nor one that leaves a line out
+-- nor one that omits a line
 pub known_uncovered : fits (piece_of theta (0 ∷ 1 ∷ 2 ∷ [])) (forth 0 ∷ forth 1 ∷ []) ≡ false
 known_uncovered = refl
 
@@ -145,7 +145,7 @@ known_uncovered = refl
 pub known_rising : (rises (1 ∷ 3 ∷ 4 ∷ []) ≡ true) × (rises (1 ∷ 3 ∷ 3 ∷ []) ≡ false) × (rises (2 ∷ 3 ∷ 1 ∷ []) ≡ false)
 known_rising = (refl, refl, refl)
 
--- what is below a number is less, and both ends of an edge are asked
+-- what is below a number is less, and both ends of an edge are tested
 pub known_below : (all_below 3 (2 ∷ 0 ∷ []) ≡ true) × (all_below 3 (0 ∷ 3 ∷ []) ≡ false)
     × (ends_below 2 (edge 0 1 1 ∷ []) ≡ true) × (ends_below 2 (edge 0 2 1 ∷ []) ≡ false)
     × (ends_below 2 (edge 1 0 1 ∷ edge 2 0 1 ∷ []) ≡ false)

@@ -34,7 +34,7 @@ often_append n (x ∷ xs) ys = omega (arith, often_append n xs ys)
 pub same : (m n : ℕ) → (m == n) ≡ true → m ≡ n
 same m n is = grind (arith, nat_tests)
 
--- a number that is in a list stands somewhere in it
+-- a number that is in a list has an index in it
 there : (n : ℕ) (xs : List ℕ) → 1 ≤ often n xs → Contains xs n
 there n [] some = absurd (omega arith)
 there n (x ∷ xs) some = by_test (x == n) refl (λ h. there n xs h) some
@@ -136,7 +136,7 @@ leads_back d i j (k ∷ chain) is =
     turned : TouchAt d i k → TouchAt d k i
     turned t = record { one = t.other; other = t.one; one_is = t.other_is; other_is = t.one_is; touch = touch_turned t.one t.other t.touch }
 
--- joined lines are in one block
+-- connected lines are in one block
 one_block : (d : DrawingValue) (i j : ℕ) (chain : List ℕ) → Leads d i chain j → block_of d i ≡ block_of d j
 one_block d i j [] is = ap (block_of d) is
 one_block d i j (k ∷ chain) is = step is.0 ∙ one_block d k j chain is.1

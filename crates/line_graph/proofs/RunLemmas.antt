@@ -9,17 +9,17 @@ use Rattle.design_model.specs.declared.point.Point.{Point}
 use Rattle.design_model.specs.Acts.{acts_from, bare}
 use Rattle.line_graph.specs.Runs.{HasNeedle, Run, acts_after, commands_after}
 
--- with no jump so far the commands come to these acts, whatever number they begin at
+-- with no jump so far the commands have these acts, whatever number they begin at
 abbrev Come : Bool → List Command → List Act → Type 0
 Come loose commands acts = (n : ℕ) → bare (acts_from n loose false commands) ≡ acts
 
--- stops come to stops
+-- stop commands are read as stops
 stops_come : (k : ℕ) (rest : List Command) (acts : List Act) → Come true rest acts
     → Come true (replicate k Stop ++ rest) (replicate k act.Stop ++ acts)
 stops_come zero rest acts come n = come n
 stops_come (suc k) rest acts come n = ap (λ more. act.Stop ∷ more) (stops_come k rest acts come (n + 1))
 
--- stitches come to needles, once the thread is held
+-- stitch commands are read as needle acts, once the thread is held
 stitches_come : (points : List Point) (rest : List Command) (acts : List Act) → Come false rest acts
     → Come false (map (λ p. Stitch p) points ++ rest) (map (λ p. act.Needle p false) points ++ acts)
 stitches_come [] rest acts come n = come n
@@ -33,7 +33,7 @@ some_come [] rest acts some come n = absurd (some refl)
 some_come (p ∷ points) rest acts some come n =
     ap (λ more. act.Needle p false ∷ more) (stitches_come points rest acts come (n + 1))
 
--- the commands that sew runs come to the acts that sew them
+-- the commands that sew runs have the acts that sew them
 pub runs_come : (block : ℕ) (runs : List Run) → All HasNeedle runs → Come true (commands_after block runs) (acts_after block runs)
 runs_come block [] some = λ n. refl
 runs_come block (run ∷ rest) some =

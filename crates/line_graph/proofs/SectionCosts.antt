@@ -100,7 +100,7 @@ is_line (p ∷ []) long sew = absurd (omega (arith, long))
 is_line (p ∷ q ∷ rest) long sew =
     let parts = points_sew p q rest sew in record { long = long; moving = parts.0; in_range = parts.1 }
 
--- what holds of two lists, one behind the other, holds of both
+-- what holds of two lists, one after the other, holds of both
 both_lists : {A : Type 0} (P : A → Type 0) (xs ys : List A) → All P (xs ++ ys) → All P xs × All P ys
 both_lists P [] ys all = (All-nil P, all)
 both_lists P (x ∷ xs) ys all =

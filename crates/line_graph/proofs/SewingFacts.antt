@@ -17,7 +17,7 @@ strokes = record {
   ends = [];
 }
 
--- the design has the drawing's label and threads; a stop stands between the strokes, since their blocks differ by one
+-- the design has the drawing's label and threads; there is a stop between the strokes, since their blocks differ by one
 pub known_stop :
     sewn_design strokes ((record { line = 0; back = false } ∷ []) ∷ (record { line = 1; back = false } ∷ []) ∷ []) ≡ record {
       label = codes "ab";

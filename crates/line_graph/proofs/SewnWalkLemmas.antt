@@ -25,7 +25,7 @@ use Rattle.line_graph.proofs.NeedleLemmas.{close_on}
 use Rattle.line_graph.proofs.PieceLemmas.{same_is}
 use Rattle.line_graph.proofs.TrailLemmas.{Trail, trail_back, trail_of}
 
--- where a point stands in a list
+-- the position of a point in a list
 abbrev place_of : Point → List Point → ℕ
 place_of x [] = 0
 place_of x (y ∷ ys) = cond (is_same_point x y) 0 (suc (place_of x ys))
@@ -106,7 +106,7 @@ lost : (ns : List ℕ) (es : List Edge) (ps : List Pass) (to : ℕ) → walk_on 
 lost ns es [] to is = cc
 lost ns es (p ∷ ps) to is = lost ns es ps to is
 
--- the needles behind the first of each pass
+-- the needle points after the first of each pass
 abbrev later : DrawingValue → List Pass → List Point
 later d walk = flat_map (λ (next : Pass). drop 1 (needles_of_pass d next)) walk
 
@@ -187,7 +187,7 @@ passed d keeps law lines there js ends pass e at =
         (needles.along.last ∙ last) needles.along.close needles.along.in_range)
         (needles.count ∙ ap (λ (x : Edge). x.cost + 1) (sym is)) pass.back)
 
--- the needles behind the first are the rest of a trail
+-- the needle points after the first are the rest of a trail
 behind : (step : ℕ) (from to : Point) (points : List Point) (t : Trail step from to points) → drop 1 points ≡ t.rest
 behind step from to points t = ap (λ (ps : List Point). drop 1 ps) t.is
 
@@ -299,7 +299,7 @@ covers_some [] walk some all = absurd (omega arith)
 covers_some (n ∷ lines) [] some all = absurd (cc)
 covers_some (n ∷ lines) (p ∷ walk) some all = omega arith
 
--- the needles of a walk are its first one, and those behind it
+-- the needle points of a walk are its first one, and those after it
 needles_are : (d : DrawingValue) (js : List Point) (pass : Pass) (rest : List Pass) (e : Edge) (p : Passed d js pass e)
     → needles_of_walk d (pass ∷ rest) ≡ p.from ∷ later d (pass ∷ rest)
 needles_are d js pass rest e p =

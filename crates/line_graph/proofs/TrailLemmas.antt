@@ -1,4 +1,4 @@
--- Needle points of passes and of walks, as trails of steps that are no longer than said.
+-- Needle points of passes and of walks, as trails of steps within the longest step.
 use Rattle.std.proofs.Common.{◌≡◌, ℕ, ℤ, ◌-ℤ◌, unsigned_abs, IsTrue, List, [], ◌∷◌, reverse, Some, All, arith, refl, sym, ◌∙◌, ap, subst}
 use Rattle.std.proofs.lemmas.Int.{ints}
 use Rattle.std.proofs.lemmas.List.Elements.{All-cons, All-head, All-nil, All-tail}

@@ -1,4 +1,4 @@
--- Edges that join junctions are no fewer than these less one.
+-- A connected graph has at least as many edges as junctions, less one.
 use Rattle.std.proofs.Common.{◌≡◌, ◌<◌, ◌≤◌, ℕ, zero, suc, ◌+◌, ◌==◌, Bool, true, false, cond, List, [], ◌∷◌, length, slice_get, Some, arith, refl, sym, ◌∙◌, ap, subst}
 use Rattle.std.proofs.lemmas.Bool.Decides.{nat_tests}
 use Rattle.line_graph.specs.declared.edge.Edge.{Edge}
@@ -10,7 +10,7 @@ use Rattle.line_graph.proofs.PieceLimits.{same}
 abbrev led : (first other n : ℕ) → ℕ
 led first other n = cond (n == other) first n
 
--- a junction that leads all that edges join with this one
+-- the representative of a junction among those that edges connect
 abbrev leader : List Edge → ℕ → ℕ
 leader [] j = j
 leader (e ∷ es) j = led (leader es e.a) (leader es e.b) (leader es j)
@@ -88,7 +88,7 @@ all_lead : (n : ℕ) → leaders (λ j. j) n ≡ n
 all_lead zero = refl
 all_lead (suc n) = omega (arith, ap bit (self n), all_lead n)
 
--- so as many edges leave no fewer leaders than this
+-- with n edges there remain at least this many representatives
 leaders_left : (es : List Edge) (n : ℕ) → n ≤ leaders (leader es) n + length es
 leaders_left [] n = omega (arith, all_lead n)
 leaders_left (e ∷ es) n =
@@ -107,7 +107,7 @@ one_leader f c (suc n) all =
         omega (arith, ap bit is, bit_few (f n == n))
     by_test false here = omega (arith, ap bit here)
 
--- edges that join all junctions are no fewer than these less one
+-- a connected graph has at least as many edges as junctions, less one
 pub junctions_few : (es : List Edge) (n : ℕ) → AreJoined es n → n ≤ length es + 1
 junctions_few es zero joined = omega arith
 junctions_few es (suc n) joined =

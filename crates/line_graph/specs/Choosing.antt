@@ -1,4 +1,5 @@
--- What the choosing of starts and ends keeps. No public clause cites this file.
+-- Invariants of `EndsMaker`, which adds starts and ends to a drawing. No public clause cites this
+-- file.
 use Rattle.std.specs.Prelude.{◌≡◌, ℕ, ◌==◌, true, false, List, length, get_or}
 use Rattle.std.specs.List.{list_any, position_or_len}
 use Rattle.line_sections.specs.declared.spot.Spot.{Spot}
@@ -9,11 +10,13 @@ use Rattle.line_graph.specs.PieceParts.{AreLabels}
 use Rattle.line_graph.specs.JoinedDrawings.{is_joined}
 use Rattle.line_graph.specs.WalkEnds.{AreApart, meets}
 
--- the label of the first line that begins or ends at the spot
+-- The label of the first line that has an end at a spot. Lines have equal labels exactly where they
+-- are in one piece.
 abbrev pub label_at : List LineValue → List ℕ → Spot → ℕ
 label_at lines labels spot = get_or labels (position_or_len (meets spot) lines) 0
 
--- the junctions are apart, and the table says of which labels there is one
+-- Chosen junctions: no two are in one piece, and the table `taken` records for which labels there
+-- is one.
 pub record AreChosen (lines : List LineValue) (labels : List ℕ) (chosen : ChosenSpots)
     : Type 0 where
   pub sized : length chosen.taken.items ≡ length lines
@@ -21,7 +24,8 @@ pub record AreChosen (lines : List LineValue) (labels : List ℕ) (chosen : Chos
   pub each : (label : ℕ) → get_or chosen.taken.items label false
       ≡ list_any (λ spot. label_at lines labels spot == label) chosen.spots.items
 
--- a drawing that meets at ends alone, the labels of its lines, and its starts and ends
+-- The state of an `EndsMaker`: a joined drawing within its limits, the labels of its lines, and its
+-- starts and ends so far.
 pub record IsEnding (d : DrawingValue) (labels : List ℕ) (starts ends : ChosenSpots)
     : Type 0 where
   pub limits : KeepsDrawing d

@@ -1,11 +1,11 @@
--- What it means that pieces are those of a drawing.
+-- What it means that computed pieces are the pieces of a drawing.
 use Rattle.std.specs.Prelude.{◌≡◌, ℕ, List, map, All}
 use Rattle.line_graph.specs.declared.piece.Piece.{Piece}
 use Rattle.line_graph.specs.Drawings.{DrawingValue}
 use Rattle.line_graph.specs.PieceGraphs.{PieceValue, piece_of}
 use Rattle.line_graph.specs.Pieces.{ArePieces}
 
--- the graph of a piece, without what is known of it
+-- The graph of a piece, without the proofs that the Rust type carries.
 abbrev pub graph_of : Piece → PieceValue
 graph_of p = record {
   block = p.block;
@@ -17,11 +17,12 @@ graph_of p = record {
   end = p.end;
 }
 
--- the lines of each piece
+-- The lists of lines of the given pieces.
 abbrev pub lines_of_pieces : List Piece → List (List ℕ)
 lines_of_pieces pieces = map (λ (p : Piece). p.lines) pieces
 
--- the lines of these pieces are the pieces of the drawing, and each is the graph of its lines
+-- The pieces of a drawing: their lists of lines are the pieces of the drawing, and each graph is
+-- that of its lines.
 pub record AreCutFrom (d : DrawingValue) (pieces : List Piece) : Type 0 where
   pub are : ArePieces d (lines_of_pieces pieces)
   pub each : All (λ (p : Piece). graph_of p ≡ piece_of d p.lines) pieces

@@ -1,5 +1,6 @@
--- Drawings as contracts see them, in whole tenths of a millimetre: lines of straight segments, in
--- blocks of one thread each. Indexes of blocks and lines count from 0. Costs count steps.
+-- Drawings as contracts see them: lines of straight segments, in colour blocks of one thread each.
+-- Coordinates are whole tenths of a millimetre. Indexes of blocks and lines count from 0. Costs
+-- count steps.
 use Rattle.std.specs.Prelude.{◌≢◌, ℕ, ◌<◌, ◌≤◌, List, [], ◌∷◌, Option, Some, None, length, map, All, Contains, sum_by, slice_get}
 use Rattle.std.specs.List.Sorted.{IsNonDecreasing}
 use Rattle.design_model.specs.declared.point.Point.{Point}
@@ -11,8 +12,9 @@ use Rattle.line_sections.specs.Lines.{LineValue}
 use Rattle.line_graph.specs.declared.limits.TheConstants.{MAX_BLOCKS, MAX_COST, MAX_LINES, MAX_POINTS}
 use Rattle.line_graph.specs.Needles.{line_steps}
 
--- a label, the longest step, the thread number of each block, the lines, and where walks over
--- pieces are to begin and to end
+-- A drawing: its label, its longest step, the thread number of each block, and its lines in the
+-- order of their blocks. The starts and ends are the junctions where the walks over pieces must
+-- start and end.
 pub record DrawingValue : Type 0 where
   pub label : List ℕ
   pub step : ℕ
@@ -21,47 +23,47 @@ pub record DrawingValue : Type 0 where
   pub starts : List Spot
   pub ends : List Spot
 
--- the points of a line, if there is one
+-- The points of a line, or none where there is no line.
 abbrev pub points_in : Option LineValue → List Point
 points_in (Some line) = line.points
 points_in None = []
 
--- the block of a line, if there is one
+-- The block of a line, or 0 where there is no line.
 abbrev pub block_in : Option LineValue → ℕ
 block_in (Some line) = line.block
 block_in None = 0
 
--- the points of the line with that index
+-- The points of the line with the given index.
 abbrev pub points_of : DrawingValue → ℕ → List Point
 points_of d line = points_in (slice_get d.lines line)
 
--- the block of the line with that index
+-- The block of the line with the given index.
 abbrev pub block_of : DrawingValue → ℕ → ℕ
 block_of d line = block_in (slice_get d.lines line)
 
--- the first point of a list
+-- The first point of a list, if it has one.
 abbrev pub first_of : List Point → Option Point
 first_of [] = None
 first_of (p ∷ rest) = Some p
 
--- the last point of a list
+-- The last point of a list, if it has one.
 abbrev pub last_of : List Point → Option Point
 last_of [] = None
 last_of (p ∷ rest) = Some (last_from p rest)
 
--- each point differs from the one before
+-- Each point of a list differs from the point before it.
 abbrev pub HasNoRepeat : List Point → Type 0
 HasNoRepeat [] = Unit {0}
 HasNoRepeat (p ∷ rest) = KeepsMoving p rest
 
--- a line can be sewn: it has a segment, no point repeats the one before, and
--- needles may go down there
+-- A line that can be sewn: it has a segment, no point repeats the one before, and the needle can
+-- reach each point.
 pub record IsLine (points : List Point) : Type 0 where
   pub long : 2 ≤ length points
   pub moving : HasNoRepeat points
   pub in_range : All IsNeedlePoint points
 
--- the limits of a drawing, and that its blocks and lines fit together
+-- The limits of a drawing. Each block has a line, and the lines are in the order of their blocks.
 pub record KeepsDrawing (d : DrawingValue) : Type 0 where
   pub label : IsLabel d.label
   pub one_word : All (λ byte. byte ≢ 32) d.label

@@ -1,5 +1,5 @@
--- Drawings that grow by blocks and lines, within the limits of a drawing, in whole tenths of a
--- millimetre, and what a call answers that makes them grow. Costs count steps.
+-- Drawings that grow by blocks and lines within the limits of a drawing, and the results of the
+-- calls that make them grow. Coordinates are whole tenths of a millimetre. Costs count steps.
 use Rattle.std.specs.Prelude.{◌≡◌, ℕ, ◌+◌, ◌-◌, ◌==◌, Bool, true, false, not, ◌&&◌, ◌||◌, nat_le, nat_lt, List, [], ◌∷◌, ◌++◌, Result, Ok, Err, length, sum_by, if◌then◌else◌}
 use Rattle.std.specs.Char.{is_ascii_graphic}
 use Rattle.std.specs.List.{list_all, list_any}
@@ -15,59 +15,59 @@ use Rattle.line_graph.specs.declared.limits.TheConstants.{MAX_BLOCKS, MAX_COST, 
 use Rattle.line_graph.specs.Drawings.{DrawingValue}
 use Rattle.line_graph.specs.Needles.{line_steps}
 
--- what comes after an answer that isn't a fault
+-- The result of a second step on the value of a first one, or the fault of the first (as
+-- `Result::and_then`).
 abbrev pub and_then : {A B F : Type 0} → Result A F → (A → Result B F) → Result B F
 and_then (Ok a) next = next a
 and_then (Err why) next = Err why
 
--- the points of all these lines, counted
+-- The number of points of all given lines.
 abbrev pub point_count : List LineValue → ℕ
 point_count lines = sum_by (λ line. length line.points) lines
 
--- the steps of all these lines
+-- The number of steps of all given lines.
 abbrev pub step_count : ℕ → List LineValue → ℕ
 step_count step lines = sum_by (λ line. line_steps step line.points) lines
 
--- a line is in that block
+-- Some line of a drawing is in the given block.
 abbrev pub is_used : DrawingValue → ℕ → Bool
 is_used d block = list_any (λ line. line.block == block) d.lines
 
--- there is a block, and no line is in the last one
+-- A drawing has blocks, and its last block has no line.
 abbrev pub is_last_empty : DrawingValue → Bool
 is_last_empty d = not (length d.threads == 0) && not (is_used d (length d.threads - 1))
 
--- the drawing with that label and that longest step, before its first block
+-- A drawing without blocks, with the given label and longest step.
 abbrev pub drawing_begun : List ℕ → ℕ → DrawingValue
 drawing_begun label step =
     record { label = label; step = step; threads = []; lines = []; starts = []; ends = [] }
 
--- a word that may be a label
+-- A word that may be the label of a drawing: printable ASCII without spaces, and not too long.
 abbrev pub is_label_word : List ℕ → Bool
 is_label_word word = nat_le (length word) MAX_LABEL && list_all is_ascii_graphic word
 
--- the drawing with one block more
+-- The drawing with one more block at the end.
 abbrev pub with_block : DrawingValue → ℕ → DrawingValue
 with_block d thread = record d { threads = d.threads ++ thread ∷ [] }
 
--- the drawing with that block, or why it may not have it
+-- The drawing with one more block at the end, or the fault of that block.
 abbrev pub block_added : DrawingValue → ℕ → Result DrawingValue DrawKind
 block_added d thread =
     if is_last_empty d then Err kind.EmptyBlock
     else (if length d.threads == MAX_BLOCKS then Err kind.TooManyBlocks
     else Ok (with_block d thread))
 
--- one of the points is the same as the one before it, the first one as p
+-- Some point of a list equals the point before it, where p is before the first.
 abbrev pub repeats_after : Point → List Point → Bool
 repeats_after p [] = false
 repeats_after p (q ∷ rest) = is_same_point p q || repeats_after q rest
 
--- one of the points is the same as the one before it
+-- Some point of a list equals the point before it.
 abbrev pub has_repeat : List Point → Bool
 has_repeat [] = false
 has_repeat (p ∷ rest) = repeats_after p rest
 
--- the steps of the drawing's lines and a further line through these points, or the
--- first fault of that line
+-- The number of steps of a drawing's lines and one more line, or the first fault of that line.
 abbrev pub steps_with : DrawingValue → List Point → Result ℕ DrawKind
 steps_with d points =
     if nat_lt (length points) 2 then Err kind.FewPoints
@@ -78,34 +78,36 @@ steps_with d points =
     kind.TooMuchCost
     else Ok (step_count d.step d.lines + line_steps d.step points)))))
 
--- the drawing with one line more in its last block
+-- The drawing with one more line in its last block.
 abbrev pub with_line : DrawingValue → List Point → DrawingValue
 with_line d points =
     record d { lines = d.lines ++ record { block = length d.threads - 1; points = points } ∷ [] }
 
--- needles may go down at all of the points
+-- The needle can reach all given points.
 abbrev pub are_in_range : List Point → Bool
 are_in_range points = list_all (is_within NEEDLE_LIMIT) points
 
--- the drawing with that line, or why it may not have it
+-- The drawing with one more line in its last block, or the first fault of that line.
 abbrev pub line_added : DrawingValue → List Point → Result DrawingValue DrawKind
 line_added d points =
     if length d.threads == 0 then Err kind.NoBlock
     else (if not (are_in_range points) then Err kind.OutOfRange
     else and_then (steps_with d points) (λ steps. Ok (with_line d points)))
 
--- the drawing where it may end so, with a line in each of its blocks
+-- The finished drawing, or its fault: `NoBlock` without a block, `EmptyBlock` where the last block
+-- has no line.
 abbrev pub finished : DrawingValue → Result DrawingValue DrawKind
 finished d =
     if length d.threads == 0 then Err kind.NoBlock
     else (if is_last_empty d then Err kind.EmptyBlock else Ok d)
 
--- the kind of fault that wants memory
+-- A fault is `Memory`: memory could not be allocated.
 abbrev pub wants_memory : DrawKind → Bool
 wants_memory kind.Memory = true
 wants_memory other = false
 
--- what each answer of a call means that is to change a value as said: a refusal leaves it as it was
+-- A call changes a value as specified. On success the value is the specified new one. A failure is
+-- the specified one or out of memory, and leaves the value unchanged.
 abbrev pub Changes : {A T : Type 0} → Result A DrawKind → A → Result T DrawKind → A → Type 0
 Changes said old (Ok _) new = said ≡ Ok new
 Changes said old (Err why) new = IsSaid wants_memory said (Err why) × (new ≡ old)

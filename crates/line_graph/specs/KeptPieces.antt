@@ -1,4 +1,4 @@
--- What each piece keeps. Costs count steps.
+-- The invariant of the type `Piece`. Costs count steps.
 use Rattle.std.specs.Prelude.{◌≡◌, ℕ, ◌+◌, ◌<◌, ◌≤◌, ◌&&◌, Bool, true, false, List, [], ◌∷◌, Option, Some, None, length, nat_le, nat_lt, slice_get, AllPairs}
 use Rattle.design_model.specs.Points.{is_same_point}
 use Rattle.line_graph.specs.declared.edge.Edge.{Edge}
@@ -6,36 +6,36 @@ use Rattle.line_graph.specs.declared.limits.TheConstants.{MAX_COST, MAX_LINES}
 use Rattle.line_graph.specs.PieceGraphs.{PieceValue, degree, degrees_from}
 use Rattle.line_graph.specs.PieceWalks.{piece_cost, rises}
 
--- all of the numbers are less
+-- All numbers of a list are less than n.
 abbrev pub all_below : ℕ → List ℕ → Bool
 all_below n [] = true
 all_below n (m ∷ rest) = nat_lt m n && all_below n rest
 
--- both ends of each edge are below that number
+-- Both junctions of each edge have a number less than n.
 abbrev pub ends_below : ℕ → List Edge → Bool
 ends_below n [] = true
 ends_below n (e ∷ rest) = (nat_lt e.a n && nat_lt e.b n) && ends_below n rest
 
--- each edge costs a step or more
+-- Each edge costs at least one step.
 abbrev pub all_cost : List Edge → Bool
 all_cost [] = true
 all_cost (e ∷ rest) = nat_le 1 e.cost && all_cost rest
 
--- the number is below that one, if there is one
+-- An optional number j is less than n, or absent.
 abbrev pub is_below : ℕ → Option ℕ → Bool
 is_below n None = true
 is_below n (Some j) = nat_lt j n
 
--- no edge leads out of the set of junctions
+-- No edge leads from a set of junctions to a junction outside it.
 abbrev pub NoneLeaves : List Edge → (ℕ → Bool) → Type 0
 NoneLeaves edges set = (i : ℕ) (e : Edge) → slice_get edges i ≡ Some e → set e.a ≡ set e.b
 
--- the edges join so many junctions: a set that no edge leaves has all of them, or none
+-- A connected graph: a set of junctions that no edge leaves contains all junctions or none.
 abbrev pub AreJoined : List Edge → ℕ → Type 0
 AreJoined edges count = (set : ℕ → Bool) → NoneLeaves edges set
     → (i j : ℕ) → i < count → j < count → set i ≡ set j
 
--- a graph whose lines join all its junctions, within the limits of a drawing
+-- A valid piece: a connected graph without edges of cost 0, within the limits of a drawing.
 pub record KeepsPiece (p : PieceValue) : Type 0 where
   pub some : 1 ≤ length p.lines
   pub few : length p.lines ≤ MAX_LINES

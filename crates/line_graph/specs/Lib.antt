@@ -1,4 +1,4 @@
--- words of the crates below that public clauses cite
+-- Definitions of lower crates that public clauses cite.
 pub use Rattle.step_splitter.specs.Chains
 pub use Rattle.step_splitter.specs.Steps
 pub use Rattle.line_sections.specs.Lines
@@ -8,7 +8,7 @@ pub mod Needles
 pub mod Drawings
 pub mod Walks
 pub mod Pieces
--- read these two first: the graph of a piece, and walks over it, the least of them among these
+-- Read these two first: the graph of a piece, and the fitting and least walks over it.
 pub mod PieceGraphs
 pub mod PieceWalks
 pub mod KeptPieces
@@ -19,13 +19,13 @@ pub mod OnePieces
 pub mod Laws
 pub mod Growing
 pub mod JoinedDrawings
--- where walks are to begin and to end
+-- The junctions where walks must start and end.
 pub mod WalkEnds
--- of the maker's inside
+-- Used only inside this crate: the maker of drawings.
 pub mod Making
--- of the inside of pieces
+-- Used only inside this crate: the pieces.
 pub mod LineLabels
 pub mod FirstLines
 pub mod PieceParts
--- of the inside of starts and ends
+-- Used only inside this crate: starts and ends.
 pub mod Choosing

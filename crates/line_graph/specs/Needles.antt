@@ -4,22 +4,22 @@ use Rattle.std.specs.Prelude.{ℕ, ◌+◌, List, [], ◌∷◌, ◌++◌}
 use Rattle.design_model.specs.declared.point.Point.{Point}
 use Rattle.step_splitter.specs.Steps.{split_points, steps_of}
 
--- the needle points of the segments that lead on from p through the points
+-- The needle points along the segments from p through the given points, without p itself.
 abbrev pub segment_points : ℕ → Point → List Point → List Point
 segment_points step p [] = []
 segment_points step p (q ∷ rest) = split_points p q step ++ segment_points step q rest
 
--- the needle points of a line: its first point, and then those of its segments in order
+-- The needle points of a line: its first point, and those along its segments in order.
 abbrev pub needle_points : ℕ → List Point → List Point
 needle_points step [] = []
 needle_points step (p ∷ rest) = p ∷ segment_points step p rest
 
--- the steps of the segments that lead on from p through the points
+-- The number of steps along the segments from p through the given points.
 abbrev pub segment_steps : ℕ → Point → List Point → ℕ
 segment_steps step p [] = 0
 segment_steps step p (q ∷ rest) = steps_of p q step + segment_steps step q rest
 
--- the steps of a line: those of all its segments
+-- The number of steps of a line: the sum over its segments.
 abbrev pub line_steps : ℕ → List Point → ℕ
 line_steps step [] = 0
 line_steps step (p ∷ rest) = segment_steps step p rest

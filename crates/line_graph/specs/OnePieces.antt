@@ -1,8 +1,8 @@
--- The pieces of a drawing are determined.
+-- A drawing has only one list of pieces.
 use Rattle.std.specs.Prelude.{◌≡◌, ℕ, List}
 use Rattle.line_graph.specs.Drawings.{DrawingValue}
 use Rattle.line_graph.specs.Pieces.{ArePieces}
 
--- a drawing has one list of pieces
+-- Two lists of pieces of one drawing are equal.
 abbrev pub PiecesAreOne : Type 0
 PiecesAreOne = (d : DrawingValue) (a b : List (List ℕ)) → ArePieces d a → ArePieces d b → a ≡ b

@@ -1,5 +1,5 @@
--- The pieces of a drawing: lines of one block that are joined at their ends.
--- Indexes of lines count from 0.
+-- The pieces of a drawing, which are the connected components of its lines: lines of one block,
+-- connected by shared ends. Indexes of lines count from 0.
 use Rattle.std.specs.Prelude.{◌≡◌, ◌≢◌, ℕ, ◌<◌, ◌==◌, Bool, true, ◌&&◌, List, [], ◌∷◌, Some, length, map, slice_get, All, AllPairs, Contains}
 use Rattle.std.specs.List.{concat, list_any}
 use Rattle.std.specs.List.Sorted.{IsStrictlyIncreasing}
@@ -9,20 +9,20 @@ use Rattle.step_splitter.specs.Chains.{last_from}
 use Rattle.line_sections.specs.Lines.{LineValue}
 use Rattle.line_graph.specs.Drawings.{DrawingValue}
 
--- the two ends of a line: its first point, and its last
+-- The endpoints of a line: its first point and its last point.
 abbrev pub ends_of : List Point → List Point
 ends_of [] = []
 ends_of (p ∷ rest) = p ∷ last_from p rest ∷ []
 
--- a point is in both lists
+-- Two lists of points have a point in common.
 abbrev pub shares_point : List Point → List Point → Bool
 shares_point ps qs = list_any (λ p. list_any (is_same_point p) qs) ps
 
--- two lines touch: they are in one block, and an end of one is an end of the other
+-- Two lines touch: they are in one block, and an end of one is an end of the other.
 abbrev pub touches : LineValue → LineValue → Bool
 touches a b = a.block == b.block && shares_point (ends_of a.points) (ends_of b.points)
 
--- the lines with these indexes are there and touch
+-- The lines with indexes i and j exist and touch.
 pub record TouchAt (d : DrawingValue) (i j : ℕ) : Type 0 where
   pub one : LineValue
   pub other : LineValue
@@ -30,22 +30,22 @@ pub record TouchAt (d : DrawingValue) (i j : ℕ) : Type 0 where
   pub other_is : slice_get d.lines j ≡ Some other
   pub touch : touches one other ≡ true
 
--- a chain of lines, each of which touches the next, from one line to another
+-- A path of lines from line i to line j: each line of the chain touches the next.
 abbrev pub Leads : DrawingValue → ℕ → List ℕ → ℕ → Type 0
 Leads d i [] j = i ≡ j
 Leads d i (k ∷ rest) j = TouchAt d i k × Leads d k rest j
 
--- two lines are joined by a chain
+-- Two lines are connected: a path of touching lines leads from one to the other.
 abbrev pub Joined : DrawingValue → ℕ → ℕ → Type 0
 Joined d i j = (chain : List ℕ) × Leads d i chain j
 
--- the first line of a piece
+-- The first line of a piece, or 0 for an empty list.
 abbrev pub first_line : List ℕ → ℕ
 first_line [] = 0
 first_line (line ∷ rest) = line
 
--- the pieces of a drawing, in the order of their first lines: each line is in one of them, and two
--- lines are in the same one where they are joined; the lines of a piece rise
+-- The pieces of a drawing, ordered by their first lines. Each line is in one piece, and two lines
+-- are in one piece exactly where they are connected. Within a piece the indexes of lines increase.
 pub record ArePieces (d : DrawingValue) (pieces : List (List ℕ)) : Type 0 where
   pub filled : All (λ piece. piece ≢ []) pieces
   pub there : All (λ line. line < length d.lines) (concat pieces)

@@ -1,4 +1,4 @@
--- What walks over the pieces of a drawing are as stitches. Costs count steps.
+-- Walks over the pieces of a drawing as stitches. Costs count steps.
 use Rattle.std.specs.Prelude.{◌≡◌, ℕ, ◌+◌, ◌<◌, ◌≤◌, true, List, length, All, Contains, sum_by}
 use Rattle.std.specs.List.{AllZip}
 use Rattle.line_graph.specs.declared.limits.TheConstants.{MAX_COST, MAX_LINES}
@@ -11,32 +11,33 @@ use Rattle.line_graph.specs.PieceWalks.{fits, piece_cost, walk_cost}
 use Rattle.line_graph.specs.Runs.{AreNear, runs_of, stops_after}
 use Rattle.line_graph.specs.Walks.{needles_of_walk}
 
--- the passes of a walk go along these lines; its needles are one more than it costs, in range, and
--- each within the step of the one before
+-- A walk along the given lines that can be sewn. The walk has one needle point more than it costs
+-- steps, and each is within the drawing's step of the one before.
 pub record IsSewable (d : DrawingValue) (lines : List ℕ) (walk : List Pass) : Type 0 where
   pub there : All (λ (pass : Pass). Contains lines pass.line) walk
   pub penetrations : length (needles_of_walk d walk) ≡ walk_cost (piece_of d lines) walk + 1
   pub near : AreNear d.step (needles_of_walk d walk)
 
--- a fitting walk over lines of a drawing that are a piece can be sewn
+-- A fitting walk over a piece of a drawing can be sewn.
 abbrev pub FittingWalksAreSewable : Type 0
 FittingWalksAreSewable = (d : DrawingValue) (lines : List ℕ) (walk : List Pass) → KeepsDrawing d
     → All (λ line. line < length d.lines) lines → KeepsPiece (piece_of d lines)
     → fits (piece_of d lines) walk ≡ true → IsSewable d lines walk
 
--- each walk goes along the lines of its piece, and has a pass
+-- A walk with at least one pass, all of whose passes follow the given lines.
 pub record GoesAlong (lines : List ℕ) (walk : List Pass) : Type 0 where
   pub some : 1 ≤ length walk
   pub there : All (λ (pass : Pass). Contains lines pass.line) walk
 
--- the pieces of a drawing cost no more than the drawing may, are no more than its lines, and walks
--- along them in order have no more stops between them than there are blocks behind the first
+-- Pieces within the limits of their drawing: in cost, in number, and in the stops between walks
+-- that follow the pieces in order.
 pub record ArePiecesWithin (d : DrawingValue) (pieces : List (List ℕ)) : Type 0 where
   pub cost : sum_by (λ lines. piece_cost (piece_of d lines)) pieces ≤ MAX_COST
   pub count : length pieces ≤ MAX_LINES
   pub stops : (walks : List (List Pass)) → AllZip GoesAlong pieces walks
       → stops_after 0 (runs_of d walks) + 1 ≤ length d.threads
 
+-- The pieces of a drawing are within the limits of the drawing.
 abbrev pub PiecesKeepLimits : Type 0
 PiecesKeepLimits = (d : DrawingValue) (pieces : List (List ℕ)) → KeepsDrawing d → ArePieces d pieces
     → ArePiecesWithin d pieces

@@ -13,7 +13,8 @@ use design_model::{Memory, Point};
 use line_sections::{Line, Spot};
 use std::alloc::Global;
 
-/// Junctions, at most one of each piece, and for the label of each line whether its piece has one.
+/// Chosen junctions, at most one in each piece. `taken` records for the label of each line whether its
+/// piece has one.
 #[derive(Debug, Drop)]
 pub struct ChosenSpots {
     pub spots: Vec<Spot>,
@@ -21,7 +22,7 @@ pub struct ChosenSpots {
 }
 
 impl ChosenSpots {
-    /// None of a drawing's junctions.
+    /// Returns a table without chosen junctions.
     pub fn new(alloc: Global, d: &Drawing) -> Result<ChosenSpots, Memory>
         ensures none { IfOk result (λ chosen. chosen.spots.items ≡ []) }
         ensures chosen { (labels : _) → IfOk result (AreChosen d.now.lines labels) }
@@ -32,8 +33,8 @@ impl ChosenSpots {
         })
     }
 
-    /// Adds a junction: `NoJunction` where it is none, then `EndRepeated` where its piece has one, and then
-    /// `Memory`. A refusal leaves all as it was.
+    /// Adds a junction. Errors, in this order: `NoJunction` where the spot is no junction, `EndRepeated`
+    /// where its piece has one, and `Memory`. An error leaves the table unchanged.
     pub fn add(&mut self, d: &Drawing, labels: &[u32], spot: Spot) -> Result<(), DrawKind>
         requires labels { AreLabels d.now labels.now }
         requires chosen { AreChosen d.now.lines labels.now self.old }
@@ -55,7 +56,7 @@ impl ChosenSpots {
     }
 }
 
-/// The index of the first line that begins or ends at the spot, or the number of lines.
+/// Returns the index of the first line that has an end at the spot, or the number of lines.
 fn line_at(lines: &[Line], spot: Spot) -> usize
     ensures value { result ≡ position_or_len (line_meets spot) lines.now }
     ensures within { result ≤ length lines.now }

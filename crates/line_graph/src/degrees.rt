@@ -8,7 +8,7 @@ use crate::edge::Edge;
 use design_model::Memory;
 use std::alloc::Global;
 
-/// How many line ends are at each of so many junctions.
+/// Returns the degree of each junction: the number of line ends there.
 pub fn degrees(alloc: Global, edges: &[Edge], junctions: usize) -> Result<Vec<u32>, Memory>
     requires ends { ends_below junctions edges.now ≡ true }
     requires few { length edges.now ≤ MAX_LINES }

@@ -8,15 +8,15 @@ use std::alloc::AllocFailed;
 pub enum DrawKind {
     /// The text does not begin with the words `redwork 1`, `redwork 2` or `redwork 3`.
     BadHeader,
-    /// A text line says nothing that a line of a drawing text may say there.
+    /// A text line is none that a drawing text may have there.
     BadWord,
     /// A word is not a number.
     BadNumber,
-    /// A number leaves its range.
+    /// A number is out of its range.
     OutOfRange,
-    /// A line has fewer than two points, or a number without its partner.
+    /// A line has fewer than two points, or a coordinate without its partner.
     FewPoints,
-    /// A point of a line is the same as the one before.
+    /// A point of a line equals the one before it.
     RepeatedPoint,
     /// A block has no line.
     EmptyBlock,
@@ -30,11 +30,11 @@ pub enum DrawKind {
     TooManyBlocks,
     /// All lines together have more than 200,000 steps.
     TooMuchCost,
-    /// A start or an end is no junction of its block.
+    /// A start or an end is not a junction of its block.
     NoJunction,
     /// A piece has a second start, or a second end.
     EndRepeated,
-    /// Memory was wanted and not found.
+    /// Memory could not be allocated.
     Memory,
 }
 

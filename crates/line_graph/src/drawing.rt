@@ -8,10 +8,10 @@ use line_sections::{Line, Spot};
 use std::alloc::Global;
 use std::marker::Model;
 
-/// A line drawing: a label, the longest step, blocks of one thread each, and lines in the blocks.
+/// A line drawing: a label, the longest step, colour blocks of one thread each, and lines in the blocks.
 ///
-/// Blocks and lines count from 0. Each block has a line, and the lines stand in the order of their
-/// blocks. A piece may have a junction where its walk is to begin, a start, and one where it is to end.
+/// Blocks and lines count from 0. Each block has a line, and the lines are in the order of their blocks. A
+/// piece may have a start and an end: junctions where its walk must start and end.
 #[derive(Debug, Drop)]
 pub struct Drawing {
     label: ArrayVec<u8, MAX_LABEL>,
@@ -52,7 +52,7 @@ impl Drawing {
     ghost use Rattle.line_graph.specs.Drawings.{KeepsDrawing, points_of, block_of};
     ghost use Rattle.line_graph.specs.WalkEnds.{KeepsAll, KeepsEnds};
 
-    /// The drawing of these parts.
+    /// Returns the drawing with the given parts.
     pub(crate) fn of_parts(
         label: ArrayVec<u8, MAX_LABEL>,
         step: u32,
@@ -88,7 +88,7 @@ impl Drawing {
         }
     }
 
-    /// The drawing with these lines in the place of its own.
+    /// Returns a copy of the drawing with other lines.
     pub(crate) fn with_lines(&self, alloc: Global, lines: Vec<Line>) -> Result<Drawing, Memory>
         requires { KeepsAll (record self.now { lines = lines.items }) }
         ensures { IfOk result (λ d. d ≡ record self.now { lines = lines.items }) }
@@ -104,7 +104,7 @@ impl Drawing {
         Ok(Drawing::of_parts(label, self.step, threads, lines, starts, ends))
     }
 
-    /// The drawing with these starts and ends in the place of its own.
+    /// Returns the drawing with other starts and ends.
     pub(crate) fn with_ends(self, starts: Vec<Spot>, ends: Vec<Spot>) -> Drawing
         requires { KeepsAll (record self { starts = starts.items; ends = ends.items }) }
         ensures { result ≡ record self { starts = starts.items; ends = ends.items } }
@@ -119,7 +119,7 @@ impl Drawing {
         Drawing::of_parts(label, step, threads, lines, starts, ends)
     }
 
-    /// A drawing keeps its limits. The body of a function that rests on them calls this law.
+    /// Theorem: a drawing is within its limits. A function whose proof needs this calls it.
     pub fn keeps_limits(&self)
         ensures limits { KeepsDrawing self.now }
         ensures ends { KeepsEnds self.now }
@@ -127,7 +127,7 @@ impl Drawing {
         self.step();
     }
 
-    /// The longest step on each axis, in tenths of a millimetre.
+    /// Returns the longest step on each axis, in tenths of a millimetre.
     pub fn step(&self) -> u32
         ensures value { result ≡ self.now.step }
         ensures limits { KeepsDrawing self.now }
@@ -136,7 +136,7 @@ impl Drawing {
         self.step
     }
 
-    /// The label, which may be empty.
+    /// Returns the label, which may be empty.
     pub fn label(&self) -> &[u8]
         ensures value { result.now ≡ self.now.label }
         ensures limits { IsLabel result.now }
@@ -144,7 +144,7 @@ impl Drawing {
         self.label.as_slice()
     }
 
-    /// The thread numbers of the blocks.
+    /// Returns the thread numbers of the blocks.
     pub fn threads(&self) -> &[u8]
         ensures value { result.now ≡ self.now.threads }
         ensures most { length result.now ≤ MAX_BLOCKS }
@@ -152,28 +152,28 @@ impl Drawing {
         self.threads.as_slice()
     }
 
-    /// The lines in order.
+    /// Returns the lines in order.
     pub fn lines(&self) -> &[Line]
         ensures { result.now ≡ self.now.lines }
     {
         self.lines.as_slice()
     }
 
-    /// The junctions where walks are to begin, at most one of each piece.
+    /// Returns the junctions where walks must start, at most one in each piece.
     pub fn starts(&self) -> &[Spot]
         ensures { result.now ≡ self.now.starts }
     {
         self.starts.as_slice()
     }
 
-    /// The junctions where walks are to end, at most one of each piece.
+    /// Returns the junctions where walks must end, at most one in each piece.
     pub fn ends(&self) -> &[Spot]
         ensures { result.now ≡ self.now.ends }
     {
         self.ends.as_slice()
     }
 
-    /// The number of lines.
+    /// Returns the number of lines.
     pub fn line_count(&self) -> u32
         ensures value { result ≡ length self.now.lines }
         ensures most { result ≤ MAX_LINES }
@@ -181,7 +181,7 @@ impl Drawing {
         self.lines.len() as u32
     }
 
-    /// The number of blocks.
+    /// Returns the number of blocks.
     pub fn block_count(&self) -> u32
         ensures value { result ≡ length self.now.threads }
         ensures least { 1 ≤ result }
@@ -190,7 +190,7 @@ impl Drawing {
         self.threads.len() as u32
     }
 
-    /// The thread number of a block.
+    /// Returns the thread number of a block.
     pub fn block_thread(&self, block: u32) -> u8
         requires { block < length self.now.threads }
         ensures { result ≡ slice_index self.now.threads block }
@@ -198,7 +198,7 @@ impl Drawing {
         self.threads.as_slice()[block as usize]
     }
 
-    /// The points of a line, in tenths of a millimetre.
+    /// Returns the points of a line, in tenths of a millimetre.
     pub fn line_points(&self, line: u32) -> &[Point]
         requires { line < length self.now.lines }
         ensures { result.now ≡ points_of self.now line }
@@ -206,7 +206,7 @@ impl Drawing {
         self.lines[line as usize].points()
     }
 
-    /// The index of a line's block.
+    /// Returns the index of a line's block.
     pub fn line_block(&self, line: u32) -> u32
         requires { line < length self.now.lines }
         ensures value { result ≡ block_of self.now line }

@@ -19,9 +19,10 @@ use line_sections::{Line, Spot};
 use std::alloc::Global;
 use std::marker::Model;
 
-/// A drawing that grows: blocks are added at its end, and lines to its last block.
+/// Makes a drawing: blocks are added at its end, and lines to its last block.
 ///
-/// It keeps the limits of a drawing from the start; `finish` asks only that each block has a line.
+/// A drawing in the making is within the limits of a drawing at each moment. `finish` checks only that each
+/// block has a line.
 #[derive(Debug, Drop)]
 pub struct DrawingMaker {
     label: ArrayVec<u8, MAX_LABEL>,
@@ -61,8 +62,8 @@ impl Model for DrawingMaker {
 }
 
 impl DrawingMaker {
-    /// A drawing with that label, one word or empty, and that longest step in tenths of a millimetre. It has
-    /// no block yet.
+    /// Returns a drawing without blocks, with the given label (one word or empty) and longest step in
+    /// tenths of a millimetre.
     pub fn new(alloc: Global, label: &[u8], step: u32) -> DrawingMaker
         requires label { IsLabel label.now }
         requires one_word { All (λ byte. byte ≢ 32) label.now }
@@ -85,7 +86,7 @@ impl DrawingMaker {
         }
     }
 
-    /// Sets the label, a word that `is_label_word` passes.
+    /// Sets the label, which must be a word that may be a label.
     pub fn set_label(&mut self, word: &[u8])
         requires { is_a_label_word word.now ≡ true }
         ensures { self.new ≡ record self.old { label = word.now } }
@@ -94,7 +95,7 @@ impl DrawingMaker {
         self.label.try_extend_from_slice(word).unwrap();
     }
 
-    /// Sets the longest step, in tenths of a millimetre. Only a drawing without blocks takes another.
+    /// Sets the longest step, in tenths of a millimetre. The drawing must have no block yet.
     pub fn set_step(&mut self, step: u32)
         requires low { 1 ≤ step }
         requires high { step ≤ max_step }
@@ -104,7 +105,7 @@ impl DrawingMaker {
         self.step = step;
     }
 
-    /// The number of blocks.
+    /// Returns the number of blocks.
     pub fn block_count(&self) -> usize
         ensures value { result ≡ length self.now.threads }
         ensures most { result ≤ max_blocks }
@@ -112,8 +113,8 @@ impl DrawingMaker {
         self.threads.len()
     }
 
-    /// Adds a block at the end, of that thread number: `EmptyBlock` where the last block has no line, then
-    /// `TooManyBlocks`. A refusal leaves the drawing as it was.
+    /// Adds a block at the end, with the given thread number. Errors, in this order: `EmptyBlock` where the
+    /// last block has no line, `TooManyBlocks`. An error leaves the drawing unchanged.
     pub fn add_block(&mut self, thread: u8) -> Result<(), DrawKind>
         ensures answer { Changes (block_added self.old thread) self.old result self.new }
         ensures memory { IsErrOf result kind.Memory → IsOk (block_added self.old thread) }
@@ -129,10 +130,10 @@ impl DrawingMaker {
         Ok(())
     }
 
-    /// Adds a line through these points to the last block, in tenths of a millimetre. The refusals come in
-    /// this order: `NoBlock`, `OutOfRange` (no needle may go down at one of the points), `FewPoints`,
-    /// `RepeatedPoint`, `TooManyLines`, `TooManyPoints`, `TooMuchCost`, and then `Memory`. A refusal leaves
-    /// the drawing as it was.
+    /// Adds a line through the given points, in tenths of a millimetre, to the last block. Errors, in this
+    /// order: `NoBlock`, `OutOfRange` (the needle cannot reach one of the points), `FewPoints`,
+    /// `RepeatedPoint`, `TooManyLines`, `TooManyPoints`, `TooMuchCost`, `Memory`. An error leaves the
+    /// drawing unchanged.
     pub fn add_line(&mut self, points: Points) -> Result<(), DrawKind>
         ensures answer { Changes (line_added self.old points) self.old result self.new }
         ensures memory { IsErrOf result kind.Memory → IsOk (line_added self.old points) }
@@ -153,7 +154,8 @@ impl DrawingMaker {
         Ok(())
     }
 
-    /// The steps of the drawing's lines and of a further line, or the first fault of that line.
+    /// Returns the number of steps of the drawing's lines and one more line, or the first fault of that
+    /// line.
     fn steps_with(&self, points: &[Point]) -> Result<u32, DrawKind>
         requires { All IsNeedlePoint points.now }
         ensures { result ≡ steps_of_lines_with self.now points.now }
@@ -177,8 +179,8 @@ impl DrawingMaker {
         Ok(steps as u32)
     }
 
-    /// The drawing, where each of its blocks has a line: `NoBlock` where there is no block, then
-    /// `EmptyBlock`. It has no start and no end.
+    /// Returns the finished drawing, without starts and ends. Errors, in this order: `NoBlock` where there
+    /// is no block, `EmptyBlock` where the last block has no line.
     pub fn finish(self) -> Result<Drawing, DrawKind>
         ensures value { result ≡ finished self }
         ensures unended { IfOk result HasNoEnds }
@@ -202,7 +204,7 @@ impl DrawingMaker {
     }
 }
 
-/// Says whether a word may be a label.
+/// Returns whether a word may be a label.
 pub fn is_label_word(word: &[u8]) -> bool
     ensures { result ≡ is_a_label_word word.now }
 {

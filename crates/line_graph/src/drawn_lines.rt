@@ -8,7 +8,7 @@ use crate::drawing::Drawing;
 use crate::line_shape::line_steps;
 use design_model::Point;
 
-/// The points where a line begins and where it ends.
+/// Returns the first and the last point of a line.
 pub fn line_ends(d: &Drawing, line: u32) -> (Point, Point)
     requires { line < length d.now.lines }
     ensures first { first_of (points_of d.now line) ≡ Some result.0 }
@@ -18,7 +18,7 @@ pub fn line_ends(d: &Drawing, line: u32) -> (Point, Point)
     (points[0], points[points.len() - 1])
 }
 
-/// What it costs to sew along a line, in steps.
+/// Returns the cost of a line, in steps.
 pub fn line_cost(d: &Drawing, line: u32) -> u32
     requires { line < length d.now.lines }
     ensures { result ≡ cost_of_line d.now line }
@@ -26,7 +26,7 @@ pub fn line_cost(d: &Drawing, line: u32) -> u32
     line_steps(d.step(), points_to_sew(d, line)) as u32
 }
 
-/// What it costs to sew each line of a drawing once, in steps.
+/// Returns the cost of all lines of a drawing, each once, in steps.
 pub fn drawing_cost(d: &Drawing) -> u32
     ensures { result ≡ step_count d.now.step d.now.lines }
 {
@@ -38,7 +38,7 @@ pub fn drawing_cost(d: &Drawing) -> u32
     cost
 }
 
-/// The points of a line, and what is known of them.
+/// Returns the points of a line, with the limits that they keep.
 fn points_to_sew(d: &Drawing, line: u32) -> &[Point]
     requires { line < length d.now.lines }
     ensures value { result.now ≡ points_of d.now line }

@@ -1,7 +1,7 @@
 use design_model::Items;
 
-/// A line of a piece between two of its junctions: `a` is that of the line's first point, `b` that of
-/// its last. `cost` counts steps.
+/// An edge: a line of a piece, between two of its junctions. `a` is the junction at the line's first point,
+/// `b` the one at its last. `cost` counts steps.
 #[derive(Clone, Copy, Debug, PartialEq, Eq)]
 pub struct Edge {
     pub a: u32,
@@ -9,5 +9,5 @@ pub struct Edge {
     pub cost: u32,
 }
 
-/// The lines of a piece as edges.
+/// The edges of a piece.
 pub type Edges = Items<Edge>;

@@ -13,7 +13,7 @@ use line_sections::Spot;
 use std::alloc::Global;
 use std::marker::Model;
 
-/// A drawing that takes starts and ends of its pieces, one by one.
+/// Adds starts and ends to a joined drawing, one by one.
 #[derive(Debug, Drop)]
 pub struct EndsMaker {
     drawing: Drawing,
@@ -37,7 +37,7 @@ impl Model for EndsMaker {
 }
 
 impl EndsMaker {
-    /// A drawing whose lines meet at ends alone, and which has no start and no end yet.
+    /// Returns a maker for a joined drawing that has no start and no end yet.
     pub fn new(alloc: Global, drawing: Drawing) -> Result<EndsMaker, Memory>
         requires joined { is_joined drawing ≡ true }
         requires unended { HasNoEnds drawing }
@@ -55,22 +55,23 @@ impl EndsMaker {
         })
     }
 
-    /// Adds a start: `NoJunction` where no line of the block begins or ends there, then `EndRepeated` where
-    /// its piece has a start, and then `Memory`. A refusal leaves the drawing as it was.
+    /// Adds a start. Errors, in this order: `NoJunction` where no line of the block has an end at the spot,
+    /// `EndRepeated` where its piece has a start, `Memory`. An error leaves the drawing unchanged.
     pub fn add_start(&mut self, spot: Spot) -> Result<(), DrawKind>
         ensures { Changes (start_added self.old spot) self.old result self.new }
     {
         self.starts.add(&self.drawing, self.labels.as_slice(), spot)
     }
 
-    /// Adds an end, with the same refusals.
+    /// Adds an end. Errors, in this order: `NoJunction` where no line of the block has an end at the spot,
+    /// `EndRepeated` where its piece has an end, `Memory`. An error leaves the drawing unchanged.
     pub fn add_end(&mut self, spot: Spot) -> Result<(), DrawKind>
         ensures { Changes (end_added self.old spot) self.old result self.new }
     {
         self.ends.add(&self.drawing, self.labels.as_slice(), spot)
     }
 
-    /// The drawing with its starts and ends.
+    /// Returns the drawing with its starts and ends.
     pub fn finish(self) -> Drawing
         ensures { result ≡ self }
     {

@@ -11,7 +11,7 @@ use line_sections::Spot;
 use std::alloc::Global;
 use std::collections::HashMap;
 
-/// For each line a link at its first end and one at its last.
+/// Returns two links for each line: from the line to the first line at each of its ends.
 pub fn links(alloc: Global, d: &Drawing) -> Result<Vec<Link>, Memory>
     ensures { IfOk result (λ links. AreLinks d.now links.items) }
 {
@@ -56,7 +56,7 @@ fn add_link(
     Ok(())
 }
 
-/// The first line at a spot, which is this line where no line was there before.
+/// Returns the first line at a spot. The given line becomes the first where there is none yet.
 fn first_line_at(firsts: &mut HashMap<Spot, u32>, spot: Spot, line: u32) -> Result<u32, Memory>
     ensures { IfOk result (TakesSpot spot line (get is_same_spot firsts.old)
         (get is_same_spot firsts.new)) }

@@ -10,16 +10,17 @@ use crate::limits::{MAX_LINES, MAX_POINTS};
 use line_sections::{Line, are_whole, sections, sections_keep_segments, whole_lines_stay};
 use std::alloc::Global;
 
-/// Says whether the lines of a drawing meet at ends alone: no point inside a line is listed at another
-/// place of its block. Takes no memory, and so asks for each such point all others of the block.
+/// Returns whether a drawing is joined: no point inside a line is listed at another place of its block.
+/// Allocates no memory, and therefore compares each such point with all others of the block.
 pub fn joined(d: &Drawing) -> bool
     ensures { result ≡ is_joined d.now }
 {
     are_whole(d.lines())
 }
 
-/// The drawing with its lines replaced by their sections: a line is cut at each point inside it that its
-/// block lists at another place too. The refusals are `TooManyLines`, then `TooManyPoints`, and `Memory`.
+/// Returns the drawing with its lines replaced by their sections: a line is cut at each point inside it
+/// that its block lists at another place too. Errors, in this order: `TooManyLines`, `TooManyPoints`; or
+/// `Memory`.
 pub fn join(alloc: Global, d: &Drawing) -> Result<Drawing, DrawKind>
     ensures answer { IsSaid wants_memory (joined_drawing d.now) result }
     ensures joined { IfOk result (λ whole. is_joined whole ≡ true) }

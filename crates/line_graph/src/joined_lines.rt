@@ -12,7 +12,7 @@ use crate::piece_lines::{lines_with, piece_of};
 use design_model::Memory;
 use std::alloc::Global;
 
-/// All pieces of a drawing, in the order of their first lines.
+/// Returns all pieces of a drawing, in the order of their first lines.
 pub fn pieces(alloc: Global, d: &Drawing) -> Result<Pieces, Memory>
     ensures cut { IfOk result (AreCutFrom d.now) }
     ensures blocks { IfOk result (All (λ piece. piece.block < MAX_BLOCKS)) }
@@ -24,7 +24,7 @@ pub fn pieces(alloc: Global, d: &Drawing) -> Result<Pieces, Memory>
     Ok(pieces)
 }
 
-/// The pieces of lines that have one label.
+/// Returns the pieces by labels: lines with equal labels are one piece.
 fn labelled_pieces(alloc: Global, d: &Drawing, labels: &[u32]) -> Result<Pieces, Memory>
     requires { AreLabels d.now labels.now }
     ensures { IfOk result (AreCutFrom d.now) }
@@ -39,7 +39,7 @@ fn labelled_pieces(alloc: Global, d: &Drawing, labels: &[u32]) -> Result<Pieces,
     Ok(pieces)
 }
 
-/// The piece of the lines with that label.
+/// Returns the piece of the lines with the given label.
 fn labelled_piece(alloc: Global, d: &Drawing, labels: &[u32], label: u32) -> Result<Piece, Memory>
     requires labels { AreLabels d.now labels.now }
     requires there { label < length d.now.lines }

@@ -12,8 +12,7 @@ use design_model::{Memory, Point};
 use indexmap::IndexSet;
 use std::alloc::Global;
 
-/// The edges of these lines. Their ends become the junctions, in the order in which the lines name
-/// them.
+/// Returns the edges of lines. Adds the ends of these lines to the junctions, in the order of the lines.
 pub fn edges(
     alloc: Global,
     d: &Drawing,
@@ -34,7 +33,7 @@ pub fn edges(
     Ok(edges)
 }
 
-/// The edge of a line, whose ends become junctions.
+/// Returns the edge of a line, and adds the line's ends to the junctions.
 fn edge(d: &Drawing, line: u32, junctions: &mut IndexSet<Point>) -> Result<Edge, Memory>
     requires there { line < length d.now.lines }
     requires fits { length junctions.old.keys + 1 < 4294967296 }
@@ -47,7 +46,7 @@ fn edge(d: &Drawing, line: u32, junctions: &mut IndexSet<Point>) -> Result<Edge,
     Ok(Edge { a, b, cost })
 }
 
-/// The number of the junction at that point, which is the next one where there was none.
+/// Returns the number of the junction at a point, and adds the junction if there is none.
 fn number(junctions: &mut IndexSet<Point>, point: Point) -> Result<u32, Memory>
     requires { length junctions.old.keys < 4294967296 }
     ensures number { IfOk result (λ n.

@@ -5,21 +5,21 @@ ghost use Rattle.line_graph.specs.Laws.{NeedlesLeadAlong};
 use line_sections::{sections_keep_segments, whole_lines_stay};
 use step_splitter::split_points_lead;
 
-/// The needle points of each line of a drawing lead along it.
+/// Theorem: the needle points of each line of a drawing lead along the line.
 pub fn needles_lead_along()
     ensures { (d : DrawingValue) → NeedlesLeadAlong d }
 {
     split_points_lead();
 }
 
-/// A drawing whose lines meet at ends alone stays as it is where it is joined.
+/// Theorem: joining a joined drawing changes nothing.
 pub fn joined_drawings_stay()
     ensures { JoinedStay }
 {
     whole_lines_stay();
 }
 
-/// The sections of a drawing cost what its lines do.
+/// Theorem: the sections of a drawing cost as much as its lines.
 pub fn sections_keep_cost()
     ensures { SectionsKeepCost }
 {

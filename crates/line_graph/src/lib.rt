@@ -1,5 +1,5 @@
-//! Drawings of lines in blocks of one thread each, the needles of their lines, and what it means to sew
-//! them.
+//! Drawings of lines in colour blocks of one thread each, and the needle points of their lines. The pieces
+//! of a drawing as graphs, and walks over them as stitches.
 #![tactic(auto)]
 
 mod chosen_spots;

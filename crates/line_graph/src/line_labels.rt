@@ -4,15 +4,15 @@ ghost use Rattle.line_graph.specs.LineLabels.{AreLow, AreOwn, AreSettled, AreWit
 use design_model::Memory;
 use std::alloc::Global;
 
-/// A line, and the first line that has one of its ends.
+/// A link between a line and the first line that has one of its ends.
 #[derive(Clone, Copy, Debug, PartialEq, Eq)]
 pub struct Link {
     pub line: u32,
     pub first: u32,
 }
 
-/// A label for each of so many lines: that of a line that is joined to it and no later. Linked lines
-/// have the same.
+/// Returns a label for each line: the index of a connected line that is no later. Linked lines have equal
+/// labels.
 pub fn labels(alloc: Global, links: &[Link], count: u32) -> Result<Vec<u32>, Memory>
     requires { AreWithin count links.now }
     ensures value { IfOk result (λ labels. Labels links.now labels.items) }
@@ -23,7 +23,7 @@ pub fn labels(alloc: Global, links: &[Link], count: u32) -> Result<Vec<u32>, Mem
     Ok(labels)
 }
 
-/// Each line's own index.
+/// Returns the initial labels: each line's own index.
 fn own_labels(alloc: Global, count: u32) -> Result<Vec<u32>, Memory>
     ensures { IfOk result (λ labels. AreOwn count labels.items) }
 {
@@ -34,7 +34,7 @@ fn own_labels(alloc: Global, count: u32) -> Result<Vec<u32>, Memory>
     Ok(labels)
 }
 
-/// Lowers labels until linked lines have the same.
+/// Lowers labels until linked lines have equal labels.
 fn settle(labels: &mut Vec<u32>, links: &[Link])
     requires low { AreLow labels.old.items }
     requires within { AreWithin (length labels.old.items) links.now }
@@ -43,7 +43,7 @@ fn settle(labels: &mut Vec<u32>, links: &[Link])
     while sweep(labels, links) {}
 }
 
-/// Lowers the labels at each link, and says whether any changed.
+/// Lowers the labels at each link, and returns whether any changed.
 fn sweep(labels: &mut Vec<u32>, links: &[Link]) -> bool
     requires low { AreLow labels.old.items }
     requires within { AreWithin (length labels.old.items) links.now }
@@ -56,8 +56,8 @@ fn sweep(labels: &mut Vec<u32>, links: &[Link]) -> bool
     changed
 }
 
-/// Lowers the labels of two linked lines, and of the lines that are their labels, to the lesser label
-/// of the latter two. As labels of labels fall too, few sweeps are enough.
+/// Lowers the labels of two linked lines, and of the lines that are these labels, to the lesser label of
+/// the latter two. Since labels of labels fall too, few sweeps are enough.
 fn join(labels: &mut Vec<u32>, link: Link) -> bool
     requires low { AreLow labels.old.items }
     requires line { link.line < length labels.old.items }
@@ -74,7 +74,7 @@ fn join(labels: &mut Vec<u32>, link: Link) -> bool
     either(either(at_first, at_line), either(at_other_label, at_label))
 }
 
-/// Gives a line the label, unless its own is no greater.
+/// Lowers a line's label to the given one if that is less, and returns whether it did.
 fn lower(labels: &mut Vec<u32>, line: u32, label: u32) -> bool
     requires { line < length labels.old.items }
     ensures { Lowered line label labels.old.items labels.new.items result }

@@ -7,7 +7,7 @@ ghost use Rattle.line_graph.specs.Needles.{line_steps as steps_of_line};
 use design_model::{NEEDLE_LIMIT, Point};
 use step_splitter::{MAX_STEP, steps};
 
-/// Says whether needles may go down at all of the points.
+/// Returns whether the needle can reach all of the points.
 pub fn are_in_range(points: &[Point]) -> bool
     ensures { result ≡ all_in_range points.now }
 {
@@ -21,7 +21,7 @@ pub fn are_in_range(points: &[Point]) -> bool
     true
 }
 
-/// Says whether a point is the same as the one before.
+/// Returns whether some point equals the one before it.
 pub fn has_repeat(points: &[Point]) -> bool
     ensures { result ≡ has_a_repeat points.now }
 {
@@ -40,7 +40,7 @@ pub fn has_repeat(points: &[Point]) -> bool
     false
 }
 
-/// The steps of a line at the longest step `step`.
+/// Returns the number of steps of a line at the longest step `step`.
 pub fn line_steps(step: u32, points: &[Point]) -> u64
     requires low { 1 ≤ step }
     requires high { step ≤ MAX_STEP }

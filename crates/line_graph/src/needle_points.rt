@@ -11,8 +11,8 @@ use line_sections::first_point;
 use std::alloc::Global;
 use step_splitter::split;
 
-/// The needle points of a line at the drawing's step: its first point, and then the points that its
-/// segments are split at.
+/// Returns the needle points of a line at the drawing's longest step: its first point, and the points that
+/// its segments are split at.
 pub fn needles(alloc: Global, d: &Drawing, line: u32) -> Result<Points, Memory>
     requires there { line < length d.now.lines }
     ensures value { IfOk result (λ points. points ≡ needles_of d.now line) }

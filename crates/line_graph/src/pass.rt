@@ -1,12 +1,12 @@
 use design_model::Items;
 
-/// A passage along a line: `line` is its index in the drawing. It goes from the line's first point to
-/// its last, or the other way where `back` is set.
+/// A pass: a line that a walk follows once. `line` is its index in the drawing. A pass goes from the line's
+/// first point to its last, or the other way where `back` is set.
 #[derive(Clone, Copy, Debug, PartialEq, Eq)]
 pub struct Pass {
     pub line: u32,
     pub back: bool,
 }
 
-/// Passes, one after another.
+/// A walk: passes, one after another.
 pub type Walk = Items<Pass>;

@@ -3,13 +3,14 @@ ghost use Rattle.line_graph.specs.KeptPieces.{KeepsPiece};
 use crate::edge::Edges;
 use design_model::{Items, Numbers, Points};
 
-/// Lines of one block that chains of shared junctions join, as a graph.
+/// A piece as a graph: the lines of a connected component, which are of one block and connected by shared
+/// ends.
 ///
-/// `lines` are indexes of the drawing's lines, rising. `junctions` are the ends of these lines, each
-/// once, in the order in which the lines name them, a line's first point before its last. `edges` has
+/// `lines` are indexes of the drawing's lines, in increasing order. `junctions` (the vertices) are the ends
+/// of these lines, each once, in the order of the lines, a line's first point before its last. `edges` has
 /// an entry for each line in the same order, and `degrees` the number of line ends at each junction.
-/// `start` and `end` are indexes of junctions: where a walk over the piece is to begin and to end, if
-/// anything is said of it.
+/// `start` and `end` are indexes of junctions: where a walk over the piece must start and end, if the
+/// drawing names them.
 #[derive(Debug, Drop)]
 pub struct Piece {
     pub block: u32,

@@ -15,7 +15,7 @@ use line_sections::Spot;
 use std::alloc::Global;
 use step_splitter::split_points_lead;
 
-/// The piece of these lines.
+/// Returns the piece that consists of the given lines.
 pub fn piece_of(alloc: Global, d: &Drawing, lines: Numbers) -> Result<Piece, Memory>
     requires { IsPart d.now lines }
     ensures { IfOk result (λ piece. graph_of piece ≡ the_piece_of d.now lines) }
@@ -40,7 +40,7 @@ pub fn piece_of(alloc: Global, d: &Drawing, lines: Numbers) -> Result<Piece, Mem
     })
 }
 
-/// The number of the first of the spots that is a junction of the block, if one of them is.
+/// Returns the number of the first spot that is a junction of the block, if there is one.
 fn number_among(block: u32, junctions: &IndexSet<Point>, spots: &[Spot]) -> Option<u32>
     requires { length junctions.now.keys ≤ 4294967295 }
     ensures { result ≡ the_number_among block junctions.now.keys spots.now }
@@ -55,7 +55,7 @@ fn number_among(block: u32, junctions: &IndexSet<Point>, spots: &[Spot]) -> Opti
     None
 }
 
-/// The number of the junction of the block at that spot, if there is one.
+/// Returns the number of the junction at a spot, if the block has one there.
 fn number_at(block: u32, junctions: &IndexSet<Point>, spot: Spot) -> Option<u32>
     requires { length junctions.now.keys ≤ 4294967295 }
     ensures { result ≡ the_number_at block junctions.now.keys spot }
@@ -67,7 +67,7 @@ fn number_at(block: u32, junctions: &IndexSet<Point>, spot: Spot) -> Option<u32>
     Some(number as u32)
 }
 
-/// The graph of these lines keeps what each piece keeps.
+/// Lemma: the graph of the given lines is a valid piece.
 fn are_kept(d: &Drawing, lines: &[u32])
     requires { IsPart d.now lines.now }
     ensures { KeepsPiece (the_piece_of d.now lines.now) }
@@ -83,7 +83,7 @@ fn first(lines: &[u32]) -> u32
     lines[0]
 }
 
-/// The lines with that label, rising.
+/// Returns the lines with the given label, in increasing order.
 pub fn lines_with(alloc: Global, labels: &[u32], label: u32) -> Result<Numbers, Memory>
     requires small { length labels.now ≤ 4294967295 }
     requires there { label < length labels.now }

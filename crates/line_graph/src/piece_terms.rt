@@ -7,23 +7,23 @@ ghost use Rattle.line_graph.specs.PieceWalks.{cost_of, edge_sum, piece_cost};
 use crate::edge::Edge;
 use crate::piece::Piece;
 
-/// What is asked of a walk over a piece: where it begins, where it ends, and what it costs at least.
+/// The requirements on a walk over a piece: where it starts and ends, and the least that it can cost.
 impl Piece {
-    /// The junction where a walk is to begin, if that is said: the piece's start, else its end.
+    /// Returns the junction where a walk must start, if one is given: the piece's start, else its end.
     pub fn from(&self) -> Option<u32>
         ensures { result ≡ from_of (graph_of self.now) }
     {
         self.start.or(self.end)
     }
 
-    /// The junction where a walk is to end, if that is said: the piece's end, else its start.
+    /// Returns the junction where a walk must end, if one is given: the piece's end, else its start.
     pub fn to(&self) -> Option<u32>
         ensures { result ≡ to_of (graph_of self.now) }
     {
         self.end.or(self.start)
     }
 
-    /// What the lines cost, each once, in steps.
+    /// Returns the cost of the lines, each once, in steps.
     pub fn cost(&self) -> u32
         ensures value { result ≡ piece_cost (graph_of self.now) }
         ensures most { result ≤ MAX_COST }

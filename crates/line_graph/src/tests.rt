@@ -6,7 +6,7 @@ use design_model::{Point, Points};
 use std::alloc::Global;
 use std::test::Fail;
 
-/// What a drawing grows by: a block of that thread, or a line through these places.
+/// A part of a drawing in the making: a block of the given thread, or a line through the given places.
 #[derive(Clone, Copy)]
 enum Part {
     Block(u8),
@@ -134,7 +134,7 @@ fn the_needles_of_a_line_are_its_points_and_those_between(rt: HostRuntime) -> Re
     Ok(())
 }
 
-/// Adds so many lines through these places, each in a block of its own where it is to be.
+/// Adds the given number of lines through the given places, each in a block of its own if `apart` is set.
 fn add_lines(
     alloc: Global,
     maker: &mut DrawingMaker,

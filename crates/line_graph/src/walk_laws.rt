@@ -5,32 +5,31 @@ ghost use Rattle.line_graph.specs.WalkEnds.{SpotsAreJoined};
 
 use crate::laws::needles_lead_along;
 
-/// The design of runs that each have a needle sews these runs.
+/// Theorem: the design of runs sews the runs, where each has a needle point.
 pub fn runs_are_sewn()
     ensures { RunsAreSewn }
 {}
 
-/// A fitting walk over a piece of a drawing can be sewn: its needles are one more than it costs, and
-/// each lies within the drawing's step of the one before.
+/// Theorem: a fitting walk over a piece of a drawing can be sewn. The walk has one needle point more than
+/// it costs steps, and each lies within the drawing's step of the one before.
 pub fn fitting_walks_are_sewable()
     ensures { FittingWalksAreSewable }
 {
     needles_lead_along();
 }
 
-/// The pieces of a drawing cost no more than the drawing may and are no more than its lines, and walks
-/// along them in order have no more stops between them than there are blocks behind the first.
+/// Theorem: the pieces of a drawing are within its limits in cost and number. Walks that follow the pieces
+/// in order have no more stops between them than there are blocks after the first.
 pub fn pieces_keep_limits()
     ensures { PiecesKeepLimits }
 {}
 
-/// A drawing has one list of pieces.
+/// Theorem: a drawing has only one list of pieces.
 pub fn pieces_are_one()
     ensures { PiecesAreOne }
 {}
 
-/// Starts and ends are told apart by pieces: lines lead from one junction to another where a chain of lines
-/// that touch joins lines at them.
+/// Theorem: two junctions are connected by lines exactly where the lines that end there are connected.
 pub fn spots_are_joined()
     ensures { SpotsAreJoined }
 {}

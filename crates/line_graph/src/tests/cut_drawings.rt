@@ -7,7 +7,7 @@ use design_model::{Numbers, Point};
 use std::alloc::Global;
 use std::test::Fail;
 
-/// What a piece is to be: its block, its lines, junctions, edges and degrees.
+/// An expected piece: its block, its lines, junctions, edges and degrees.
 #[derive(Clone, Copy)]
 struct Wanted {
     block: u32,
@@ -27,7 +27,7 @@ const TRIANGLES: [Part; 7] = [
     Line(&[(90, 20), (90, 0)]),
 ];
 
-/// A stick and a closed line at its end, in a block behind one with the same stick.
+/// A stick and a closed line at its end, in a block after one with the same stick.
 const LOLLIPOP: [Part; 5] = [
     Block(1),
     Line(&[(0, 0), (20, 0)]),
@@ -43,8 +43,8 @@ const THETA: [Part; 4] = [
     Line(&[(0, 0), (0, -25), (10, -25), (10, 0)]),
 ];
 
-/// Two lines that cross where both have a point, one that ends inside the first, and one that joins
-/// the ends of the other two.
+/// Two lines that cross where both have a point, one that ends inside the first, and one that connects the
+/// ends of the other two.
 const CROSSING: [Part; 5] = [
     Block(1),
     Line(&[(0, 0), (10, 10), (20, 20)]),
@@ -133,7 +133,7 @@ fn edges(alloc: Global, ends: &[(u32, u32, u32)]) -> Result<Edges, DrawKind> {
     Ok(edges)
 }
 
-/// Says whether a piece is the one that is wanted.
+/// Returns whether a piece is the expected one.
 fn is_wanted(alloc: Global, piece: &Piece, wanted: &Wanted) -> Result<bool, DrawKind> {
     let junctions = points(alloc, wanted.junctions)?;
     let edges = edges(alloc, wanted.edges)?;
@@ -191,7 +191,7 @@ fn columns(alloc: Global) -> Result<Drawing, DrawKind> {
     maker.finish()
 }
 
-/// Says whether a piece has the lines of a column: from the first on every fourth.
+/// Returns whether a piece has the lines of a column: every fourth from the first on.
 fn is_column(alloc: Global, piece: &Piece, block: u32, first: u32) -> Result<bool, DrawKind>
     requires { first < 60 }
 {

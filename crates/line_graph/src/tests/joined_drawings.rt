@@ -30,7 +30,7 @@ fn a_joined_drawing_has_the_sections_of_its_lines(rt: HostRuntime) -> Result<(),
     Ok(())
 }
 
-/// A line of so many points, no two of which are the same, after one through ten of them.
+/// A line of the given number of points, no two of which are equal, after one line through ten of them.
 fn long_drawing(alloc: Global, count: i32) -> Result<Drawing, DrawKind> {
     let mut maker = DrawingMaker::new(alloc, b"", 2_047);
     maker.add_block(1)?;
@@ -64,7 +64,7 @@ fn sections_have_so_many_points(rt: HostRuntime) -> Result<(), Fail> {
     Ok(())
 }
 
-/// A line to and fro, so that each point inside it is listed again.
+/// A line to and fro, such that each point inside it is listed again.
 fn shuttle(alloc: Global, count: i32) -> Result<Drawing, DrawKind> {
     let mut maker = DrawingMaker::new(alloc, b"", 2_047);
     maker.add_block(1)?;
