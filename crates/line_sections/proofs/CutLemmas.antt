@@ -1,4 +1,4 @@
--- Marks tell where lines are cut, and sections that are made point by point are those of the line.
+-- Marks decide where lines are cut, and sections that are made point by point are those of the line.
 use Rattle.std.proofs.Common.{◌≡◌, ◌<◌, ℕ, zero, suc, ◌+◌, ◌==◌, Bool, true, false, ◌&&◌, nat_le, cond, List, [], ◌∷◌, ◌++◌, Option, Some, None, is_some, map, sum_by, ap, sym, subst, ◌∙◌, refl, append_assoc, append-nil, length, not, arith}
 use Rattle.std.proofs.lemmas.Bool.Decides.{nat_tests}
 use Rattle.std.proofs.lemmas.List.Concat.{flat_map-cons}
@@ -74,7 +74,7 @@ spot_marked spot again old new is updates all left marked = record {
 pub none_marked : (all : List Spot) (marks : Marks) → ((spot : Spot) → marks spot ≡ None) → AreMarked all all marks
 none_marked all marks none = record { before = []; split = refl; told = none }
 
--- how many points of a block are at a spot, line by line
+-- the number of points of a block at a spot, line by line
 spot_counts : (block : ℕ) (p : Point) (lines : List LineValue)
     → count_by (is_same_spot (spot_at block p)) (flat_map spots_of lines) ≡ sum_by (counted (is_same_point p) block) lines
 spot_counts block p [] = refl
@@ -116,7 +116,7 @@ spot_counts block p (line ∷ rest) =
         → sum_by one (map (spot_at line.block) points) ≡ cond (line.block == block) (count_by (is_same_point p) points) 0
     in_line points = by_test points (line.block == block) (equal_turned block line.block (line.block == block) refl)
 
--- the marks of all points tell where lines are cut
+-- the marks of all points decide where lines are cut
 again_is : (n : ℕ) → is_again (mark_of n) ≡ nat_le 2 n
 again_is zero = refl
 again_is (suc zero) = refl

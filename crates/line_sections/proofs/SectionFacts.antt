@@ -70,20 +70,20 @@ pub known_point : AreCut (lines_through 3 ((at 1 1 ∷ []) ∷ [] ∷ [])) (line
     × (segments_of (at 1 1 ∷ []) ≡ [])
 known_point = (refl, refl)
 
--- the same place in another block is another spot, and so is another place
+-- an equal point in another block is another spot, and so is another point
 pub known_spots : map (is_same_spot (record { block = 1; at = at 3 4 })) (record { block = 1; at = at 3 4 }
     ∷ record { block = 0; at = at 3 4 }
     ∷ record { block = 1; at = at 4 3 } ∷ []) ≡ true ∷ false ∷ false ∷ []
 known_spots = refl
 
--- from the second time on a spot was listed again
+-- from the second time on a spot is listed again
 pub known_marks : map mark_of (0 ∷ 1 ∷ 2 ∷ 3 ∷ []) ≡ None ∷ Some false ∷ Some true ∷ Some true ∷ []
 known_marks = refl
 
 pub known_again : map is_again (None ∷ Some false ∷ Some true ∷ []) ≡ false ∷ false ∷ true ∷ []
 known_again = refl
 
--- the law on segments speaks of lines of two points, and that on whole lines of those of one
+-- the theorem on segments is about lines of two points, and that on whole lines about lines of one point
 pub known_two_points : SectionsHaveSegments → (is_cut : Point → Bool) (p q : Point)
     → All (λ section. 2 ≤ length section) (sections_of is_cut (p ∷ q ∷ []))
 known_two_points law is_cut p q = law is_cut (p ∷ q ∷ []) (omega arith)

@@ -1,4 +1,4 @@
--- Spots that are found to be the same.
+-- Spots that are found to be equal.
 use Rattle.std.proofs.Common.{◌≡◌, ℕ, ℤ, ◌==◌, true, refl, arith}
 use Rattle.std.proofs.Math.Path.{ap₂}
 use Rattle.std.proofs.lemmas.Bool.{and_parts}
@@ -26,7 +26,7 @@ same_spot a b found =
     let both = and_parts (a.block == b.block) (is_same_point a.at b.at) found in
     ap₂ make (same a.block b.block both.0) (same_is a.at b.at both.1)
 
--- a spot is found to be the same as itself
+-- a spot is found to be equal to itself
 pub spot_found : (a : Spot) → is_same_spot a a ≡ true
 spot_found a =
     let block : (a.block == a.block) ≡ true = grind (arith, nat_tests) in

@@ -1,6 +1,6 @@
 pub mod Lines
 pub mod Spots
--- read this one first: where lines are cut, and what sections they have
+-- Read this one first: where lines are cut, and the sections of a line.
 pub mod Sections
--- of the inside
+-- Used only inside this crate.
 pub mod ListedPoints

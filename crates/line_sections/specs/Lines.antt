@@ -1,8 +1,8 @@
--- Lines in blocks as contracts see them. Indexes of blocks count from 0.
+-- Lines in colour blocks as contracts see them. Indexes of blocks count from 0.
 use Rattle.std.specs.Prelude.{ℕ, List}
 use Rattle.design_model.specs.declared.point.Point.{Point}
 
--- a line: the block that it belongs to, and its points
+-- A line: the index of its block, and its points.
 pub record LineValue : Type 0 where
   pub block : ℕ
   pub points : List Point

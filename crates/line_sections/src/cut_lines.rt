@@ -13,8 +13,8 @@ use design_model::{Memory, Point, Points};
 use std::alloc::Global;
 use std::collections::HashMap;
 
-/// The sections of all lines, in order: a line is cut at each point inside it that its block lists at another
-/// place too.
+/// Returns the sections of all lines, in order: a line is cut at each point inside it that its block lists
+/// at another place too.
 pub fn sections(alloc: Global, lines: &[Line]) -> Result<Vec<Line>, Memory>
     ensures value { IfOk result (λ sections. sections.items ≡ all_sections lines.now) }
     ensures whole { IfOk result (λ sections. are_whole sections.items ≡ true) }
@@ -67,7 +67,7 @@ fn put_sections(
     Ok(())
 }
 
-/// Says whether a section ends at that point, behind which these points are left.
+/// Returns whether a section ends at a point, after which the given points are left.
 fn ends_section(marks: &HashMap<Spot, bool>, block: u32, at: Point, after: &[Point]) -> bool
     ensures { result ≡ (has_points after.now && cuts_by (get is_same_spot marks.now) block at) }
 {
@@ -77,7 +77,8 @@ fn ends_section(marks: &HashMap<Spot, bool>, block: u32, at: Point, after: &[Poi
     }
 }
 
-/// The section that goes on: the same one, or where that ends the next one, which begins at its last point.
+/// Returns the section that continues: the given one, or the next one, which begins at the point where the
+/// given one ends.
 fn section_after(
     alloc: Global,
     is_end: bool,

@@ -1,4 +1,5 @@
-//! Lines in blocks, and the sections that they are cut into where their block lists a point again.
+//! Lines in colour blocks, and the sections that they are cut into at points that their block lists more
+//! than once.
 #![tactic(auto)]
 
 mod cut_lines;

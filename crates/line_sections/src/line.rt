@@ -19,21 +19,21 @@ impl Model for Line {
 }
 
 impl Line {
-    /// The line of a block through these points.
+    /// Returns the line of a block through the given points.
     pub fn new(block: u32, points: Points) -> Self
         ensures { result ≡ record { block = block; points = points } }
     {
         Line { block, points }
     }
 
-    /// The index of the block.
+    /// Returns the index of the block.
     pub fn block(&self) -> u32
         ensures { result ≡ self.now.block }
     {
         self.block
     }
 
-    /// The points, in tenths of a millimetre.
+    /// Returns the points, in tenths of a millimetre.
     pub fn points(&self) -> &[Point]
         ensures { result.now ≡ self.now.points }
     {

@@ -9,7 +9,7 @@ use design_model::{Memory, Point};
 use std::alloc::Global;
 use std::collections::HashMap;
 
-/// For each place where a block lists a point, whether it lists it again.
+/// Returns for each spot that a block lists whether it lists the spot again.
 pub fn listed_points(alloc: Global, lines: &[Line]) -> Result<HashMap<Spot, bool>, Memory>
     ensures { IfOk result (λ marks. TellCuts lines.now (get is_same_spot marks)) }
 {
@@ -50,7 +50,7 @@ fn is_listed(marks: &HashMap<Spot, bool>, spot: Spot) -> bool
     marks.contains_key(&spot)
 }
 
-/// Says whether a line of the block is cut at that point inside it.
+/// Returns whether a line of the block is cut at a point inside it.
 pub fn is_cut(marks: &HashMap<Spot, bool>, block: u32, at: Point) -> bool
     ensures { result ≡ cuts_by (get is_same_spot marks.now) block at }
 {

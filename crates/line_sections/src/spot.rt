@@ -1,6 +1,6 @@
 use design_model::Point;
 
-/// A place in a block: the block's index, and a point in tenths of a millimetre.
+/// A spot: a point in a colour block, as the block's index and a point in tenths of a millimetre.
 #[derive(Clone, Copy, Debug, PartialEq, Eq, Hash)]
 pub struct Spot {
     pub block: u32,

@@ -37,7 +37,7 @@ const CASES: [Case; 5] = [
             (1, &[(10, -10), (10, 0), (10, 10)]),
         ],
     },
-    // A line that meets itself, and one that comes back to where it begins.
+    // A line that meets itself, and one that returns to where it begins.
     Case {
         before: &[
             (0, &[(0, 0), (5, 5), (9, 0), (5, 5), (0, 9)]),
@@ -51,7 +51,7 @@ const CASES: [Case; 5] = [
             (0, &[(30, 0), (30, 7)]),
         ],
     },
-    // A closed line keeps its ends; its sections stand along it.
+    // A closed line keeps its ends, and its sections follow it.
     Case {
         before: &[
             (0, &[(0, 0), (3, 0), (3, 3), (0, 3), (0, 0)]),

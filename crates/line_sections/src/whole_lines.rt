@@ -7,8 +7,8 @@ use crate::line::Line;
 use crate::points::first_point;
 use design_model::Point;
 
-/// Says whether the lines meet at ends alone: no point inside a line is listed at another place of its block.
-/// Takes no memory, and so asks for each such point all others of the block.
+/// Returns whether the lines meet only at their ends: no point inside a line is listed at another place of
+/// its block. Allocates no memory, and therefore compares each such point with all others of the block.
 pub fn are_whole(lines: &[Line]) -> bool
     ensures { result ≡ all_are_whole lines.now }
 {
@@ -45,7 +45,7 @@ fn is_whole(lines: &[Line], line: &Line) -> bool
     true
 }
 
-/// Says whether a line of the block is cut at that point, behind which these points are left.
+/// Returns whether a line of the block is cut at a point, after which the given points are left.
 fn is_cut(lines: &[Line], block: u32, at: Point, after: &[Point]) -> bool
     ensures { result ≡ (has_points after.now && is_shared_among lines.now block at) }
 {

@@ -3,7 +3,7 @@ use Rattle.std.specs.List.{list_all}
 use Rattle.line_sections.specs.Sections.{is_whole}
 use Rattle.line_sections.proofs.whole_lines.are_whole_among.Given as goal
 
--- the lines so far are whole, so all depends on those that are left
+-- the lines so far are whole, and the result depends on those that are left
 abbrev pub invariant-loop-rest : goal.invariant-loop-rest
 invariant-loop-rest l = list_all (is_whole l.lines) l.some ≡ list_all (is_whole l.lines) l.rest
 

@@ -4,7 +4,7 @@ use Rattle.design_model.specs.Points.{is_same_point}
 use Rattle.line_sections.specs.Sections.{listed_in}
 use Rattle.line_sections.proofs.whole_lines.is_shared.Given as goal
 
--- of two places the lines so far have left some, and the others are wanted in the lines that are left
+-- the lines so far have some of the two places, and the others are counted in the lines that are left
 abbrev pub invariant-loop-rest : goal.invariant-loop-rest
 invariant-loop-rest l = record {
   counted : l.wanted + count_by (is_same_point l.at) (listed_in l.lines l.block)
