@@ -44,7 +44,7 @@ module _ (m : RefitMode) (limit : ℕ) (acts left : List NumberedAct) (out : Lis
   abbrev pub so_far : List Act
   so_far = refitted_acts m limit (bare g.before)
 
-  -- with the act, its own acts come behind those so far
+  -- with the act, its own acts follow those so far
   with_act : refitted_acts m limit (bare (g.before ++ a ∷ [])) ≡ so_far ++ instead
   with_act = g.more (a ∷ []) ∙ ap (λ xs. so_far ++ xs) (append-nil instead)
 

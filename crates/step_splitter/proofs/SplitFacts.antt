@@ -17,7 +17,7 @@ known_floor = refl
 pub known_floor_whole : floor_quotient (negsuc 5) 3 ≡ negsuc 1
 known_floor_whole = refl
 
--- the greatest of the longest steps that may be asked for, in tenths of a millimetre
+-- the greatest value of a longest step, in tenths of a millimetre
 pub known_most : MAX_STEP ≡ 2047
 known_most = refl
 

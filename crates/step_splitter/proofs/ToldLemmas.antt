@@ -1,4 +1,4 @@
--- The commands of refitted acts tell these acts again.
+-- The commands of refitted acts have these acts again.
 use Rattle.std.proofs.Common.{◌≡◌, ℕ, ◌+◌, Bool, true, false, not, ◌&&◌, List, [], ◌∷◌, ◌++◌, refl, ap, ◌∙◌}
 use Rattle.std.specs.Prelude.{if◌then◌else◌}
 use Rattle.design_model.specs.declared.act.Act.{Act}
@@ -34,7 +34,7 @@ follows_told n true jumped (command.Trim ∷ rest) = follows_told (n + 1) true j
 follows_told n false jumped (command.Trim ∷ rest) = (refl, follows_told (n + 1) true false rest)
 follows_told n loose jumped (command.Stop ∷ rest) = follows_told (n + 1) true false rest
 
--- the commands of such acts tell them again
+-- the commands of such acts have these acts again
 told_again : (n : ℕ) (loose : Bool) (acts : List Act) → Follows loose acts
     → bare (acts_from n loose false (commands_of acts)) ≡ acts
 told_again n loose [] follows = refl
@@ -49,7 +49,7 @@ told_again n false (act.Trim ∷ rest) follows =
 told_again n loose (act.Stop ∷ rest) follows =
     ap (λ acts. act.Stop ∷ acts) (told_again (n + 1) true rest follows)
 
--- needles that are no floats leave the thread fast
+-- after needle acts that are no floats the thread isn't loose
 follows_needles : (points : List Point) (rest : List Act) → Follows false rest
     → Follows false (needles_at points ++ rest)
 follows_needles [] rest follows = follows

@@ -1,4 +1,4 @@
--- How far a refit has come. Only clauses inside this crate cite it.
+-- The state of a refit between two acts. Only clauses inside this crate cite this file.
 use Rattle.std.specs.Prelude.{◌≡◌, ℕ, ◌+◌, ◌<◌, ◌≤◌, Bool, List, ◌++◌, length, Result, Ok, Err}
 use Rattle.design_model.specs.declared.act.NumberedAct.{NumberedAct}
 use Rattle.design_model.specs.declared.command.Command.{Command}
@@ -12,7 +12,8 @@ use Rattle.step_splitter.specs.declared.refitting.RefitFault.TheVariants as faul
 use Rattle.step_splitter.specs.declared.refitting.RefitMode.{RefitMode}
 use Rattle.step_splitter.specs.Refits.{refitted_acts, refitted_commands, refitted_from, IsFirstPast}
 
--- what each answer means where commands of the act with that number are added
+-- A call adds the commands of one act to a design. The fault `TooMany` has the number of the act
+-- with which the design would have too many commands.
 abbrev pub Adds : {T : Type 0} → ℕ → List Command → DesignValue → Result T RefitFault → DesignValue
     → Type 0
 Adds number commands old (Ok _) new =
@@ -21,7 +22,8 @@ Adds number commands old (Err (fault.TooMany n)) new =
     (n ≡ number) × (MAX_COMMANDS < length old.commands + length commands)
 Adds number commands old (Err fault.Memory) new = Unit {0}
 
--- the commands of the acts so far are there, and what is refitted goes on from there
+-- A refit after some acts of a design. The output has the commands of these acts, and the acts left
+-- are refitted from the current state of the thread and the current needle point.
 pub record GoesOn (m : RefitMode) (limit : ℕ) (acts : List NumberedAct) (out : List Command)
     (loose : Bool)
     (place : Point) (left : List NumberedAct) : Type 0 where
@@ -31,14 +33,15 @@ pub record GoesOn (m : RefitMode) (limit : ℕ) (acts : List NumberedAct) (out :
   pub more : (rest : List NumberedAct) → refitted_acts m limit (bare (before ++ rest))
       ≡ refitted_acts m limit (bare before) ++ refitted_from m limit loose place (bare rest)
 
--- what a refusal of those acts means
+-- The meaning of a fault of a refit: `TooMany` at the first act with a command too many, or out of
+-- memory.
 abbrev pub RefuseActs : RefitMode → ℕ → List NumberedAct → RefitFault → Type 0
 RefuseActs m limit acts (fault.TooMany number) =
     (MAX_COMMANDS < length (refitted_commands m limit acts)) × IsFirstPast m limit acts number
 RefuseActs m limit acts fault.Memory = Unit {0}
 
--- what each answer means where the commands of all refitted acts are added to a
--- design without commands
+-- A call adds the commands of all refitted acts to a design without commands, or fails with its
+-- first fault.
 abbrev pub RefitsAll : {T : Type 0} → RefitMode → ℕ → List NumberedAct → DesignValue
     → Result T RefitFault
     → DesignValue → Type 0

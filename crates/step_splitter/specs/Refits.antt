@@ -1,4 +1,6 @@
--- Designs whose acts are made to fit a limit, which is in whole tenths of a millimetre. Own rules.
+-- Refits: designs whose acts are changed to suit a format. A refit splits long stitches or replaces
+-- floats by trims. The limit is the longest stitch on each axis, in whole tenths of a millimetre.
+-- Own rules.
 use Rattle.std.specs.Prelude.{◌≡◌, ℕ, ◌<◌, ◌≤◌, Bool, true, false, not, ◌&&◌, ◌||◌, IsTrue, List, [], ◌∷◌, ◌++◌, length, map, Result, Ok, Err, if◌then◌else◌}
 use Rattle.std.specs.List.{list_all}
 use Rattle.design_model.specs.declared.act.Act.{Act}
@@ -18,96 +20,97 @@ use Rattle.step_splitter.specs.declared.refitting.RefitMode.{RefitMode}
 use Rattle.step_splitter.specs.declared.refitting.RefitMode.TheVariants as mode
 use Rattle.step_splitter.specs.Steps.{split_points}
 
--- one point lies farther than the limit from the other, on one axis
+-- Two points are farther apart than the limit, on some axis.
 abbrev pub is_far : ℕ → Point → Point → Bool
 is_far limit p q = not (is_within limit (move_between p q))
 
--- needles at those points, none of them a float
+-- Needle acts at the given points, none of them a float.
 abbrev pub needles_at : List Point → List Act
 needles_at points = map (λ p. act.Needle p false) points
 
--- a needle too far from the one before, if neither loose nor a float, gives way to the
--- ends of the steps to it
+-- The acts for one needle act, where long stitches are split. A stitch longer than the limit
+-- becomes several steps. A needle act after a trim or stop, and a float, stay.
 abbrev pub split_needle : ℕ → Bool → Point → Point → Bool → List Act
 split_needle limit loose place p true = act.Needle p true ∷ []
 split_needle limit loose place p false =
     if not loose && is_far limit place p then needles_at (split_points place p limit)
     else act.Needle p false ∷ []
 
--- a float gives way to a trim and the needle
+-- The acts for one needle act, where floats are replaced: a float becomes a trim and a needle act.
 abbrev pub cut_needle : Point → Bool → List Act
 cut_needle p true = act.Trim ∷ act.Needle p false ∷ []
 cut_needle p false = act.Needle p false ∷ []
 
--- the acts in the place of a needle; the thread is loose or not, and the needle
--- before was at that place
+-- The acts for one needle act in the given mode. The thread is loose (after a trim or a stop) or
+-- not, and the needle act before was at the given place.
 abbrev pub refitted_needle : RefitMode → ℕ → Bool → Point → Point → Bool → List Act
 refitted_needle mode.Split limit loose place p float = split_needle limit loose place p float
 refitted_needle mode.Cut limit loose place p float = cut_needle p float
 
--- the acts in the place of one
+-- The acts for one act in the given mode.
 abbrev pub refitted_act : RefitMode → ℕ → Bool → Point → Act → List Act
 refitted_act m limit loose place (act.Needle p float) = refitted_needle m limit loose place p float
 refitted_act m limit loose place act.Trim = act.Trim ∷ []
 refitted_act m limit loose place act.Stop = act.Stop ∷ []
 
--- the acts in the place of some, from there on
+-- The acts for a list of acts, from the given state of the thread and the given place on.
 abbrev pub refitted_from : RefitMode → ℕ → Bool → Point → List Act → List Act
 refitted_from m limit loose place [] = []
 refitted_from m limit loose place (a ∷ rest) = refitted_act m limit loose place a
     ++ refitted_from m limit (is_loose_after a) (place_after place a) rest
 
--- the acts in the place of a design's
+-- The acts of a refitted design, for the acts of the design.
 abbrev pub refitted_acts : RefitMode → ℕ → List Act → List Act
 refitted_acts m limit acts = refitted_from m limit true origin acts
 
--- a needle that is neither loose nor a float is no farther than the limit from the one before
+-- A needle act that is neither loose nor a float is within the limit of the one before.
 abbrev pub is_near_act : ℕ → Bool → Point → Act → Bool
 is_near_act limit loose place (act.Needle p true) = true
 is_near_act limit loose place (act.Needle p false) = loose || is_within limit (move_between place p)
 is_near_act limit loose place act.Trim = true
 is_near_act limit loose place act.Stop = true
 
--- so is each such needle of those acts
+-- Each needle act of a list that is neither loose nor a float is within the limit of the one
+-- before.
 abbrev pub KeepsNear : ℕ → Bool → Point → List Act → Type 0
 KeepsNear limit loose place [] = Unit {0}
 KeepsNear limit loose place (a ∷ rest) =
     IsTrue (is_near_act limit loose place a) × KeepsNear limit (is_loose_after a)
     (place_after place a) rest
 
--- an act that is no float
+-- An act is no float.
 abbrev pub is_no_float : Act → Bool
 is_no_float (act.Needle p float) = not float
 is_no_float act.Trim = true
 is_no_float act.Stop = true
 
--- what a refit of that mode is for: no needle is too far from the one before, or no act is a float
+-- The purpose of a refit, by its mode: no stitch is longer than the limit, or no act is a float.
 abbrev pub Fits : RefitMode → ℕ → List Act → Type 0
 Fits mode.Split limit acts = KeepsNear limit true origin acts
 Fits mode.Cut limit acts = IsTrue (list_all is_no_float acts)
 
--- the commands of an act: a float is a jump and a stitch
+-- The commands of an act: a jump and a stitch for a float, one command for each other act.
 abbrev pub commands_of_act : Act → List Command
 commands_of_act (act.Needle p true) = command.Jump p ∷ command.Stitch p ∷ []
 commands_of_act (act.Needle p false) = command.Stitch p ∷ []
 commands_of_act act.Trim = command.Trim ∷ []
 commands_of_act act.Stop = command.Stop ∷ []
 
--- the commands of acts
+-- The commands of a list of acts.
 abbrev pub commands_of : List Act → List Command
 commands_of [] = []
 commands_of (a ∷ rest) = commands_of_act a ++ commands_of rest
 
--- the commands of the acts in the place of those
+-- The commands of a refitted design, for the acts of the design.
 abbrev pub refitted_commands : RefitMode → ℕ → List NumberedAct → List Command
 refitted_commands m limit acts = commands_of (refitted_acts m limit (bare acts))
 
--- the design with the commands of the acts in the place of its own
+-- The refitted design: the same design with the commands of its refitted acts.
 abbrev pub refitted_design : RefitMode → ℕ → DesignValue → DesignValue
 refitted_design m limit d = record d { commands = refitted_commands m limit (acts_of d) }
 
--- with the act of the command of that number, and with none before, there are more
--- commands than a design may have
+-- The act of the command with the given number is the first with which a refitted design would have
+-- too many commands.
 pub record IsFirstPast (m : RefitMode) (limit : ℕ) (acts : List NumberedAct)
     (number : ℕ) : Type 0 where
   pub before : List NumberedAct
@@ -118,7 +121,8 @@ pub record IsFirstPast (m : RefitMode) (limit : ℕ) (acts : List NumberedAct)
   pub fits : length (refitted_commands m limit before) ≤ MAX_COMMANDS
   pub passes : MAX_COMMANDS < length (refitted_commands m limit (before ++ act ∷ []))
 
--- what each answer of a refit means
+-- The result of a refit: the refitted design, or `TooMany` at the first act with a command too
+-- many, or out of memory.
 abbrev pub Refits : RefitMode → ℕ → DesignValue → Result DesignValue RefitFault → Type 0
 Refits m limit d (Ok refitted) = (length (refitted_commands m limit (acts_of d)) ≤ MAX_COMMANDS)
     × (refitted ≡ refitted_design m limit d)

@@ -1,6 +1,6 @@
 ghost use Rattle.step_splitter.specs.Chains.{SplitPointsLead};
 
-/// The ends of the steps of a segment lead along it, by steps that are no longer than asked for.
+/// Theorem: the ends of a segment's steps lead from its start to its end, by steps within the longest step.
 pub fn split_points_lead()
     ensures { SplitPointsLead }
 {}

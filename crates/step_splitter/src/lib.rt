@@ -1,5 +1,5 @@
-//! Straight segments of stitching, taken apart into steps that are short enough, and designs whose
-//! acts are made to fit a limit.
+//! Straight segments of stitching, split into short enough steps, and designs whose acts are changed to
+//! suit a format.
 #![tactic(auto)]
 
 mod laws;

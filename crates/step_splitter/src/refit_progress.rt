@@ -17,7 +17,7 @@ use crate::segment::split;
 use design_model::{Act, Command, Design, ModelFault, NumberedAct, Point};
 use std::alloc::Global;
 
-/// How far a refit has come: whether the thread is loose, and where the last needle was.
+/// The state of a refit between two acts: whether the thread is loose, and where the last needle act was.
 #[derive(Clone, Copy, Debug, PartialEq, Eq)]
 pub struct Progress {
     pub loose: bool,
@@ -35,7 +35,7 @@ impl Progress {
         }
     }
 
-    /// Adds the commands of the acts in the place of the next act, if there is one, and goes on behind it.
+    /// Adds the commands for the next act, if there is one, and updates the state.
     #[tactic(auto, using(crate::proofs::RefitLemmas::goes_on, crate::proofs::RefitLemmas::refused))]
     pub fn put_next(
         &mut self,
@@ -66,7 +66,7 @@ impl Progress {
         }
     }
 
-    /// Adds the commands of the acts in the place of one, and goes on behind it.
+    /// Adds the commands for an act, and updates the state.
     fn put_act(
         &mut self,
         alloc: Global,
@@ -122,7 +122,7 @@ fn put_refitted(
     }
 }
 
-/// Adds the commands of a needle, or of the needles at the ends of the steps to it.
+/// Adds the commands of a needle act, or of the needle acts at the ends of the steps to it.
 fn put_split(
     alloc: Global,
     out: &mut Design,
@@ -150,7 +150,7 @@ fn put_split(
     put_steps(alloc, out, limit, before.place, at, number)
 }
 
-/// Adds the commands of the needles at the ends of the steps from one far place to the other.
+/// Adds the commands of the needle acts at the ends of the steps from one place to a far one.
 #[tactic(auto, using(crate::proofs::RefitLemmas::stitches_at))]
 fn put_steps(
     alloc: Global,
@@ -173,7 +173,7 @@ fn put_steps(
     put_stitches(out, points.as_slice(), number)
 }
 
-/// Adds the commands of a needle, behind a trim where it is a float.
+/// Adds the commands of a needle act, after a trim where it is a float.
 fn put_cut(out: &mut Design, at: Point, float: bool, number: u32) -> Result<(), RefitFault>
     requires at { IsNeedlePoint at }
     ensures { Adds number (commands_of (cut_needle at float)) out.old result out.new }

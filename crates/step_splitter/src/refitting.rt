@@ -11,23 +11,22 @@ use crate::refit_progress::Progress;
 use design_model::{ActWalk, Command, Design, Memory};
 use std::alloc::Global;
 
-/// How acts are made to fit a limit.
+/// The change that a refit makes.
 #[derive(Clone, Copy, Debug, PartialEq, Eq)]
 pub enum RefitMode {
-    /// A needle that lies too far from the one before gives way to the ends of the steps to it,
-    /// unless it is loose or a float.
+    /// A needle act too far from the one before becomes needle acts at the ends of the steps to it. A
+    /// needle act with loose thread and a float stay.
     Split,
-    /// A float gives way to a trim and a needle that is no float.
+    /// A float becomes a trim and a needle act that is no float.
     Cut,
 }
 
-/// Why a design was not refitted.
+/// The reason why a design was not refitted.
 #[derive(Clone, Copy, Debug, PartialEq, Eq)]
 pub enum RefitFault {
-    /// With the act of the command of that number, counted from 1, there would be more commands
-    /// than a design may have.
+    /// The design would have too many commands with the act of the command of this number, counted from 1.
     TooMany { number: u32 },
-    /// Memory was wanted and not found.
+    /// Memory could not be allocated.
     Memory,
 }
 
@@ -41,8 +40,10 @@ impl From<Memory> for RefitFault {
     }
 }
 
-/// A design with the same label and threads, whose acts are made to fit the limit, in tenths of a
-/// millimetre. Its commands are a jump and a stitch for a float, and one for each other act.
+/// Returns a design with the same label and threads, whose acts are changed in the given mode. The limit is
+/// the longest stitch on each axis, in tenths of a millimetre. A float has two commands, a jump and a
+/// stitch, and each other act has one. Errors: `TooMany` at the first act with a command too many; or
+/// `Memory`.
 #[tactic(auto, using(crate::proofs::ToldLemmas::refitted_told, crate::proofs::FitLemmas::refitted_fits))]
 pub fn refit(
     alloc: Global,

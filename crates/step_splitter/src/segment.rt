@@ -7,10 +7,10 @@ use crate::way::point_at;
 use design_model::{Memory, Point, Points};
 use std::alloc::Global;
 
-/// The greatest of the longest steps that may be asked for, in tenths of a millimetre.
+/// The greatest value of a longest step, in tenths of a millimetre.
 pub const MAX_STEP: u32 = 2_047;
 
-/// The number of steps from `p` to `q`, each at most `step` in size on each axis.
+/// Returns the number of steps from `p` to `q`, each at most `step` in size on each axis.
 pub fn steps(p: Point, q: Point, step: u32) -> u32
     requires differ { p ≢ q }
     requires from { IsNeedlePoint p }
@@ -25,8 +25,8 @@ pub fn steps(p: Point, q: Point, step: u32) -> u32
     longer.div_ceil(step)
 }
 
-/// The ends of the steps from `p` to `q`, each step at most `step` in size on each axis. `p` is not
-/// among them, and `q` is the last.
+/// Returns the ends of the steps from `p` to `q`, each step at most `step` in size on each axis. The list
+/// has `q` as its last point, and not `p`.
 pub fn split(alloc: Global, p: Point, q: Point, step: u32) -> Result<Points, Memory>
     requires differ { p ≢ q }
     requires from { IsNeedlePoint p }

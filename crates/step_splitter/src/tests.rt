@@ -169,7 +169,7 @@ fn a_refit_stops_at_the_act_with_a_command_too_many(rt: HostRuntime) -> Result<(
     Ok(())
 }
 
-/// A label, a thread, and 10,000 commands: needles, floats of 150 and trims, or stops at three places.
+/// A label, a thread, and 10,000 commands: needle acts, floats of 150 and trims, or stops at three places.
 fn large(alloc: Global) -> Result<Design, ModelFault> {
     let mut design = Design::new(alloc);
     design.set_label(b"Rose of Damascus");

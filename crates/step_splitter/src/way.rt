@@ -5,14 +5,14 @@ ghost use Rattle.step_splitter.specs.Steps.{number_at, point_at as point_on_the_
 
 use design_model::Point;
 
-/// Two numbers, and the way from one to the other.
+/// A segment on one axis, from one number to another.
 #[derive(Clone, Copy)]
 struct Span {
     from: i32,
     to: i32,
 }
 
-/// The point that lies `index` parts of `count` on the way from `p` to `q`.
+/// Returns the point that divides the segment from `p` to `q` after `index` of `count` equal parts.
 pub fn point_at(p: Point, q: Point, count: u32, index: u32) -> Point
     requires from { IsNeedlePoint p }
     requires to { IsNeedlePoint q }
@@ -28,7 +28,7 @@ pub fn point_at(p: Point, q: Point, count: u32, index: u32) -> Point
     }
 }
 
-/// The number that lies `index` parts of `count` on the way.
+/// Returns the number that divides the span after `index` of `count` equal parts.
 fn number_on(span: Span, count: u32, index: u32) -> i32
     requires from { unsigned_abs span.from ≤ NEEDLE_LIMIT }
     requires to { unsigned_abs span.to ≤ NEEDLE_LIMIT }
@@ -44,7 +44,7 @@ fn number_on(span: Span, count: u32, index: u32) -> i32
     }
 }
 
-/// The distance covered after `index` parts of `count`, rounded down.
+/// Returns the distance covered after `index` of `count` equal parts, rounded down.
 fn part(distance: u32, count: u32, index: u32) -> u32
     requires some { 1 ≤ count }
     requires there { index ≤ count }
@@ -54,7 +54,7 @@ fn part(distance: u32, count: u32, index: u32) -> u32
     (index as u64 * distance as u64 / count as u64) as u32
 }
 
-/// The distance covered after `index` parts of `count`, rounded up.
+/// Returns the distance covered after `index` of `count` equal parts, rounded up.
 fn part_up(distance: u32, count: u32, index: u32) -> u32
     requires some { 1 ≤ count }
     requires there { index ≤ count }
