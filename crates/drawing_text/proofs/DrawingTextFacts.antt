@@ -19,7 +19,7 @@ known_limit = refl
 abbrev text : List (List ℕ) → List ℕ
 text lines = flat_map (λ line. line ++ 10 ∷ []) lines
 
--- bytes behind the last line feed are a line, and an empty line is one
+-- bytes after the last line feed are a line, and an empty line is one
 pub known_lines : text_lines (codes "a" ++ 10 ∷ 10 ∷ codes "b") ≡ codes "a" ∷ [] ∷ codes "b" ∷ []
 known_lines = refl
 
@@ -58,7 +58,7 @@ pub known_drawing : drawing_of (text (codes "# squares" ∷ [] ∷ codes " redwo
     ≡ Ok two_squares
 known_drawing = refl
 
--- the least and the greatest numbers, and the step 25 where none is said; a comment's hash sign may have letters behind it
+-- the least and the greatest numbers, and the step 25 where none is given; letters may follow a comment's hash sign
 pub known_widest : drawing_of (text (codes "redwork 1" ∷ codes "color 255" ∷ codes "#wide" ∷ codes "line -30000 30000 0 0" ∷ codes "color 0"
     ∷ codes "line 0 0 30000 -30000" ∷ []))
     ≡ Ok (record {
@@ -72,7 +72,7 @@ pub known_widest : drawing_of (text (codes "redwork 1" ∷ codes "color 255" ∷
     })
 known_widest = refl
 
--- the longest step, and a name behind it
+-- the longest step, and a name after it
 pub known_named : drawing_of (text (codes "redwork 1" ∷ codes "step 2047" ∷ codes "name ab" ∷ codes "color 1" ∷ codes "line 0 0 3 4" ∷ []))
     ≡ Ok (record {
       label = codes "ab";
@@ -101,7 +101,7 @@ crossed = drawn (lines_through 0 ((place (pos 0) (pos 0) ∷ place (pos 10) (pos
     ∷ (place (pos 10) (negsuc 9) ∷ place (pos 10) (pos 0) ∷ [])
     ∷ (place (pos 10) (pos 0) ∷ place (pos 10) (pos 10) ∷ []) ∷ []))
 
--- a text says its drawing in the version that it names, and each says one as version 2
+-- a text is read in the version that it names, and each text of version 1 is read as version 2 too
 pub known_versions : (drawing_of (text (codes "redwork 1" ∷ crossing)) ≡ Ok uncut)
     × (drawing_of (text (codes "redwork 2" ∷ crossing)) ≡ Ok crossed)
     × (drawing_as2 (text (codes "redwork 1" ∷ crossing)) ≡ Ok crossed)
@@ -112,7 +112,7 @@ known_versions = (refl, refl, refl, refl)
 abbrev Tells : List (List ℕ) → ℕ → DrawKind → Type 0
 Tells lines number why = drawing_of (text lines) ≡ Err (record { number = number; kind = why })
 
--- the header, compared as words: the first line that isn't passed over, or the one behind the text
+-- the header, compared as words: the first line that isn't ignored, or the one after the text
 pub known_headers : Tells [] 1 kind.BadHeader
     × Tells (codes "# a" ∷ [] ∷ []) 3 kind.BadHeader
     × Tells (codes "redwork 01" ∷ []) 1 kind.BadHeader
@@ -122,7 +122,7 @@ pub known_headers : Tells [] 1 kind.BadHeader
     × Tells (codes "redworks 1" ∷ []) 1 kind.BadHeader
 known_headers = (refl, refl, refl, refl, refl, refl, refl)
 
--- behind the header
+-- after the header
 abbrev Faults : List (List ℕ) → ℕ → DrawKind → Type 0
 Faults lines number why = Tells (codes "redwork 1" ∷ lines) number why
 
@@ -147,7 +147,7 @@ pub known_steps : Faults (codes "step" ∷ []) 2 kind.BadWord
     × Faults (codes "step 9999999999999999999x" ∷ []) 2 kind.BadNumber
 known_steps = (refl, refl, refl, refl, refl, refl, refl, refl)
 
--- an empty block is met at the next block or at the end, and told of where it was opened
+-- an empty block is found at the next block or at the end, and reported where it was opened
 pub known_blocks : Faults (codes "color 1 2" ∷ []) 2 kind.BadWord
     × Faults (codes "color 256" ∷ []) 2 kind.OutOfRange
     × Faults (codes "color -1" ∷ []) 2 kind.OutOfRange

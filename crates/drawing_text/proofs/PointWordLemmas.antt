@@ -21,7 +21,7 @@ behind_one : (points : List Point) (p : Point) (rest : Result (List Point) DrawK
 behind_one points p (Ok more) = ap (λ list. Ok list) (sym (append_assoc points (p ∷ []) more))
 behind_one points p (Err why) = refl
 
--- the words so far spell these points, and the rest goes on
+-- the words so far denote these points, and the rest is read after them
 pub record GoesOn (words rest : List ℕ) (points : List Point) : Type 0 where
   pub spelled : points_in (words_in words) ≡ behind points (points_in (words_in rest))
 

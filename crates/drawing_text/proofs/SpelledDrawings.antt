@@ -1,4 +1,4 @@
--- The plain spelling of a drawing is read as that drawing.
+-- The canonical text of a drawing is read as that drawing.
 use Rattle.std.proofs.Common.{◌≡◌, ◌≢◌, ℕ, zero, suc, ◌+◌, ◌-◌, ◌<◌, ◌≤◌, ◌==◌, Bool, true, false, not, nat_lt, List, [], ◌∷◌, ◌++◌, Result, Ok, length, codes, sum_by, All, ap, sym, subst, ◌∙◌, refl, append_assoc, append-nil, length-append, arith}
 use Rattle.std.proofs.Math.Path.{ap₂}
 use Rattle.std.proofs.lemmas.Bool.Decides.{nat_tests}
@@ -36,7 +36,7 @@ abbrev ReadsOn : Version → DrawingValue → DrawingValue → List ℕ → Type
 ReadsOn version d so_far text = (number opened : ℕ) (named : Bool)
     → drawn_after version number (draft_of named opened so_far) (words_by_line text) ≡ Ok d
 
--- so many lines may come to the last block
+-- the drawing has room for n more lines in the last block
 record MayFollow (d : DrawingValue) (lines : List LineValue) : Type 0 where
   block : 1 ≤ length d.threads
   inside : All (λ line. line.block ≡ length d.threads - 1) lines
@@ -85,7 +85,7 @@ same_line : (d : DrawingValue) (line : LineValue) → line.block ≡ length d.th
     → with_line d line.points ≡ with_lines d (line ∷ [])
 same_line d line is = ap (λ (block : ℕ). with_lines d (record { block = block; points = line.points } ∷ [])) (sym is)
 
--- spelled lines are read, and then what stands behind them
+-- printed lines are read, and then what follows them
 lines_read : (version : Version) (d so_far : DrawingValue) (lines : List LineValue) (rest : List ℕ) → MayFollow so_far lines
     → ReadsOn version d (with_lines so_far lines) rest → ReadsOn version d so_far (flat_map line_text lines ++ rest)
 lines_read version d so_far [] rest may on number opened named =
@@ -143,7 +143,7 @@ all_middle P (x ∷ before) thread left all =
 filled : (b : ℕ) (rest : List ℕ) → b ∷ rest ≢ []
 filled b rest none = cc
 
--- what lines say, the header among them
+-- the drawing of text lines, the header among them
 abbrev said : List (List (List ℕ)) → Result DrawingValue DrawFault
 said lines = and_then (body_from 1 lines) (λ body. said_in body.version body)
 
@@ -222,7 +222,7 @@ module _ (version : Version) (d : DrawingValue) (keeps : KeepsDrawing d) (unende
         );
       }
 
-  -- behind the last block the drawing is whole
+  -- after the last block the drawing is complete
   whole : (before : List ℕ) (block : ℕ) → length before ≡ block → before ++ [] ≡ d.threads → so_far d before block ≡ d
   whole before block count are =
       let threads : before ≡ d.threads = sym (append-nil before) ∙ are in
@@ -233,7 +233,7 @@ module _ (version : Version) (d : DrawingValue) (keeps : KeepsDrawing d) (unende
       ∙ (ap (λ (list : List LineValue). record d { lines = list; starts = []; ends = [] }) lines
       ∙ ap₂ (λ (starts ends : List Spot). record d { starts = starts; ends = ends }) (sym unended.starts) (sym unended.ends))
 
-  -- spelled blocks are read
+  -- printed blocks are read
   blocks_read : (left before : List ℕ) (block : ℕ) → length before ≡ block → before ++ left ≡ d.threads
       → ReadsOn version d (so_far d before block) (blocks_text block left d.lines)
   blocks_read [] before block count are number opened named =

@@ -1,4 +1,4 @@
--- What the spelled lines of a drawing text say when they are judged.
+-- The drafts after the lines of a canonical text.
 use Rattle.std.proofs.Common.{◌≡◌, ◌≢◌, ℕ, ◌+◌, ◌<◌, ◌≤◌, ◌==◌, Bool, true, false, nat_le, nat_lt, unsigned_abs, List, [], ◌∷◌, ◌++◌, Result, Ok, length, codes, All, ap, ◌∙◌, refl, append_assoc, arith}
 use Rattle.std.proofs.lemmas.Bool.{and_from, and_parts, false_from_ne_true, or_from}
 use Rattle.std.proofs.lemmas.Bool.Decides.{nat_tests}
@@ -25,7 +25,7 @@ use Rattle.drawing_text.specs.Spelling.{points_text}
 use Rattle.drawing_text.specs.TextLines.{blank_drawing, first_draft, judged, points_in}
 use Rattle.drawing_text.specs.Words.{words_by_line}
 
--- the next line is judged, and then those behind it
+-- the next line is read, and then those after it
 pub line_judged : (version : Version) (number : ℕ) (draft next : Draft) (word : List ℕ) (words : List (List ℕ)) (rest : List ℕ)
     → IsWord word
     → AreWords words → judged version number draft (word ∷ words) ≡ Ok next
@@ -109,7 +109,7 @@ pub record HasRoom (d : DrawingValue) (points : List Point) : Type 0 where
   pub points_to : point_count d.lines + length points ≤ 65536
   pub steps_to : step_count d.step d.lines + line_steps d.step points ≤ 200000
 
--- a spelled line is added to the drawing
+-- the line of a text line is added to the drawing
 pub line_says : (version : Version) (number opened : ℕ) (named : Bool) (d : DrawingValue) (points : List Point) → IsLine points
     → HasRoom d points
     → judged version number (draft_of named opened d) (codes "line" ∷ coordinates points) ≡ Ok (draft_of named opened (with_line d points))
@@ -131,7 +131,7 @@ line_says version number opened named d points able room =
       cheap,
     ) refl
 
--- a spelled block is added to it
+-- the block of a text is added to the drawing
 pub color_says : (version : Version) (number opened : ℕ) (named : Bool) (d : DrawingValue) (thread : ℕ) → thread < 256
     → is_last_empty d ≡ false
     → length d.threads < 255

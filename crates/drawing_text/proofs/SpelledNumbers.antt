@@ -1,4 +1,4 @@
--- Numbers as words: what is spelled is read again.
+-- Numbers as words: what is printed is read again.
 use Rattle.std.proofs.Common.{◌≡◌, ℕ, ℤ, pos, negsuc, suc, ◌<◌, ◌≤◌, ◌^◌, ◌==◌, Bool, true, false, nat_le, unsigned_abs, List, [], ◌∷◌, length, ◌∙◌, refl, arith}
 use Rattle.std.proofs.lemmas.Bool.{and_from, and_parts}
 use Rattle.std.proofs.lemmas.Bool.Decides.{nat_tests}
@@ -64,7 +64,7 @@ no_minus minus (b ∷ ds) digits some =
     let test : (b == 45) ≡ false = grind (arith, nat_tests, both.0) in
     rw test refl
 
--- the spelling of a number spells that number
+-- the numeral of a number denotes that number
 pub decimal_read : (n : ℕ) → n ≤ 999999999 → whole_of (decimal n) ≡ whole.Value (pos n)
 decimal_read n small =
     let fits : n < 2 ^ 64 = omega (arith, small) in

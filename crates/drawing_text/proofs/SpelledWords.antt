@@ -16,7 +16,7 @@ is_kept b = not (is_line_feed b || b == 13)
 abbrev pub is_inner : ℕ → Bool
 is_inner b = not (is_blank b) && is_kept b
 
--- a word that can be spelled
+-- a word that can be printed
 pub record IsWord (word : List ℕ) : Type 0 where
   pub filled : is_filled word ≡ true
   pub inner : list_all is_inner word ≡ true
@@ -97,7 +97,7 @@ spaced_words word [] is are = ap words_in (append-nil word) ∙ last_word word i
 spaced_words word (next ∷ words) is are =
     word_cut word (next ++ spaced words) is ∙ ap (λ more. word ∷ more) (spaced_words next words are.0 are.1)
 
--- the words of a line are read as they were spelled
+-- the words of a line are read as they were printed
 pub line_read : (word : List ℕ) (words : List (List ℕ)) (rest : List ℕ) → IsWord word → AreWords words
     → words_by_line (word ++ (tail_of words ++ rest)) ≡ (word ∷ words) ∷ words_by_line rest
 line_read word words rest is are =

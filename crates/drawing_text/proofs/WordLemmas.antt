@@ -37,7 +37,7 @@ pub some_line : (text : List ℕ) → text ≢ [] → FirstLine text
 some_line [] some = absurd (some refl)
 some_line (b ∷ rest) some = line_by (is_line_feed b) b rest refl (some_line rest)
 
--- what stands before the first blank is the first part of a line; what stands behind it has the other words
+-- the bytes before the first blank are the first part of a line; those after it have the other words
 record Parts (line : List ℕ) : Type 0 where
   more : List (List ℕ)
   split : slice_split is_blank line ≡ take (position_or_len is_blank line) line ∷ more
@@ -72,7 +72,7 @@ first_word b rest test =
     let end = position_or_len is_blank rest in
     (rw (test, parts.split, take_next end b rest, drop_next end b rest, parts.words), rw test (omega arith))
 
--- what stands before the first byte of a word has no word
+-- the bytes before the first byte of a word have no word
 abbrev pub start_of : List ℕ → ℕ
 start_of line = position_or_len is_solid line
 
@@ -95,14 +95,14 @@ pub some_word : (line : List ℕ) → drop (start_of line) line ≢ [] → First
 some_word [] some = absurd (some refl)
 some_word (b ∷ rest) some = word_by (is_blank b) b rest refl (some_word rest) some
 
--- behind the blanks there is nothing, or a word
+-- after the blanks there is nothing, or a word
 pub no_word : (line from : List ℕ) (start : ℕ) → start ≡ start_of line → from ≡ drop start line → length from ≡ 0
     → words_in line ≡ []
 no_word line from start starts are none =
     let empty : drop (start_of line) line ≡ [] = nil_from_length _ (rw (← starts, ← are) none) in
     words_skipped line ∙ ap words_in empty
 
--- a word at the beginning of a line, and what stands behind it
+-- a word at the beginning of a line, and what follows it
 pub record Taken (line word rest : List ℕ) : Type 0 where
   pub words : words_in line ≡ word ∷ words_in rest
   pub shorter : length rest < length line

@@ -1,4 +1,4 @@
--- words of the crate below that public clauses cite
+-- Definitions of a lower crate that public clauses cite.
 pub use Rattle.line_graph.specs.Drawings
 pub use Rattle.line_graph.specs.Growing
 pub use Rattle.line_graph.specs.JoinedDrawings
@@ -6,5 +6,5 @@ pub use Rattle.line_graph.specs.WalkEnds
 pub mod Words
 pub mod Spelling
 pub mod TextLines
--- read this one first: the drawing that a text says, or its first fault
+-- Read this one first: the drawing that a text describes, or its first fault.
 pub mod DrawingText

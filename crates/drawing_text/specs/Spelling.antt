@@ -1,5 +1,6 @@
--- The plain spelling of a drawing, as bytes of ASCII. Own format: each line ends with the byte 10,
--- words stand one space (32) apart, and numbers have no leading zeros.
+-- The canonical text of a drawing, as bytes of ASCII (elsewhere called the plain spelling). Own
+-- format: each line ends with the byte 10, words are separated by one space (32), and numbers have
+-- no leading zeros.
 use Rattle.std.specs.Prelude.{ℕ, ◌+◌, ◌==◌, if◌then◌else◌, List, [], ◌∷◌, ◌++◌, length, codes, filter}
 use Rattle.std.specs.Fmt.{decimal, signed_decimal}
 use Rattle.std.specs.List.{flat_map}
@@ -9,56 +10,57 @@ use Rattle.line_graph.specs.Drawings.{DrawingValue}
 use Rattle.drawing_text.specs.declared.version.Version.{Version}
 use Rattle.drawing_text.specs.declared.version.Version.TheVariants as version
 
--- a point: two numbers, each after a space
+-- The text of a point: two numbers, each after a space.
 abbrev pub point_text : Point → List ℕ
 point_text p = (32 ∷ signed_decimal p.x) ++ (32 ∷ signed_decimal p.y)
 
--- the points of a line, and the end of the line
+-- The text of a line's points, and the end of the text line.
 abbrev pub points_text : List Point → List ℕ
 points_text [] = 10 ∷ []
 points_text (p ∷ rest) = point_text p ++ points_text rest
 
--- a line of the drawing
+-- The text line of a line of the drawing.
 abbrev pub line_text : LineValue → List ℕ
 line_text line = codes "line" ++ points_text line.points
 
--- the lines of one block, in order
+-- The lines of one block, in order.
 abbrev pub lines_in : ℕ → List LineValue → List LineValue
 lines_in block lines = filter (λ line. line.block == block) lines
 
--- a text line of one word and one number; the word brings its space
+-- A text line of a keyword and one number. The keyword includes its space.
 abbrev pub number_text : List ℕ → ℕ → List ℕ
 number_text word number = word ++ (decimal number ++ 10 ∷ [])
 
--- a block: its thread, and its lines
+-- The text of a block: its thread and its lines.
 abbrev pub block_text : ℕ → ℕ → List LineValue → List ℕ
 block_text block thread lines =
     number_text (codes "color ") thread ++ flat_map line_text (lines_in block lines)
 
--- the blocks from that one on, with these threads
+-- The text of blocks with the given threads, from the given block on.
 abbrev pub blocks_text : ℕ → List ℕ → List LineValue → List ℕ
 blocks_text block [] lines = []
 blocks_text block (thread ∷ rest) lines =
     block_text block thread lines ++ blocks_text (block + 1) rest lines
 
--- the label, which is left out where it is empty
+-- The text line of the label, or nothing for an empty label.
 abbrev pub label_text : List ℕ → List ℕ
 label_text label = if length label == 0 then [] else codes "name " ++ (label ++ 10 ∷ [])
 
--- the words of the first line
+-- The words of the header, by version.
 abbrev pub header_text : Version → List ℕ
 header_text version.One = codes "redwork 1"
 header_text version.Two = codes "redwork 2"
 header_text version.Three = codes "redwork 3"
 
--- the whole text of a drawing, in a version
+-- The canonical text of a drawing in a version.
 abbrev pub spelling_in : Version → DrawingValue → List ℕ
 spelling_in version d = header_text version ++ (10 ∷ (label_text d.label
     ++ (number_text (codes "step ") d.step ++ blocks_text 0 d.threads d.lines)))
 
--- the same in version 1, and in version 2
+-- The canonical text of a drawing in version 1.
 abbrev pub plain_spelling : DrawingValue → List ℕ
 plain_spelling = spelling_in version.One
 
+-- The canonical text of a drawing in version 2.
 abbrev pub plain_spelling2 : DrawingValue → List ℕ
 plain_spelling2 = spelling_in version.Two

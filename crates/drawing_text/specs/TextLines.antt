@@ -1,5 +1,5 @@
--- What one line of a drawing text says after the lines before it. Numbers are in tenths of a
--- millimetre, lines of the text count from 1.
+-- The draft of a drawing after one more line of its text, or the fault of that line. Numbers are in
+-- tenths of a millimetre, lines of the text are numbered from 1.
 use Rattle.std.specs.Prelude.{ℕ, ℤ, pos, negsuc, ◌-◌, ◌==◌, Bool, true, false, not, ◌&&◌, ◌||◌, nat_le, unsigned_abs, List, [], ◌∷◌, ◌++◌, Option, Some, None, Result, Ok, Err, length, bytes_eq, codes, if◌then◌else◌}
 use Rattle.design_model.specs.declared.point.Point.{Point}
 use Rattle.design_model.specs.declared.point.TheConstants.{NEEDLE_LIMIT}
@@ -16,25 +16,26 @@ use Rattle.drawing_text.specs.declared.version.Version.{Version}
 use Rattle.drawing_text.specs.declared.version.Version.TheVariants as version
 use Rattle.drawing_text.specs.Words.{is_comment, only_word}
 
--- a number that is from low to high
+-- A number from low to high, or the fault that it is out of range.
 abbrev pub count_from : ℕ → ℕ → ℤ → Result ℕ DrawKind
 count_from low high (pos n) = if nat_le low n && nat_le n high then Ok n else Err kind.OutOfRange
 count_from low high (negsuc n) = Err kind.OutOfRange
 
--- the same of what a word spells
+-- The number from low to high that a word denotes, or its fault.
 abbrev pub count_in : ℕ → ℕ → Whole → Result ℕ DrawKind
 count_in low high whole.NotANumber = Err kind.BadNumber
 count_in low high whole.Outside = Err kind.OutOfRange
 count_in low high (whole.Value n) = count_from low high n
 
--- a coordinate of a needle point that a word spells
+-- The coordinate of a needle point that a word denotes, or its fault.
 abbrev pub coordinate_in : Whole → Result ℤ DrawKind
 coordinate_in whole.NotANumber = Err kind.BadNumber
 coordinate_in whole.Outside = Err kind.OutOfRange
 coordinate_in (whole.Value n) = if nat_le (unsigned_abs n) NEEDLE_LIMIT then Ok n
     else Err kind.OutOfRange
 
--- the points of words that are coordinates, x before y; a number left over is too few for a point
+-- The points that words denote, each by two coordinates, x before y, or the first fault. A single
+-- coordinate at the end is the fault `FewPoints`.
 abbrev pub points_in : List (List ℕ) → Result (List Point) DrawKind
 points_in [] = Ok []
 points_in (x ∷ []) = and_then (coordinate_in (whole_of x)) (λ across. Err kind.FewPoints)
@@ -43,27 +44,27 @@ points_in (x ∷ y ∷ rest) =
     and_then (coordinate_in (whole_of y)) (λ down.
     and_then (points_in rest) (λ points. Ok (record { x = across; y = down } ∷ points))))
 
--- the point of two words that are coordinates, x before y
+-- The point that two words denote by its coordinates, x before y, or the fault.
 abbrev pub point_in : List (List ℕ) → Result Point DrawKind
 point_in (x ∷ y ∷ []) =
     and_then (coordinate_in (whole_of x)) (λ across.
     and_then (coordinate_in (whole_of y)) (λ down. Ok (record { x = across; y = down })))
 point_in words = Err kind.BadWord
 
--- the drawing before anything is said of it; its longest step is 25 where none is given
+-- The drawing of an empty text, without blocks and with the longest step 25.
 abbrev pub blank_drawing : DrawingValue
 blank_drawing = drawing_begun [] 25
 
--- nothing was said but the header
+-- The draft after the header.
 abbrev pub first_draft : Draft
 first_draft =
     record { drawing = blank_drawing; named = false; stepped = false; opened = 0; ends = [] }
 
--- no block was begun
+-- A draft has no block yet.
 abbrev pub is_before_blocks : Draft → Bool
 is_before_blocks draft = length draft.drawing.threads == 0
 
--- what a line says that has the word "name" and this one
+-- The draft after a line with the keyword "name" and the given word, or the fault of that line.
 abbrev pub named : Draft → Option (List ℕ) → Result Draft DrawKind
 named draft None = Err kind.BadWord
 named draft (Some word) =
@@ -71,7 +72,7 @@ named draft (Some word) =
     then Ok (record draft { named = true; drawing = record draft.drawing { label = word } })
     else Err kind.BadWord
 
--- what a line says that has the word "step" and this one
+-- The draft after a line with the keyword "step" and the given word, or the fault of that line.
 abbrev pub stepped : Draft → Option (List ℕ) → Result Draft DrawKind
 stepped draft None = Err kind.BadWord
 stepped draft (Some word) =
@@ -79,7 +80,8 @@ stepped draft (Some word) =
     else and_then (count_in 1 MAX_STEP (whole_of word)) (λ step.
     Ok (record draft { stepped = true; drawing = record draft.drawing { step = step } }))
 
--- what the line of that number says that has the word "color" and this one
+-- The draft after the text line of the given number, with the keyword "color" and the given word,
+-- or the fault of that line.
 abbrev pub coloured : ℕ → Draft → Option (List ℕ) → Result Draft DrawKind
 coloured number draft None = Err kind.BadWord
 coloured number draft (Some word) =
@@ -87,15 +89,15 @@ coloured number draft (Some word) =
     and_then (block_added draft.drawing thread) (λ drawing.
     Ok (record draft { opened = number; drawing = drawing })))
 
--- what a line says that has the word "line" and these
+-- The draft after a line with the keyword "line" and the given words, or the fault of that line.
 abbrev pub lined : Draft → List (List ℕ) → Result Draft DrawKind
 lined draft words =
     if is_before_blocks draft then Err kind.NoBlock
     else and_then (points_in words) (λ points.
     and_then (line_added draft.drawing points) (λ drawing. Ok (record draft { drawing = drawing })))
 
--- what the line of that number says that has the word "start", or "end", and these: it speaks of
--- the last block
+-- The draft after the text line of the given number, with the keyword "start" or "end" and the
+-- given words, or the fault of that line. A start or an end belongs to the last block.
 abbrev pub ended : ℕ → Bool → Draft → List (List ℕ) → Result Draft DrawKind
 ended number is_start draft words =
     if is_before_blocks draft then Err kind.NoBlock
@@ -107,12 +109,13 @@ ended number is_start draft words =
       } ∷ [];
     }))
 
--- a text of the version may name starts and ends
+-- Texts of the version may name starts and ends.
 abbrev pub has_ends : Version → Bool
 has_ends version.Three = true
 has_ends earlier = false
 
--- what the line of that number says that has these words, after the lines that say the draft
+-- The draft after the text line of the given number with the given words, or the fault of that
+-- line.
 abbrev pub judged : Version → ℕ → Draft → List (List ℕ) → Result Draft DrawKind
 judged version number draft [] = Ok draft
 judged version number draft (word ∷ rest) =

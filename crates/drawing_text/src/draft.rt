@@ -22,8 +22,8 @@ use text_parts::spells;
 /// The longest step of a drawing whose text names none, in tenths of a millimetre.
 const DEFAULT_STEP: u32 = 25;
 
-/// What the lines of a drawing text said so far: the drawing, whether a name and a step were given, the
-/// number of the line that opened the last block, and the starts and ends.
+/// A draft: the drawing of the text lines so far, and its starts and ends. `named` and `stepped` record
+/// whether a name and a step were given, `opened` is the number of the line that opened the last block.
 #[derive(Debug, Drop)]
 pub struct Draft {
     pub drawing: DrawingMaker,
@@ -34,7 +34,7 @@ pub struct Draft {
 }
 
 impl Draft {
-    /// Nothing was said but the header.
+    /// Returns the draft after the header.
     pub fn new(alloc: Global) -> Self
         ensures { result ≡ first_draft }
     {
@@ -47,7 +47,7 @@ impl Draft {
         }
     }
 
-    /// Takes the text line of that number. A refusal leaves the draft as it was.
+    /// Adds the text line of the given number. An error leaves the draft unchanged.
     pub fn take_line(
         &mut self,
         alloc: Global,
@@ -164,7 +164,7 @@ impl Draft {
         Ok(())
     }
 
-    /// The drawing in that version, where the text ends before the line of that number.
+    /// Returns the drawing in the given version, where the text ends before the line of the given number.
     pub fn finish(self, alloc: Global, version: Version, number: u32) -> Result<Drawing, DrawFault>
         ensures answer { Reads (meant_by version number self) result }
         ensures meant { IfOk result (IsMeant version) }
@@ -176,7 +176,7 @@ impl Draft {
         }
     }
 
-    /// The drawing of the lines as they are.
+    /// Returns the drawing of the lines as they are.
     fn drawn(self, number: u32) -> Result<Drawing, DrawFault>
         ensures { Reads (at_line number self.opened (finished self.drawing)) result }
     {
@@ -187,7 +187,7 @@ impl Draft {
         }
     }
 
-    /// The drawing of the sections of the lines.
+    /// Returns the drawing of the sections of the lines.
     fn joined(self, alloc: Global, number: u32) -> Result<Drawing, DrawFault>
         ensures answer { Reads (joined_at number self) result }
         ensures whole { IfOk result IsWhole }
@@ -199,7 +199,7 @@ impl Draft {
         }
     }
 
-    /// The same with the starts and ends.
+    /// Returns the drawing of the sections of the lines, with the starts and ends.
     fn ended(self, alloc: Global, number: u32) -> Result<Drawing, DrawFault>
         ensures { Reads (meant_by version.Three number self) result }
     {
@@ -216,7 +216,7 @@ impl Draft {
     }
 }
 
-/// The drawing that was made, with its lines replaced by their sections.
+/// Returns the finished drawing, with its lines replaced by their sections.
 fn joined_lines(alloc: Global, drawing: DrawingMaker) -> Result<Drawing, DrawKind>
     ensures answer { IsSaid wants_memory (and_then (finished drawing) joined_drawing) result }
     ensures whole { IfOk result IsWhole }

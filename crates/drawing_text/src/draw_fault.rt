@@ -3,15 +3,15 @@ ghost use Rattle.drawing_text.specs.DrawingText.{told_at as fault_told_at};
 
 use line_graph::DrawKind;
 
-/// The first fault of a drawing text, and the number of the text line that it is told of. Text lines
-/// count from 1; with `Memory` the number is 0.
+/// The first fault of a drawing text, and the number of the text line at which it is reported. Text lines
+/// are numbered from 1. With `Memory` the number is 0.
 #[derive(Clone, Copy, Debug, PartialEq, Eq)]
 pub struct DrawFault {
     pub number: u32,
     pub kind: DrawKind,
 }
 
-/// The fault with the number of the text line that it is told of.
+/// Returns the fault with the number of the text line at which it is reported.
 pub fn told_at(number: u32, opened: u32, kind: DrawKind) -> DrawFault
     ensures { result ≡ fault_told_at number opened kind }
 {

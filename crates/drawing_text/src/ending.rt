@@ -9,7 +9,8 @@ use crate::walk_end::WalkEnd;
 use line_graph::{DrawKind, Drawing, EndsMaker};
 use std::alloc::Global;
 
-/// The drawing with these starts and ends, or the fault of the first that it may not have, at its own line.
+/// Returns the drawing with the given starts and ends, or the first fault of one of them, at the text line
+/// that names it.
 pub fn with_ends(alloc: Global, drawing: Drawing, ends: &[WalkEnd]) -> Result<Drawing, DrawFault>
     requires joined { is_joined drawing ≡ true }
     requires unended { HasNoEnds drawing }

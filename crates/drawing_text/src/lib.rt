@@ -1,5 +1,5 @@
-//! The text of drawings: the drawing that a text says, or the first fault of the text, and the plain
-//! spelling of a drawing.
+//! The text of drawings: reads the drawing that a text describes or its first fault, and prints the
+//! canonical text of a drawing.
 #![tactic(auto)]
 
 mod draft;

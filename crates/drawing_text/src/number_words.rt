@@ -6,7 +6,8 @@ ghost use Rattle.drawing_text.specs.TextLines.{coordinate_in, count_from as numb
 use design_model::{NEEDLE_LIMIT, Whole, parse_whole};
 use line_graph::DrawKind;
 
-/// The number from `low` to `high` that a word spells.
+/// Returns the number from `low` to `high` that a word denotes. Errors: `BadNumber` where it is no number,
+/// `OutOfRange`.
 pub fn count_in(low: u32, high: u32, word: &[u8]) -> Result<u32, DrawKind>
     ensures value { result ≡ number_in low high (whole_of word.now) }
     ensures low { IfOk result (λ n. low ≤ n) }
@@ -30,7 +31,8 @@ fn count_from(low: u32, high: u32, n: i32) -> Result<u32, DrawKind>
     }
 }
 
-/// The coordinate of a needle point that a word spells, in tenths of a millimetre.
+/// Returns the coordinate of a needle point that a word denotes, in tenths of a millimetre. Errors:
+/// `BadNumber` where it is no number, `OutOfRange`.
 pub fn coordinate(word: &[u8]) -> Result<i32, DrawKind>
     ensures value { result ≡ coordinate_in (whole_of word.now) }
     ensures within { IfOk result (λ n. unsigned_abs n ≤ needle_limit) }

@@ -11,7 +11,7 @@ use design_model::{Point, Points};
 use line_graph::DrawKind;
 use std::alloc::Global;
 
-/// The point whose coordinates are the only two words of a line.
+/// Returns the point whose coordinates are the only two words of a line.
 pub fn point_of_words(words: &[u8]) -> Result<Point, DrawKind>
     ensures { result ≡ point_in (words_in words.now) }
 {
@@ -26,7 +26,7 @@ pub fn point_of_words(words: &[u8]) -> Result<Point, DrawKind>
     Ok(Point { x: across, y: down })
 }
 
-/// The points whose coordinates the words of a line spell.
+/// Returns the points whose coordinates are the words of a line.
 pub fn points_of_words(alloc: Global, words: &[u8]) -> Result<Points, DrawKind>
     ensures value { IsSaid wants_memory (points_in (words_in words.now)) result }
     ensures in_range { IfOk result (λ points. All IsNeedlePoint points) }

@@ -12,8 +12,8 @@ use line_graph::{DrawKind, Drawing};
 use std::alloc::Global;
 use text_parts::spells;
 
-/// The drawing that a text says in the version that it names, or the first fault of the text in the order of
-/// its lines.
+/// Returns the drawing that a text describes in the version that its header names, or the first fault in
+/// the order of its lines.
 pub fn read_drawing(alloc: Global, bytes: &[u8]) -> Result<Drawing, DrawFault>
     requires { length bytes.now ≤ MAX_TEXT }
     ensures { Reads (drawing_of bytes.now) result }
@@ -22,8 +22,8 @@ pub fn read_drawing(alloc: Global, bytes: &[u8]) -> Result<Drawing, DrawFault>
     read_body(alloc, version, header + 1, text)
 }
 
-/// The drawing that a text says as version 2, whether it names version 1 or 2, or its first fault. A text of
-/// version 3 is told at its header, `BadHeader`.
+/// Returns the drawing that a text of version 1 or 2 describes when it is read as version 2, or its first
+/// fault. A text of version 3 is rejected at its header, with `BadHeader`.
 pub fn read_as2(alloc: Global, bytes: &[u8]) -> Result<Drawing, DrawFault>
     requires { length bytes.now ≤ MAX_TEXT }
     ensures answer { Reads (drawing_as2 bytes.now) result }
@@ -35,7 +35,7 @@ pub fn read_as2(alloc: Global, bytes: &[u8]) -> Result<Drawing, DrawFault>
     }
 }
 
-/// The version that the header names, the number of its line, and the text behind it.
+/// Returns the version that the header names, the number of its line, and the text after it.
 fn find_body(bytes: &[u8]) -> Result<(Version, u32, &[u8]), DrawFault>
     requires { length bytes.now ≤ MAX_TEXT }
     ensures ok { IfOk result (λ r.
@@ -68,7 +68,7 @@ fn is_passed_over(line: &[u8]) -> bool
     }
 }
 
-/// The version that a header names, if the line is one.
+/// Returns the version that a line names, if the line is a header.
 fn version_named(line: &[u8]) -> Option<Version>
     ensures { result ≡ header_in (words_in line.now) }
 {

@@ -10,7 +10,8 @@ use design_model::{Bytes, Memory, Point};
 use line_graph::{Drawing, Line, MAX_BLOCKS};
 use std::alloc::Global;
 
-/// The plain spelling in version 1 of a drawing without starts and ends, which is read as that drawing again.
+/// Returns the canonical text, in version 1, of a drawing without starts and ends. Reading the text returns
+/// the drawing.
 pub fn print_drawing(alloc: Global, d: &Drawing) -> Result<Bytes, Memory>
     requires { HasNoEnds d.now }
     ensures value { IfOk result (λ text. text ≡ plain_spelling d.now) }
@@ -22,8 +23,8 @@ pub fn print_drawing(alloc: Global, d: &Drawing) -> Result<Bytes, Memory>
     Ok(text)
 }
 
-/// The plain spelling in version 2 of a drawing without starts and ends whose lines meet at ends alone, which
-/// is read as that drawing again.
+/// Returns the canonical text, in version 2, of a joined drawing without starts and ends. Reading the text
+/// returns the drawing.
 pub fn print_drawing2(alloc: Global, d: &Drawing) -> Result<Bytes, Memory>
     requires { IsWhole d.now }
     ensures value { IfOk result (λ text. text ≡ plain_spelling2 d.now) }

@@ -12,7 +12,7 @@ fn drawing(alloc: Global, text: &[u8]) -> Result<Drawing, DrawFault> {
     read_drawing(alloc, text)
 }
 
-/// The plain spelling of a drawing, where it has no start and no end.
+/// The canonical text of a drawing, if it has no start and no end.
 fn printed(alloc: Global, d: &Drawing) -> Option<Bytes> {
     let [] = d.starts() else {
         return None;
@@ -75,10 +75,10 @@ fn texts_of_any_spelling_are_read(rt: HostRuntime) -> Result<(), Fail> {
     Ok(())
 }
 
-/// Two lines through one point, behind a header.
+/// Two lines through one point, after a header.
 const CROSSING: &str = "step 10\ncolor 1\nline 0 0 10 0 20 0\nline 10 -10 10 0 10 10\n";
 
-/// Their sections, in the plain spelling of version 2.
+/// The sections of these two lines, in the canonical text of version 2.
 const CROSSED: &str = "redwork 2
 step 10
 color 1
@@ -184,7 +184,7 @@ fn the_first_fault_of_a_block_is_told_with_its_line(rt: HostRuntime) {
     }
 }
 
-/// The text of a head, so many times a middle, and an end.
+/// A text that consists of a head, the given number of times a middle, and an end.
 fn repeated(
     alloc: Global,
     head: &str,

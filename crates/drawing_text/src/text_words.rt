@@ -2,7 +2,7 @@ ghost use Rattle.std.specs.Prelude.{◌≡◌, ◌<◌, ◌≤◌, ◌∷◌, []
 ghost use Rattle.std.specs.List.{position_or_len};
 ghost use Rattle.drawing_text.specs.Words.{is_blank as is_a_blank, is_comment as begins_comment, is_line_feed, is_solid, only_word as only_of_words, text_lines, without_return as line_without_return, words_in};
 
-/// The first line of a text without its end, and the text behind it.
+/// Returns the first line of a text without its end, and the text after it.
 pub fn next_line(text: &[u8]) -> Option<(&[u8], &[u8])>
     ensures some { IfSome result (λ r. text_lines text.now ≡ r.0.now ∷ text_lines r.1.now) }
     ensures shorter { IfSome result (λ r. length r.1.now < length text.now) }
@@ -36,7 +36,7 @@ fn behind_first(bytes: &[u8]) -> &[u8]
     }
 }
 
-/// A line without the carriage return that ends it, where there is one.
+/// Returns a line without the carriage return at its end, if it has one.
 pub fn without_return(line: &[u8]) -> &[u8]
     ensures { result.now ≡ line_without_return line.now }
 {
@@ -46,7 +46,7 @@ pub fn without_return(line: &[u8]) -> &[u8]
     if *last == b'\r' { before } else { line }
 }
 
-/// The first word of a line, and the line behind it.
+/// Returns the first word of a line, and the line after it.
 pub fn next_word(line: &[u8]) -> Option<(&[u8], &[u8])>
     ensures some { IfSome result (λ r. words_in line.now ≡ r.0.now ∷ words_in r.1.now) }
     ensures shorter { IfSome result (λ r. length r.1.now < length line.now) }
@@ -90,7 +90,7 @@ fn is_blank(byte: u8) -> bool
     byte == b' ' || byte == b'\t'
 }
 
-/// The only word of a line, if it has one word.
+/// Returns the only word of a line, if it has exactly one.
 pub fn only_word(line: &[u8]) -> Option<&[u8]>
     ensures some { IfSome result (λ word. words_in line.now ≡ word.now ∷ []) }
     ensures none { IfNone result (only_of_words (words_in line.now) ≡ None) }
@@ -102,7 +102,7 @@ pub fn only_word(line: &[u8]) -> Option<&[u8]>
     }
 }
 
-/// Says whether a word begins a comment.
+/// Returns whether a word begins a comment.
 pub fn is_comment(word: &[u8]) -> bool
     ensures { result ≡ begins_comment word.now }
 {

@@ -1,5 +1,5 @@
-/// The versions of the drawing text. In version 1 lines meet at their ends alone; in version 2 they meet at
-/// each point that their block lists at several places, and are cut there. Version 3 is version 2 with starts
+/// The versions of the drawing text. In version 1 lines meet only at their ends. In version 2 they meet at
+/// each point that their block lists more than once, and are cut there. Version 3 is version 2 with starts
 /// and ends.
 #[derive(Clone, Copy, Debug, PartialEq, Eq)]
 pub enum Version {

@@ -1,7 +1,7 @@
 use line_graph::Spot;
 
-/// What a text line says that names a start or an end: the number of the text line, which of the two it is,
-/// and the place.
+/// A text line that names a start or an end: the number of the text line, which of the two it is, and the
+/// spot.
 #[derive(Clone, Copy, Debug, PartialEq, Eq)]
 pub struct WalkEnd {
     pub number: u32,

@@ -4,7 +4,7 @@ use Rattle.drawing_text.specs.TextLines.{first_draft}
 use Rattle.drawing_text.specs.Words.{words_by_line}
 use Rattle.drawing_text.proofs.reading.read_body.Given as goal
 
--- the lines so far say the draft, so all depends on it and on those that are left
+-- the draft is that of the lines so far, and the result depends on it and on those that are left
 abbrev pub invariant-loop-line : goal.invariant-loop-line
 invariant-loop-line l = record {
   read : drawn_after l.version l.first first_draft (words_by_line l.text) ≡ drawn_after l.version l.number l.draft (words_by_line l.rest);
