@@ -1,4 +1,4 @@
--- The strands of a design that sews a link come to a drawing, or pass one of its counts.
+-- The strands of a design that sews a link make a drawing, or exceed one of its counts.
 use Rattle.std.proofs.Common.{◌≡◌, ℕ, ◌+◌, ◌==◌, ◌≤◌, max, Bool, true, false, cond, nat_lt, List, [], ◌∷◌, ◌++◌, length, Option, Some, None, Result, Ok, Err, ap, sym, subst, ◌∙◌, refl, append_assoc, arith}
 use Rattle.std.proofs.Math.Nat.{le-max_right}
 use Rattle.std.proofs.Math.Path.{ap₂}

@@ -28,7 +28,7 @@ use Rattle.stitch_trace.proofs.LinkedLemmas.{chains_links, chains_where_links, h
 pub ok_same : {A F : Type 0} (a b : A) → ◌≡◌ {A = Result A F} (Ok a) (Ok b) → a ≡ b
 ok_same a b is = cc
 
--- what goes on after an answer
+-- a step after a result
 pub record GoesOn {A B : Type 0} (said : Result A DrawKind) (next : A → Result B DrawKind) (b : B) : Type 0 where
   pub mid : A
   pub first : said ≡ Ok mid
@@ -93,7 +93,7 @@ chains_drawn d e (chain ∷ rest) is = onwards (goes_on (line_added d chain) (λ
               (sym (map-append (λ (link : Link). record { block = block; link = link }) (links_along chain) (flat_map links_along rest)))));
         }
 
--- the links of strands, of which the first comes to the block with that index
+-- the links of strands, of which the first is in the block with that index
 abbrev strand_links : ℕ → List Strand → List BlockLink
 strand_links block [] = []
 strand_links block (strand ∷ rest) = in_block block (flat_map links_along strand.chains) ++ strand_links (block + 1) rest

@@ -125,7 +125,7 @@ chains_refused step d (chain ∷ rest) why some ready fit is = by_line (line_add
         later (subst (λ (e : DrawingValue). chains_added e rest ≡ Err why) (line_is d mid chain line) is)
     by_line (Err other) line is later = counted other why (line_refused step d chain other some ready fit.0 line) is
 
--- what chains leave
+-- the room left after chains
 record IsAfter (step : ℕ) (d e : DrawingValue) : Type 0 where
   threads : e.threads ≡ d.threads
   ready : IsReady step e

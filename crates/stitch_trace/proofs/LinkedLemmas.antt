@@ -29,12 +29,12 @@ same_is p q found =
     let both = and_parts (int_eq p.x q.x) (int_eq p.y q.y) found in
     ap₂ (λ x y. record { x = x; y = y }) ((Decides-int_eq p.x q.x).0 both.0) ((Decides-int_eq p.y q.y).0 both.1)
 
--- a link goes on from a point, if there is one
+-- a link continues from a point, if there is one
 abbrev pub Follows : Option Point → Link → Type 0
 Follows None link = Unit {0}
 Follows (Some p) link = link.from ≡ p
 
--- each link goes on from the one before, with no gap between
+-- each link continues the one before, with no gap between
 abbrev pub Linked : Option Point → List Move → Type 0
 Linked before [] = Unit {0}
 Linked before (Stay ∷ rest) = Linked before rest

@@ -44,7 +44,7 @@ greatest_more longest [] = omega arith
 greatest_more longest (link ∷ rest) =
     omega (arith, le-max_left longest (link_size link), greatest_more (max longest (link_size link)) rest)
 
--- what measuring comes to
+-- the result of measuring
 abbrev comes_to : ℕ → Option ℕ → List Link → Result ℕ TraceFault
 comes_to longest (Some number) links = Err (fault.LinkTooLong number)
 comes_to longest None links = cond (greatest longest links == 0) (Err fault.NoLinks) (Ok (greatest longest links))
@@ -98,7 +98,7 @@ past_is None (link ∷ rest) first =
     grind (arith, nat_tests, le-max_right 0 (link_size link), greatest_more (max 0 (link_size link)) rest, first) in
     rw some refl
 
--- measuring acts gives the step
+-- measuring acts returns the step
 pub step_is : (acts : List NumberedAct) → measured_on 0 (moves_along acts) ≡ step_by (moves_along acts)
 step_is acts =
     measured_to 0 (moves_along acts)

@@ -28,7 +28,7 @@ kept_both link back old mid new is first second q =
     second q ∙ (ap₂ (λ (b : Link) (t : Bool). cond (has_ends b q) true t) is (first q)
     ∙ or_order (has_ends link q) (has_ends (turned link) q) (old q))
 
--- tests that agree tell the same new links
+-- tests that agree find the same new links
 pub new_by_same : (f g : Link → Bool) → ((l : Link) → f l ≡ g l) → (moves : List Move) → new_by f moves ≡ new_by g moves
 new_by_same f g agree [] = refl
 new_by_same f g agree (Stay ∷ rest) = ap (λ (ms : List Move). Stay ∷ ms) (new_by_same f g agree rest)

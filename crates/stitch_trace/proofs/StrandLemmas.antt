@@ -7,7 +7,7 @@ use Rattle.design_model.specs.declared.act.NumberedAct.{NumberedAct}
 use Rattle.design_model.specs.ActKinds.{is_stop}
 use Rattle.design_model.specs.Blocks.{blocks_of, in_first}
 
--- the blocks behind the stop that comes first
+-- the blocks after the first stop
 abbrev after_stop : List NumberedAct → List (List NumberedAct)
 after_stop [] = []
 after_stop (stop ∷ rest) = blocks_of rest
@@ -25,7 +25,7 @@ blocks_at (a ∷ rest) = by_test (blocks_at rest) (is_stop a) refl
         let next : 1 + position_or_len is_stop rest ≡ suc (position_or_len is_stop rest) = omega arith in
         rw (is, next) (ap (in_first a) later)
 
--- what stands behind the stop
+-- what follows the stop
 stop_passed : (behind : List NumberedAct) → 1 ≤ length behind
     → after_stop behind ≡ blocks_of (take (length behind - 1) (drop 1 behind))
 stop_passed [] some = absurd (omega (arith, some))

@@ -43,7 +43,7 @@ pub known_return : traced (sewing (stitch 0 0 ∷ stitch 10 0 ∷ stitch 20 0 �
     ≡ Ok (drawn 10 (9 ∷ []) (line 0 (at 0 0 ∷ at 10 0 ∷ at 20 0 ∷ []) ∷ []))
 known_return = refl
 
--- so has one that is sewn twice the same way, behind a trim
+-- so has one that is sewn twice the same way, after a trim
 pub known_again : traced (sewing (stitch 0 0 ∷ stitch 10 0 ∷ command.Trim ∷ stitch 0 0 ∷ stitch 10 0 ∷ stitch 20 0 ∷ []))
     ≡ Ok (drawn 10 (9 ∷ []) (line 0 (at 0 0 ∷ at 10 0 ∷ []) ∷ line 0 (at 10 0 ∷ at 20 0 ∷ []) ∷ []))
 known_again = refl
@@ -55,12 +55,12 @@ pub known_chains : traced (sewing (stitch 0 0 ∷ stitch 10 0 ∷ stitch 10 0 �
     ∷ line 0 (at 10 0 ∷ at 10 10 ∷ []) ∷ []))
 known_chains = refl
 
--- links that cross where no needle goes down are left whole
+-- links that cross where no needle goes down stay whole
 pub known_crossing : traced (sewing (stitch 0 0 ∷ stitch 10 10 ∷ command.Trim ∷ stitch 0 10 ∷ stitch 10 0 ∷ []))
     ≡ Ok (drawn 10 (9 ∷ []) (line 0 (at 0 0 ∷ at 10 10 ∷ []) ∷ line 0 (at 0 10 ∷ at 10 0 ∷ []) ∷ []))
 known_crossing = refl
 
--- nothing is sewn to a float, but from it; where it stays at its point the chain goes on
+-- nothing is sewn to a float, but from it; where it stays at its point the chain continues
 pub known_floats : (traced (sewing (stitch 0 0 ∷ stitch 10 0 ∷ command.Jump (at 40 0) ∷ stitch 40 0 ∷ stitch 40 5 ∷ []))
     ≡ Ok (drawn 10 (9 ∷ []) (line 0 (at 0 0 ∷ at 10 0 ∷ []) ∷ line 0 (at 40 0 ∷ at 40 5 ∷ []) ∷ [])))
     × (traced (sewing (stitch 0 0 ∷ stitch 10 0 ∷ command.Jump (at 40 0) ∷ stitch 10 0 ∷ stitch 15 0 ∷ []))
@@ -113,6 +113,6 @@ pub known_distinct : (are_distinct (link (at 0 0) (at 7 0) ∷ link (at 7 0) (at
     × (are_distinct (link (at 0 0) (at 7 0) ∷ link (at 7 0) (at 7 5) ∷ link (at 7 5) (at 7 0) ∷ []) ≡ false)
 known_distinct = (refl, refl, refl)
 
--- the law on limits speaks of blocks, of lines and of points, and not of cost
+-- the theorem on limits is about blocks, lines and points, and not about cost
 pub known_counts : IsCount kind.TooManyBlocks × IsCount kind.TooManyLines × IsCount kind.TooManyPoints × (IsCount kind.TooMuchCost → ⊥)
 known_counts = (tt, tt, tt, λ count. count)

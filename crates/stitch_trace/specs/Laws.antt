@@ -1,4 +1,4 @@
--- What a traced drawing has: in each block the new links of a block of the design, each once.
+-- Theorems about traced drawings: each block has the new links of a block of the design, each once.
 -- Blocks count from 0.
 use Rattle.std.specs.Prelude.{◌≡◌, ℕ, ◌+◌, ◌==◌, Bool, true, not, ◌&&◌, List, [], ◌∷◌, ◌++◌, map, Ok, Err, if◌then◌else◌}
 use Rattle.std.specs.List.{flat_map, list_all, list_any}
@@ -19,73 +19,76 @@ use Rattle.stitch_trace.specs.Chains.{has_links, is_sewn, new_links_of}
 use Rattle.stitch_trace.specs.Links.{is_same_link, links_in, moves_along}
 use Rattle.stitch_trace.specs.Traces.{traced}
 
--- a link in a block
+-- A link in a block.
 pub record BlockLink : Type 0 where
   pub block : ℕ
   pub link : Link
 
--- links in one block
+-- Links of one block.
 abbrev pub in_block : ℕ → List Link → List BlockLink
 in_block block links = map (λ link. record { block = block; link = link }) links
 
--- the link between the two ends of a segment
+-- The link between the two endpoints of a segment.
 abbrev pub link_between : Point × Point → Link
 link_between ends = record { from = ends.0; to = ends.1 }
 
--- the links along the segments through these points
+-- The links along the segments through the given points.
 abbrev pub links_along : List Point → List Link
 links_along points = map link_between (segments_of points)
 
--- the links along the segments of lines, each in its line's block
+-- The links along the segments of lines, each in its line's block.
 abbrev pub drawn_links : List LineValue → List BlockLink
 drawn_links lines = flat_map (λ line. in_block line.block (links_along line.points)) lines
 
--- how many blocks of a drawing a block with these links has
+-- The number of blocks that a drawing has for a block of a design with the given links: 1, or 0
+-- without links.
 abbrev pub block_for : List Link → ℕ
 block_for links = if has_links links then 1 else 0
 
--- the new links of blocks, of which the first that has any comes to the block with that index
+-- The new links of a design's blocks. The first block with links becomes the block of the given
+-- index in the drawing.
 abbrev pub sewn_links : ℕ → List (List NumberedAct) → List BlockLink
 sewn_links block [] = []
 sewn_links block (acts ∷ later) =
     in_block block (new_links_of acts) ++ sewn_links (block + block_for (new_links_of acts)) later
 
--- the segments of a traced drawing are the new links of the design, block by block, each once
+-- The segments of a traced drawing are the new links of the design, block by block, each once.
 abbrev pub LinksAreDrawn : Type 0
 LinksAreDrawn = (d : DesignValue) (drawing : DrawingValue) → traced d ≡ Ok drawing
     → drawn_links drawing.lines ≡ sewn_links 0 (blocks_of (acts_of d))
 
--- the link is one step of a drawing with that step
+-- A link is one step of a drawing with the given longest step.
 abbrev pub is_one_step : ℕ → BlockLink → Bool
 is_one_step step one = steps_of one.link.from one.link.to step == 1
 
--- each segment of a traced drawing is one step
+-- Each segment of a traced drawing is one step.
 abbrev pub LinksAreSteps : Type 0
 LinksAreSteps = (d : DesignValue) (drawing : DrawingValue) → KeepsLimits d → traced d ≡ Ok drawing
     → list_all (is_one_step drawing.step) (drawn_links drawing.lines) ≡ true
 
--- no two of the links are the same
+-- No two of the links are equal.
 abbrev pub are_distinct : List Link → Bool
 are_distinct [] = true
 are_distinct (link ∷ rest) = not (list_any (is_same_link link) rest) && are_distinct rest
 
--- the new links of a block are its distinct links: no two are the same, and each link is the same
--- as one of them
+-- The new links of a block are distinct, and each link of the block equals one of them.
 pub record AreDistinctLinks (acts : List NumberedAct) : Type 0 where
   pub distinct : are_distinct (new_links_of acts) ≡ true
   pub all : list_all (is_sewn (new_links_of acts)) (links_in (moves_along acts)) ≡ true
 
+-- In each block the new links are its distinct links.
 abbrev pub NewLinksAreDistinct : Type 0
 NewLinksAreDistinct = (acts : List NumberedAct) → AreDistinctLinks acts
 
--- the count of a drawing that may be passed: of its blocks, its lines or its points
+-- A fault of too many blocks, too many lines or too many points.
 abbrev pub IsCount : DrawKind → Type 0
 IsCount kind.TooManyBlocks = Unit {0}
 IsCount kind.TooManyLines = Unit {0}
 IsCount kind.TooManyPoints = Unit {0}
 IsCount other = ⊥
 
--- a design has no traced drawing for a limit only where it is one of these
+-- A design has no traced drawing because of a limit only where there are too many blocks, lines or
+-- points.
 abbrev pub CountsAreLimits : Type 0
 CountsAreLimits = (d : DesignValue) (why : DrawKind) → KeepsLimits d
     → traced d ≡ Err (fault.Limit why) → IsCount why

@@ -1,8 +1,8 @@
--- read these in order: links, the chains of new links, and the drawing that is traced
+-- Read these in order: links, the chains of new links, and the traced drawing.
 pub mod Links
 pub mod Chains
 pub mod Traces
--- what traced drawings have
+-- Theorems about traced drawings.
 pub mod Laws
--- of the inside
+-- Used only inside this crate.
 pub mod Tracing

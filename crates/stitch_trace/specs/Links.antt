@@ -1,4 +1,4 @@
--- Links: what a design sews from one needle point to another, in whole tenths of a millimetre.
+-- Links: what a design sews from one needle point to the next, in whole tenths of a millimetre.
 use Rattle.std.specs.Prelude.{ℕ, Bool, ◌&&◌, ◌||◌, max, nat_lt, List, [], ◌∷◌, fold, map, Option, Some, None, if◌then◌else◌}
 use Rattle.design_model.specs.declared.act.Act.{Act}
 use Rattle.design_model.specs.declared.act.Act.TheVariants as act
@@ -11,8 +11,9 @@ use Rattle.stitch_trace.specs.declared.links.Link.{Link}
 use Rattle.stitch_trace.specs.declared.needle_moves.Move.{Move}
 use Rattle.stitch_trace.specs.declared.needle_moves.Move.TheVariants.{Stay, Gap, Sewn}
 
--- what the needle does to an act of that number, after an act with that needle point, if it was a
--- needle act: it sews where the thread is neither loose nor carried over
+-- The move of the needle to an act, from the needle point of the act before, if there is one. The
+-- needle sews a link where it moves to another point and the thread is neither loose nor carried
+-- over.
 abbrev pub move_by : Option Point → ℕ → Act → Move
 move_by None number a = Gap
 move_by (Some p) number act.Trim = Gap
@@ -21,47 +22,48 @@ move_by (Some p) number (act.Needle q float) =
     if is_same_point p q then Stay
     else (if float then Gap else Sewn number (record { from = p; to = q }))
 
--- what the needle does to each of the acts, of which the first comes after such an act
+-- The moves of the needle to each act. The act before the first has the given needle point, if any.
 abbrev pub moves_from : Option Point → List NumberedAct → List Move
 moves_from before [] = []
 moves_from before (a ∷ rest) = move_by before a.number a.act ∷ moves_from (needle_point a) rest
 
--- what it does to each of the acts, of which none comes before the first
+-- The moves of the needle to each act of a block.
 abbrev pub moves_along : List NumberedAct → List Move
 moves_along acts = moves_from None acts
 
--- the links that are sewn
+-- The links that moves sew.
 abbrev pub links_in : List Move → List Link
 links_in [] = []
 links_in (Stay ∷ rest) = links_in rest
 links_in (Gap ∷ rest) = links_in rest
 links_in (Sewn number link ∷ rest) = link ∷ links_in rest
 
--- from the one point to the other in this order
+-- Two links have equal endpoints in the same order.
 abbrev pub has_ends : Link → Link → Bool
 has_ends a b = is_same_point a.from b.from && is_same_point a.to b.to
 
--- the same link the other way round
+-- A link in the opposite direction.
 abbrev pub turned : Link → Link
 turned a = record { from = a.to; to = a.from }
 
--- the same two points, in either order
+-- Two links are equal: they have the same two endpoints, in either order.
 abbrev pub is_same_link : Link → Link → Bool
 is_same_link a b = has_ends a b || has_ends (turned a) b
 
--- the size of a link on its larger axis
+-- The size of a link on its longer axis.
 abbrev pub link_size : Link → ℕ
 link_size a = size_of (move_between a.from a.to)
 
--- the greatest size of these links
+-- The size of the longest link.
 abbrev pub longest : List Link → ℕ
 longest links = fold max 0 (map link_size links)
 
--- longer than a drawing's step may be
+-- A link is longer than the longest step of any drawing.
 abbrev pub is_long : Link → Bool
 is_long a = nat_lt MAX_STEP (link_size a)
 
--- the command of the second needle of the first link that is too long
+-- The command number of the second needle point of the first link that is too long, if there is
+-- one.
 abbrev pub first_long : List Move → Option ℕ
 first_long [] = None
 first_long (Stay ∷ rest) = first_long rest

@@ -11,7 +11,7 @@ use design_model::{Memory, NumberedAct, Points};
 use std::alloc::Global;
 use std::collections::HashSet;
 
-/// The chains of a block's new links, each as its points, in order.
+/// Returns the chains of a block's new links in order, each as its points.
 pub fn chains(alloc: Global, acts: &[NumberedAct]) -> Result<Chains, Memory>
     ensures { IfOk result (λ chains. chains ≡ chains_of acts.now) }
 {
@@ -28,7 +28,7 @@ pub fn chains(alloc: Global, acts: &[NumberedAct]) -> Result<Chains, Memory>
     Ok(chains)
 }
 
-/// Makes the chain longer by a link, or ends it at a gap.
+/// Extends the chain by a link, or ends it at a gap.
 fn take_move(
     alloc: Global,
     step: Move,
@@ -55,7 +55,7 @@ fn lead_through(chain: &mut Points, link: Link) -> Result<(), Memory>
     Ok(())
 }
 
-/// Puts the chain to the others, if it has points, and begins the next one.
+/// Adds the chain to the others, if it has points, and begins the next one.
 fn end_chain(alloc: Global, chain: &mut Points, chains: &mut Chains) -> Result<(), Memory>
     ensures put { OnOk result (chains.new ≡ chains.old ++ chain_begun chain.old) }
     ensures next { OnOk result (chain.new ≡ []) }

@@ -16,7 +16,7 @@ use design_model::{Point, Points};
 use line_graph::{DrawKind, Drawing, DrawingMaker, join};
 use std::alloc::Global;
 
-/// The joined drawing with a block for each strand, under the first word of a label.
+/// Returns the joined drawing with a block for each strand, with the first word of a label as its label.
 pub fn drawing_of(
     alloc: Global,
     label: &[u8],
@@ -72,7 +72,7 @@ fn copied(alloc: Global, points: &[Point]) -> Result<Points, DrawKind>
     Ok(copy)
 }
 
-/// The label up to its first space.
+/// Returns the label up to its first space.
 fn first_word(label: &[u8]) -> &[u8]
     requires { IsLabel label.now }
     ensures value { result.now ≡ the_first_word label.now }

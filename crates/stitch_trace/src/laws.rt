@@ -2,8 +2,8 @@ ghost use Rattle.stitch_trace.specs.Laws.{CountsAreLimits, LinksAreDrawn, LinksA
 
 use line_sections::sections_keep_segments;
 
-/// The segments of a traced drawing are the new links of the design, block by block, each once, and each
-/// is one step.
+/// Theorem: the segments of a traced drawing are the new links of the design, block by block, each once,
+/// and each is one step.
 pub fn links_are_drawn()
     ensures drawn { LinksAreDrawn }
     ensures steps { LinksAreSteps }
@@ -11,12 +11,12 @@ pub fn links_are_drawn()
     sections_keep_segments();
 }
 
-/// The new links of a block are its distinct links.
+/// Theorem: the new links of a block are its distinct links.
 pub fn new_links_are_distinct()
     ensures { NewLinksAreDistinct }
 {}
 
-/// The limits that `trace` tells are those of blocks, lines and points.
+/// Theorem: the limits that `trace` reports are those of blocks, lines and points.
 pub fn counts_are_limits()
     ensures { CountsAreLimits }
 {}

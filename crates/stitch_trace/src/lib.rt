@@ -1,5 +1,5 @@
-//! Drawings of what designs sew: each link of two needle points once, in chains that become lines, cut
-//! into sections.
+//! Traces a design: makes a drawing in which each link between two needle points is drawn once, in chains
+//! that become lines and are cut into sections.
 #![tactic(auto)]
 
 mod chains;

@@ -3,7 +3,7 @@ ghost use Rattle.stitch_trace.specs.Links.{link_size, turned as the_turned};
 
 use design_model::Point;
 
-/// What is sewn from one needle point to another, in tenths of a millimetre.
+/// A link: what is sewn from one needle point to the next, in tenths of a millimetre.
 #[derive(Clone, Copy, Debug, PartialEq, Eq, Hash)]
 pub struct Link {
     pub from: Point,
@@ -11,7 +11,7 @@ pub struct Link {
 }
 
 impl Link {
-    /// The same link the other way round.
+    /// Returns the link in the opposite direction.
     pub(crate) fn turned(self) -> Link
         ensures { result ≡ the_turned self }
     {
@@ -21,7 +21,7 @@ impl Link {
         }
     }
 
-    /// Its size on the larger axis.
+    /// Returns the size of the link on its longer axis.
     pub(crate) fn size(self) -> u32
         ensures { result ≡ link_size self }
     {

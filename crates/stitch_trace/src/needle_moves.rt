@@ -6,18 +6,18 @@ ghost use Rattle.stitch_trace.specs.Links.{move_by};
 use crate::links::Link;
 use design_model::{Act, NumberedAct, Point};
 
-/// What the needle does from one act of a design to the next.
+/// The move of the needle from one act of a design to the next.
 #[derive(Clone, Copy, Debug, PartialEq, Eq)]
 pub enum Move {
-    /// It goes down where it went down before.
+    /// The needle goes down where it went down before.
     Stay,
-    /// It sews nothing from there: the thread was loose or carried over, or the act is no needle act.
+    /// Nothing is sewn from there: the thread was loose or carried over, or the act is no needle act.
     Gap,
-    /// It sews a link. The number is that of the second needle's command, from 1.
+    /// A link is sewn. The number is that of the command of its second needle point, from 1.
     Sewn { number: u32, link: Link },
 }
 
-/// What the needle does to an act, after an act with that needle point, if it was a needle act.
+/// Returns the move of the needle to an act, from the needle point of the act before, if there is one.
 pub fn move_to(before: Option<Point>, a: NumberedAct) -> Move
     ensures { result ≡ move_by before a.number a.act }
 {
@@ -45,7 +45,7 @@ fn move_between(from: Point, to: Point, float: bool, number: u32) -> Move
     }
 }
 
-/// The needle point of an act, if it is a needle act.
+/// Returns the needle point of an act, if it is a needle act.
 pub fn needle_point(a: NumberedAct) -> Option<Point>
     ensures { result ≡ the_needle_point a }
 {

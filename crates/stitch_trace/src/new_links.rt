@@ -10,7 +10,7 @@ use crate::needle_moves::Move;
 use design_model::Memory;
 use std::collections::HashSet;
 
-/// The move, or a gap in the place of a link that was sewn before, in either direction.
+/// Returns the move, or a gap where its link was sewn before in either direction.
 pub fn new_move(sewn: &mut HashSet<Link>, step: Move) -> Result<Move, Memory>
     ensures { IfOk result (λ fresh. (rest : List MoveValue) →
         new_by (contains has_ends sewn.old) (step ∷ rest)
@@ -23,7 +23,7 @@ pub fn new_move(sewn: &mut HashSet<Link>, step: Move) -> Result<Move, Memory>
     if is_new { Ok(step) } else { Ok(Move::Gap) }
 }
 
-/// Says whether the link is new, and keeps it in both directions.
+/// Returns whether the link is new, and stores it in both directions.
 fn sew(sewn: &mut HashSet<Link>, link: Link) -> Result<bool, Memory>
     ensures new { IfOk result (λ is_new. is_new ≡ not (contains has_ends sewn.old link)) }
     ensures kept { OnOk result ((other : LinkValue) → contains has_ends sewn.new other

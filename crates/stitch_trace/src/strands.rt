@@ -13,7 +13,7 @@ use std::alloc::Global;
 /// Chains of links, each as its points, in tenths of a millimetre.
 pub type Chains = Items<Points>;
 
-/// What one thread sews in a block.
+/// A strand: the chains that one thread sews in a block.
 #[derive(Debug, Drop)]
 pub struct Strand {
     /// The thread number.
@@ -22,7 +22,7 @@ pub struct Strand {
     pub chains: Chains,
 }
 
-/// The strands of a design with those acts: one for each block that has a link.
+/// Returns the strands of a design with the given acts: one for each block that has a link.
 pub fn strands(alloc: Global, design: &Design, acts: &[NumberedAct]) -> Result<Vec<Strand>, Memory>
     requires { length acts.now ≤ MAX_COMMANDS }
     ensures { IfOk result (λ strands.
@@ -58,7 +58,7 @@ fn put_strand(
     Ok(())
 }
 
-/// The acts of the first block and those behind the stop that ends it, if one does.
+/// Returns the acts of the first block and those after the stop that ends it, if there is a stop.
 fn ended_block(acts: &[NumberedAct]) -> Option<(&[NumberedAct], &[NumberedAct])>
     ensures ended { IfSome result (λ parts.
         blocks_of acts.now ≡ parts.0.now ∷ blocks_of parts.1.now) }
@@ -72,7 +72,7 @@ fn ended_block(acts: &[NumberedAct]) -> Option<(&[NumberedAct], &[NumberedAct])>
     }
 }
 
-/// The index of the first stop, or the number of acts.
+/// Returns the index of the first stop, or the number of acts.
 fn stop_at(acts: &[NumberedAct]) -> usize
     ensures value { result ≡ position_or_len is_stop_act acts.now }
     ensures within { result ≤ length acts.now }

@@ -34,7 +34,7 @@ fn star(alloc: Global, count: u32) -> Result<Design, ModelFault> {
     Ok(design)
 }
 
-/// One chain of so many points, to and fro in rows.
+/// One chain of the given number of points, to and fro in rows.
 fn rows(alloc: Global, points: u32) -> Result<Design, ModelFault> {
     let mut design = Design::new(alloc);
     for place in 0..points {
@@ -46,7 +46,7 @@ fn rows(alloc: Global, points: u32) -> Result<Design, ModelFault> {
     Ok(design)
 }
 
-/// The number of blocks, lines and points, or the limit that is passed.
+/// The number of blocks, lines and points, or the limit that is exceeded.
 fn counts(traced: Result<Drawing, TraceFault>) -> Result<(u32, u32, usize), Option<DrawKind>> {
     match traced {
         Ok(drawing) => {

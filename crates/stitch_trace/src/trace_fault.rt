@@ -4,16 +4,17 @@ ghost use Rattle.stitch_trace.specs.Traces.{IsRefusalOf};
 use design_model::Memory;
 use line_graph::DrawKind;
 
-/// Why a design has no traced drawing.
+/// The reason why a design has no traced drawing.
 #[derive(Clone, Copy, Debug, PartialEq, Eq)]
 pub enum TraceFault {
     /// The design has no link.
     NoLinks,
-    /// This is the command of the first link's second needle that is longer than 2,047 on an axis.
+    /// A link is longer than 2,047 on an axis. The number is that of the command of its second needle
+    /// point.
     LinkTooLong { number: u32 },
-    /// A drawing may not have so many blocks, lines or points.
+    /// The drawing would have too many blocks, lines or points.
     Limit { kind: DrawKind },
-    /// Memory was wanted and not found.
+    /// Memory could not be allocated.
     Memory,
 }
 
@@ -27,7 +28,7 @@ impl From<Memory> for TraceFault {
     }
 }
 
-/// The refusal of a drawing that may not be so.
+/// Returns the fault of a trace for a fault of its drawing.
 pub fn refusal_of(kind: DrawKind) -> TraceFault
     ensures { IsRefusalOf kind result }
 {

@@ -16,10 +16,10 @@ use design_model::{Design, NumberedAct, acts};
 use line_graph::{Drawing, MAX_STEP};
 use std::alloc::Global;
 
-/// The drawing of what a design sews, each link once. The refusals come in this order: `NoLinks`,
-/// `LinkTooLong` at the first link that is longer than 2,047 on one axis, and `Limit` where the drawing
-/// would have too many blocks, lines or points, at the first chain that passes one of these limits in this
-/// order, and then where the sections would.
+/// Returns the drawing of what a design sews, each link once. Errors, in this order: `NoLinks`;
+/// `LinkTooLong` at the first link longer than 2,047 on one axis; `Limit` where the drawing would have too
+/// many blocks, lines or points. The limits are tested in this order at the first chain that exceeds one,
+/// and then for the sections. The error is `Memory` where memory runs out.
 pub fn trace(alloc: Global, d: &Design) -> Result<Drawing, TraceFault>
     ensures answer { IsSaid wants_memory (traced d.now) result }
     ensures joined { IfOk result (λ drawing. is_joined drawing ≡ true) }
@@ -34,7 +34,7 @@ pub fn trace(alloc: Global, d: &Design) -> Result<Drawing, TraceFault>
     }
 }
 
-/// The greatest size of a link, where there is one and none is too long.
+/// Returns the size of the longest link, if there is a link and none is too long.
 #[tactic(auto, using(crate::proofs::MeasureLemmas::step_is))]
 fn longest_link(acts: &[NumberedAct]) -> Result<u32, TraceFault>
     ensures value { result ≡ step_by (moves_along acts.now) }
@@ -61,7 +61,7 @@ fn measured(acts: &[NumberedAct]) -> Result<u32, TraceFault>
     Ok(longest)
 }
 
-/// The greatest size so far, with a move more.
+/// Returns the size of the longest link after one more move.
 fn longest_with(longest: u32, step: Move) -> Result<u32, TraceFault>
     requires { longest ≤ max_step }
     ensures value { Measures longest step result }

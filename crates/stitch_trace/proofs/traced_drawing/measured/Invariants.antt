@@ -3,7 +3,7 @@ use Rattle.stitch_trace.specs.Links.{moves_along, moves_from}
 use Rattle.stitch_trace.specs.Tracing.{measured_on}
 use Rattle.stitch_trace.proofs.traced_drawing.measured.Given as goal
 
--- with the acts that are left, measuring comes to what it is to
+-- with the acts that are left, measuring has the specified result
 abbrev pub invariant-loop-a : goal.invariant-loop-a
 invariant-loop-a l = record {
   high : l.longest ≤ 2047;
