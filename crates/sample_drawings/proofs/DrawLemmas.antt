@@ -1,4 +1,4 @@
--- What is drawn one after another stands at its place.
+-- What is drawn one after another is at its index.
 use Rattle.std.proofs.Common.{◌≡◌, ℕ, ◌+◌, ◌*◌, ◌/◌, ◌%◌, ◌<◌, suc, List, [], ◌∷◌, ◌++◌, length, get_or, ap, sym, ◌∙◌, refl, arith}
 use Rattle.std.proofs.Math.Path.{ap₂}
 use Rattle.std.proofs.lemmas.List.FromFn.{get_or-map-range_with_len, length-map-range_with_len, map-range_with_len_more}
@@ -73,7 +73,7 @@ place_there columns width i j make xs wide are column row =
     ∙ length-map-range_with_len (λ m. make (m % columns) (m / columns)) 0 (columns * columns) in
     rw wide (omega (arith, length_is, mul-add-lt j columns i columns row column))
 
--- what stands there is what was made of them
+-- the item at the index is the one made for the column and the row
 pub place_found : {T : Type 0} (columns width i j : ℕ) (make : ℕ → ℕ → T) (xs : List T) (d : T) → width ≡ columns
     → xs ≡ in_square columns make → i < columns → j < columns → get_or xs (j * width + i) d ≡ make i j
 place_found columns width i j make xs d wide are column row =

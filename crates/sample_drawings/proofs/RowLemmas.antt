@@ -14,7 +14,7 @@ range_more from (suc n) last is =
     let one : suc n + 1 ≡ suc (n + 1) = omega arith in
     rw one (ap (λ ms. from ∷ ms) (range_more (from + 1) n last (omega (arith, is))))
 
--- what is made of one number more stands at the end
+-- the item for one number more is at the end
 pub made_more : {T : Type 0} (make : ℕ → List T) (n : ℕ) (before so_far after : List T)
     → so_far ≡ before ++ flat_map make (range_with_len 0 n) → after ≡ so_far ++ make n
     → after ≡ before ++ flat_map make (range_with_len 0 (n + 1))
@@ -24,7 +24,7 @@ made_more make n before so_far after made put =
     ∙ (flat_map_more make before (range_with_len 0 n) n
     ∙ ap (λ ms. before ++ flat_map make ms) (sym (range_more 0 n n (omega arith)))))
 
--- where all holds of what is made of each number, it holds of the whole
+-- what holds of the items of each number holds of the concatenation
 all_made : {T : Type 0} (P : T → Type 0) (make : ℕ → List T) (from n : ℕ)
     → ((k : ℕ) → k < from + n → All P (make k)) → All P (flat_map make (range_with_len from n))
 all_made P make from zero each = All-nil P
@@ -40,7 +40,7 @@ all_rows P columns rows make each =
     (λ j row. all_made P (λ i. make i j) 0 columns
     (λ i column. each i j (omega (arith, column)) (omega (arith, row))))
 
--- where so many at most are made of each number, there are so many of all
+-- where each number has at most n items, all have at most n for each
 few_made : {T : Type 0} (make : ℕ → List T) (most from n : ℕ) → ((k : ℕ) → length (make k) ≤ most)
     → length (flat_map make (range_with_len from n)) ≤ n * most
 few_made make most from zero each = omega arith

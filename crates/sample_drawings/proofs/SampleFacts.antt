@@ -25,7 +25,7 @@ known_states = refl
 pub known_first_draw : state_after 999999 1 ≡ 25671
 known_first_draw = refl
 
--- draw 2 gives the state after two draws, divided
+-- draw 2 is computed from the state after two draws
 pub known_draw : (drawn 75 2 50 ≡ 27) × (drawn 75 9 4 ≡ 3)
 known_draw = (refl, refl)
 

@@ -57,7 +57,7 @@ short_line a b c d ax by cx dy near_x near_y differ = record {
       (max-le (gap_small a c near_x) (gap_small b d near_y));
 }
 
--- what a draw gives
+-- the result of a draw
 below_50 : (number draw : ℕ) → drawn number draw 50 < 50
 below_50 number draw = mod-lt _ (omega arith)
 

@@ -48,7 +48,7 @@ memory_wanted said a kind.TooMuchCost is refused = absurd cc
 memory_wanted said a kind.NoJunction is refused = absurd cc
 memory_wanted said a kind.EndRepeated is refused = absurd cc
 
--- a drawing of one block without a line has room for so many
+-- a drawing of one block without a line has room for n lines
 pub first_room : (count : ℕ) → count ≤ 930 → HasRoom first_block count
 first_room count few = record {
   threads = refl;

@@ -1,15 +1,16 @@
--- The draws of the sample drawings: numbers from the states of a generator. Own rules.
+-- The random numbers of the sample drawings, from a linear congruential generator. Own rules.
 use Rattle.std.specs.Prelude.{ℕ, ◌+◌, ◌*◌, ◌%◌, zero, suc}
 
--- the state that comes after a state
+-- The generator's next state.
 abbrev pub next_state : ℕ → ℕ
 next_state state = (75 * state + 74) % 65537
 
--- the state after so many draws; the first state is that number
+-- The generator's state after the given number of draws. The first state is the drawing's number.
 abbrev pub state_after : ℕ → ℕ → ℕ
 state_after number zero = number
 state_after number (suc draws) = next_state (state_after number draws)
 
--- what the draw with that number gives below a limit, the first draw being draw 1
+-- The number below the limit that the draw of the given number results in. Draws are numbered from
+-- 1.
 abbrev pub drawn : ℕ → ℕ → ℕ → ℕ
 drawn number draw limit = state_after number draw % limit

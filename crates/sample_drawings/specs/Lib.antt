@@ -1,7 +1,7 @@
 pub mod Draws
--- read this one first: the drawing of a number
+-- Read this one first: the sample drawing of a number.
 pub mod Samples
--- of the inside
+-- Used only inside this crate.
 pub mod Grids
 pub mod Courses
 pub mod Taking

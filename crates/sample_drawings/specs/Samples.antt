@@ -1,5 +1,5 @@
--- The sample drawing of a number, in whole tenths of a millimetre: a grid of junctions, each of
--- which lies at most 49 past its place on each axis, and the lines between them. Columns and rows
+-- The sample drawing of a number, in whole tenths of a millimetre: a grid of junctions and the
+-- lines between them. Each junction is moved at random by at most 49 on each axis. Columns and rows
 -- count from 0. Own rules.
 use Rattle.std.specs.Prelude.{ℕ, Bool, pos, ◌+◌, ◌*◌, ◌%◌, ◌==◌, ◌||◌, List, [], ◌∷◌, ◌++◌, map, codes, flat_map, if◌then◌else◌}
 use Rattle.std.specs.List.{range_with_len}
@@ -9,19 +9,19 @@ use Rattle.line_graph.specs.Drawings.{DrawingValue}
 use Rattle.sample_drawings.specs.declared.segment.Segment.{Segment}
 use Rattle.sample_drawings.specs.Draws.{drawn}
 
--- how many cells there are in each row and in each column
+-- The number of cells in each row and in each column.
 abbrev pub cell_count : ℕ → ℕ
 cell_count number = 1 + number % 15
 
--- how many junctions there are in each row and in each column
+-- The number of junctions in each row and in each column.
 abbrev pub junction_count : ℕ → ℕ
 junction_count number = cell_count number + 1
 
--- the place of column i in row j, where the rows of so many places follow one another
+-- The index of column i in row j in a table that is stored row by row.
 abbrev pub place_in : ℕ → ℕ → ℕ → ℕ
 place_in columns i j = j * columns + i
 
--- the junction of column i in row j: each junction takes two draws, in the order of their places
+-- The junction of column i in row j. Each junction takes two draws, in the order of the table.
 abbrev pub junction : ℕ → ℕ → ℕ → Point
 junction number i j =
     let draws = 2 * place_in (junction_count number) i j in record {
@@ -29,62 +29,63 @@ junction number i j =
       y = pos (100 * j + drawn number (draws + 2) 50);
     }
 
--- how many draws all junctions take
+-- The number of draws that all junctions take.
 abbrev pub junction_draws : ℕ → ℕ
 junction_draws number = 2 * (junction_count number * junction_count number)
 
--- the kind of the cell of column i in row j: each cell takes one draw, after those of all junctions
+-- The kind of the cell of column i in row j. Each cell takes one draw, after those of all
+-- junctions.
 abbrev pub cell_kind : ℕ → ℕ → ℕ → ℕ
 cell_kind number i j =
     drawn number (junction_draws number + place_in (cell_count number) i j + 1) 4
 
--- the line from the junction of column i in row j to that of column to_i in row to_j
+-- The segment from the junction of column i in row j to that of column to_i in row to_j.
 abbrev pub between : ℕ → ℕ → ℕ → ℕ → ℕ → Segment
 between number i j to_i to_j = record { from = junction number i j; to = junction number to_i to_j }
 
--- the line across, from a junction to the next one of its row
+-- The line from a junction to the next one in its row.
 abbrev pub across : ℕ → ℕ → ℕ → List Segment
 across number i j = between number i j (i + 1) j ∷ []
 
--- the line down, from a junction to the one below it
+-- The line from a junction to the one below it.
 abbrev pub down : ℕ → ℕ → ℕ → List Segment
 down number i j = between number i j i (j + 1) ∷ []
 
--- the cells of these kinds have the diagonal that falls to the right
+-- Cells of the kinds 1 and 3 have a diagonal from the upper left to the lower right.
 abbrev pub falls_right : ℕ → Bool
 falls_right kind = kind == 1 || kind == 3
 
--- the cells of these kinds have the diagonal that falls to the left
+-- Cells of the kinds 2 and 3 have a diagonal from the upper right to the lower left.
 abbrev pub falls_left : ℕ → Bool
 falls_left kind = kind == 2 || kind == 3
 
--- the line, where there is to be one
+-- A list with the given segment, if the condition holds.
 abbrev pub only_if : Bool → Segment → List Segment
 only_if there line = if there then line ∷ [] else []
 
--- the diagonals of a cell
+-- The diagonals of a cell.
 abbrev pub diagonals : ℕ → ℕ → ℕ → List Segment
 diagonals number i j =
     only_if (falls_right (cell_kind number i j)) (between number i j (i + 1) (j + 1))
     ++ only_if (falls_left (cell_kind number i j)) (between number (i + 1) j i (j + 1))
 
--- what is made of each column of each row, row by row
+-- The concatenated lists for each column of each row, row by row.
 abbrev pub row_by_row : {T : Type 0} → ℕ → ℕ → (ℕ → ℕ → List T) → List T
 row_by_row columns rows make =
     flat_map (λ j. flat_map (λ i. make i j) (range_with_len 0 columns)) (range_with_len 0 rows)
 
--- the lines: those across, those down, and then the diagonals
+-- The segments of a sample drawing: the lines across, the lines down, and the diagonals.
 abbrev pub segments : ℕ → List Segment
 segments number =
     row_by_row (cell_count number) (junction_count number) (across number)
     ++ row_by_row (junction_count number) (cell_count number) (down number)
     ++ row_by_row (cell_count number) (cell_count number) (diagonals number)
 
--- the line of the first block along a segment
+-- The line along a segment, in the first block.
 abbrev pub line_along : Segment → LineValue
 line_along s = record { block = 0; points = s.from ∷ s.to ∷ [] }
 
--- the sample drawing of a number, which has no starts and no ends
+-- The sample drawing of a number, without starts and ends.
 abbrev pub sample_of : ℕ → DrawingValue
 sample_of number = record {
   label = codes "sample";

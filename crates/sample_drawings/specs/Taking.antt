@@ -1,4 +1,4 @@
--- What lets a growing drawing take the lines of a sample. No public clause cites this file.
+-- Why a growing drawing has room for the lines of a sample. No public clause cites this file.
 use Rattle.std.specs.Prelude.{◌≡◌, ℕ, ◌+◌, ◌*◌, ◌≤◌, true, false, List, [], ◌∷◌, ◌++◌, codes, length, map}
 use Rattle.design_model.specs.declared.point.TheConstants.{NEEDLE_LIMIT}
 use Rattle.design_model.specs.Points.{is_same_point, is_within}
@@ -9,14 +9,15 @@ use Rattle.line_graph.specs.Needles.{line_steps}
 use Rattle.sample_drawings.specs.declared.segment.Segment.{Segment}
 use Rattle.sample_drawings.specs.Samples.{line_along}
 
--- a line between two different points where needles may go down, of few steps
+-- A segment between two different points that the needle can reach, of at most 6 steps.
 pub record IsShort (s : Segment) : Type 0 where
   pub from : is_within NEEDLE_LIMIT s.from ≡ true
   pub to : is_within NEEDLE_LIMIT s.to ≡ true
   pub apart : is_same_point s.from s.to ≡ false
   pub cost : line_steps 25 (s.from ∷ s.to ∷ []) ≤ 6
 
--- a drawing of one block and of such lines, which has room for so many more
+-- A drawing of one block with few points and steps for each line, and with room for the given
+-- number of lines.
 pub record HasRoom (d : DrawingValue) (more : ℕ) : Type 0 where
   pub threads : d.threads ≡ 1 ∷ []
   pub step : d.step ≡ 25
@@ -24,10 +25,10 @@ pub record HasRoom (d : DrawingValue) (more : ℕ) : Type 0 where
   pub points : point_count d.lines ≤ 2 * length d.lines
   pub steps : step_count 25 d.lines ≤ 6 * length d.lines
 
--- the drawing before its first line
+-- The sample drawing before its first line.
 abbrev pub first_block : DrawingValue
 first_block = with_block (drawing_begun (codes "sample") 25) 1
 
--- the drawing with further lines along segments
+-- The drawing with more lines, along the given segments.
 abbrev pub with_segments : DrawingValue → List Segment → DrawingValue
 with_segments d lines = record d { lines = d.lines ++ map line_along lines }

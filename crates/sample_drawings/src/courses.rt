@@ -7,7 +7,7 @@ use crate::segment::{Segment, Segments};
 use design_model::Memory;
 use std::alloc::Global;
 
-/// The courses of the lines of a grid.
+/// The directions of the lines of a grid.
 #[derive(Clone, Copy, Debug, PartialEq, Eq)]
 pub enum Course {
     Across,
@@ -15,7 +15,7 @@ pub enum Course {
     Diagonal,
 }
 
-/// The lines of a grid, in order.
+/// Returns the lines of a grid, in order.
 pub fn segments(alloc: Global, grid: &Grid) -> Result<Segments, Memory>
     ensures { IfOk result (λ lines. lines ≡ segments_of grid.now.number) }
 {

@@ -5,8 +5,8 @@ ghost use Rattle.sample_drawings.specs.Draws.{next_state};
 /// The greatest number that has a sample drawing.
 pub const MAX_NUMBER: u32 = 999_999;
 
-/// The generator of the sample drawings, which begins with a drawing's number. Each draw replaces
-/// its state.
+/// The random number generator of the sample drawings. The first state is the drawing's number, and each
+/// draw replaces the state.
 #[derive(Clone, Copy, Debug)]
 pub struct Generator {
     pub state: u32,
@@ -14,7 +14,7 @@ pub struct Generator {
 }
 
 impl Generator {
-    /// A number below that limit.
+    /// Returns a random number below the limit, and replaces the state.
     pub fn draw(&mut self, limit: u32) -> u32
         requires { 0 < limit }
         ensures state { self.new.state ≡ next_state self.old.state }

@@ -10,20 +10,19 @@ use crate::segment::Segment;
 use design_model::{Memory, Numbers, Point, Points};
 use std::alloc::Global;
 
-/// How many sizes of grids there are.
+/// The number of sizes of grids.
 const SIZES: u32 = 15;
 
-/// How far the columns and rows are apart, in tenths of a millimetre.
+/// The distance between columns and between rows, in tenths of a millimetre.
 const SPACING: u32 = 100;
 
-/// A junction lies less than this past its column and its row, in tenths of a millimetre.
+/// A junction is moved by less than this from its column and its row, in tenths of a millimetre.
 const SPREAD: u32 = 50;
 
-/// How many kinds of cells there are.
+/// The number of kinds of cells.
 const KINDS: u32 = 4;
 
-/// What the draws of a number give: the junctions of its grid and the kinds of its cells, both row
-/// by row.
+/// The grid of a number: its junctions and the kinds of its cells, both row by row.
 #[derive(Drop)]
 pub struct Grid {
     pub number: u32,
@@ -34,7 +33,7 @@ pub struct Grid {
 }
 
 impl Grid {
-    /// The grid of a number: the junctions are drawn first.
+    /// Returns the grid of a number. The junctions are drawn first.
     pub fn of_number(alloc: Global, number: u32) -> Result<Grid, Memory>
         requires { number ≤ MAX_NUMBER }
         ensures { IfOk result (λ grid. grid.number ≡ number) }
@@ -49,7 +48,7 @@ impl Grid {
         })
     }
 
-    /// The junction of column `i` in row `j`, in tenths of a millimetre.
+    /// Returns the junction of column `i` in row `j`, in tenths of a millimetre.
     pub fn junction(&self, i: u32, j: u32) -> Point
         requires column { i < junctions_in self.now.number }
         requires row { j < junctions_in self.now.number }
@@ -58,7 +57,7 @@ impl Grid {
         self.junctions.as_slice()[(j * junction_count(self.number) + i) as usize]
     }
 
-    /// The line from the junction of column `i` in row `j` to that of column `to_i` in row `to_j`.
+    /// Returns the line from the junction of column `i` in row `j` to that of column `to_i` in row `to_j`.
     pub fn between(&self, i: u32, j: u32, to_i: u32, to_j: u32) -> Segment
         requires column { i < junctions_in self.now.number }
         requires row { j < junctions_in self.now.number }
@@ -72,7 +71,7 @@ impl Grid {
         }
     }
 
-    /// The kind of the cell of column `i` in row `j`.
+    /// Returns the kind of the cell of column `i` in row `j`.
     pub fn kind(&self, i: u32, j: u32) -> u32
         requires column { i < cells_in self.now.number }
         requires row { j < cells_in self.now.number }
@@ -82,7 +81,7 @@ impl Grid {
     }
 }
 
-/// How many cells there are in each row and in each column.
+/// Returns the number of cells in each row and in each column.
 pub fn cell_count(number: u32) -> u32
     ensures value { result ≡ cells_in number }
     ensures few { result ≤ SIZES }
@@ -90,7 +89,7 @@ pub fn cell_count(number: u32) -> u32
     1 + number % SIZES
 }
 
-/// How many junctions there are in each row and in each column.
+/// Returns the number of junctions in each row and in each column.
 pub fn junction_count(number: u32) -> u32
     ensures value { result ≡ junctions_in number }
     ensures few { result ≤ SIZES + 1 }

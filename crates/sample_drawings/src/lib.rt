@@ -1,4 +1,4 @@
-//! The sample drawings: for each number a grid of lines, between junctions that a generator moves.
+//! Sample drawings: for each number a grid of lines, between junctions that are moved at random.
 #![tactic(auto)]
 
 mod courses;

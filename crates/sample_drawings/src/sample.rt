@@ -15,11 +15,11 @@ use std::alloc::Global;
 /// The longest step of a sample drawing, in tenths of a millimetre.
 const STEP: u32 = 25;
 
-/// The thread of its block.
+/// The thread number of a sample drawing's block.
 const THREAD: u8 = 1;
 
-/// The sample drawing of a number: a grid of lines, between junctions that a generator moves.
-/// `Memory` is its only refusal.
+/// Returns the sample drawing of a number: a grid of lines, between junctions that are moved at random. The
+/// only error is `Memory`.
 pub fn sample_drawing(alloc: Global, number: u32) -> Result<Drawing, Memory>
     requires low { 1 ≤ number }
     requires high { number ≤ MAX_NUMBER }
@@ -36,7 +36,7 @@ pub fn sample_drawing(alloc: Global, number: u32) -> Result<Drawing, Memory>
     }
 }
 
-/// The drawing before its first line.
+/// Returns the sample drawing before its first line.
 fn begun(alloc: Global) -> Result<DrawingMaker, Memory>
     ensures { IfOk result (λ maker. maker ≡ first_block) }
 {
@@ -71,7 +71,7 @@ fn add_line(alloc: Global, maker: &mut DrawingMaker, line: Segment) -> Result<()
     }
 }
 
-/// The refusal of a drawing that could refuse for want of memory alone.
+/// Returns the fault of a drawing whose only possible fault is `Memory`.
 fn want_of_memory(fault: DrawKind) -> Memory
     requires { fault ≡ kind.Memory }
 {

@@ -1,11 +1,11 @@
 use design_model::{Items, Point};
 
-/// A straight line from one point to another, in tenths of a millimetre.
+/// A straight segment from one point to another, in tenths of a millimetre.
 #[derive(Clone, Copy, Debug, PartialEq, Eq)]
 pub struct Segment {
     pub from: Point,
     pub to: Point,
 }
 
-/// Straight lines, in order.
+/// Straight segments, in order.
 pub type Segments = Items<Segment>;
