@@ -1,4 +1,4 @@
--- Worked values of certificate texts and of what they say.
+-- Worked values of certificate texts and of their certificates.
 use Rattle.std.proofs.Common.{◌≡◌, ℕ, true, false, List, [], ◌∷◌, ◌++◌, None, Some, Ok, Err, codes, refl}
 use Rattle.std.specs.Fmt.{digits}
 use Rattle.std.specs.List.{flat_map}
@@ -17,11 +17,11 @@ known_limit = refl
 abbrev ended : List (List ℕ) → List ℕ
 ended lines = flat_map (λ (line : List ℕ). line ++ 10 ∷ []) lines
 
--- the same behind the first line of a certificate
+-- texts after the first line of a certificate
 abbrev headed : List (List ℕ) → List ℕ
 headed lines = ended (codes "redwork-certificate 1" ∷ lines)
 
--- what these lines say behind the first one, and which of them doesn't fit
+-- the certificate of these lines after the first one, and the first bad line
 abbrev Says : List (List ℕ) → List PieceCert → Type 0
 Says lines pieces = cert_of (headed lines) ≡ Ok pieces
 
@@ -40,7 +40,7 @@ first_piece = record {
 abbrev second_piece : PieceCert
 second_piece = record { retraced = 0; walk = record { line = 9; back = false } ∷ []; cuts = [] }
 
--- the lines that say them
+-- the lines with these meanings
 abbrev two_pieces : List (List ℕ)
 two_pieces = codes "piece 12" ∷ codes "walk 1 -2" ∷ codes "cut 1" ∷ codes "cut 20 1 3" ∷ codes "piece 0"
     ∷ codes "walk 10" ∷ codes "end" ∷ []
@@ -50,7 +50,7 @@ pub known_text : certificate_text (first_piece ∷ second_piece ∷ []) ≡ head
 unfolding digits
 known_text = refl
 
--- and what it says
+-- the certificate of the text
 pub known_pieces : Says two_pieces (first_piece ∷ second_piece ∷ [])
 known_pieces = refl
 
@@ -117,7 +117,7 @@ pub known_order_failed : Fails (codes "redwork-certificate 1" ∷ codes "end" �
     × Fails (codes "piece 0" ∷ codes "walk 1" ∷ codes "redwork-certificate 1" ∷ codes "end" ∷ []) 4
 known_order_failed = (refl, refl, refl, refl, refl, refl, refl, refl, refl, refl, refl, refl, refl)
 
--- bytes behind the last line end
+-- bytes after the last line end
 pub known_rests_failed : (cert_of (headed (codes "piece 0" ∷ []) ++ codes "walk 1") ≡ Err 3)
     × (cert_of (headed (codes "end" ∷ []) ++ codes " ") ≡ Err 3)
     × (cert_of (headed [] ++ codes "end") ≡ Err 2)

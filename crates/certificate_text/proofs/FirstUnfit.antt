@@ -1,4 +1,4 @@
--- The line that is told is the first one that doesn't fit.
+-- The reported line is the first bad line.
 use Rattle.std.proofs.Common.{◌≡◌, ◌≢◌, ℕ, suc, ◌+◌, ◌-◌, ◌<◌, ◌==◌, Bool, true, false, List, [], ◌∷◌, ◌++◌, Option, None, Some, Result, Ok, Err, All, length, get_or, take, subst, ap, sym, refl, ◌∙◌, append_assoc, arith}
 use Rattle.std.proofs.lemmas.List.{flat_map_more, take_more}
 use Rattle.std.proofs.lemmas.List.Elements.{All-cons, All-head, All-nil, All-tail, All-take}
@@ -44,7 +44,7 @@ parts_lack (b ∷ text) = next_lacks (b == 10) b text refl (parts_lack text)
 abbrev ended : List (List ℕ) → List ℕ
 ended lines = flat_map (λ (bytes : List ℕ). bytes ++ 10 ∷ []) lines
 
--- the draft that lines come to, if all of them fit
+-- the draft after lines, if all of them may follow
 abbrev runs : Draft → List (List ℕ) → Option Draft
 runs said [] = Some said
 runs said (bytes ∷ lines) = option_and_then (λ new. runs new lines) (drafted said bytes)
@@ -67,7 +67,7 @@ run_on (bytes ∷ lines) said new text number lack fit =
     ∙ (run_on lines one new text (number + 1) (All-tail Lacks bytes lines lack) rest
     ∙ ap (λ (n : ℕ). said_after n new (parted 10 text)) count))))
 
--- whatever was said can become a certificate
+-- each draft can become a certificate
 record Completes (said : Draft) : Type 0 where
   rest : List ℕ
   pieces : List PieceCert
@@ -81,7 +81,7 @@ complete_by said new l has fits by = record {
   says = line_before said new l by.rest by.pieces has fits by.says;
 }
 
--- nothing is left to say
+-- no line is left
 complete_ended : (pieces : List PieceCert) → Completes (draft.Ended pieces)
 complete_ended pieces = record { rest = []; pieces = pieces; says = λ number. refl }
 
@@ -89,7 +89,7 @@ complete_ended pieces = record { rest = []; pieces = pieces; says = λ number. r
 complete_headed : Completes draft.Headed
 complete_headed = complete_by draft.Headed (draft.Ended []) line.End tt refl (complete_ended [])
 
--- the same behind a piece
+-- the lines that complete a draft after a piece
 complete_within : (done : List PieceCert) (piece : PieceCert) → Completes (draft.Within done piece)
 complete_within done piece =
     complete_by (draft.Within done piece) (draft.Ended (done ++ piece ∷ [])) line.End tt refl (complete_ended (done ++ piece ∷ []))
@@ -98,7 +98,7 @@ complete_within done piece =
 abbrev one_pass : List Pass
 one_pass = record { line = 0; back = false } ∷ []
 
--- by cases on what was said
+-- by cases on the draft
 complete : (said : Draft) → Completes said
 complete draft.Blank = complete_by draft.Blank draft.Headed line.Head tt refl complete_headed
 complete draft.Headed = complete_headed
@@ -109,7 +109,7 @@ complete (draft.Opened done retraced) =
 complete (draft.Within done piece) = complete_within done piece
 complete (draft.Ended pieces) = complete_ended pieces
 
--- so many lines fit, and the next one, if it is ended, doesn't
+-- the first n lines are good, and the next one, if it is ended, is bad
 record Stops (said : Draft) (parts : List (List ℕ)) (number told : ℕ) : Type 0 where
   fit : ℕ
   is : told ≡ number + fit
@@ -126,7 +126,7 @@ same_err a b is = cc
 ok_err : {A : Type 0} (a : A) (n : ℕ) → Ok a ≡ Err n → ⊥
 ok_err a n is = cc
 
--- what is refused behind the last line is told with the number of that place
+-- a fault after the last line is reported with the number of the next line
 end_told : (number : ℕ) (said : Draft) (rest : List ℕ) (told : ℕ) → at_end number said rest ≡ Err told → told ≡ number
 end_told number (draft.Ended pieces) [] told says = absurd (ok_err pieces told says)
 end_told number said rest told says = same_err number told says
@@ -137,7 +137,7 @@ stop_here : (said : Draft) (bytes next : List ℕ) (more : List (List ℕ)) (num
 stop_here said bytes next more number told none is =
     record { fit = 0; is = omega (arith, is); there = omega arith; new = said; run = refl; unfit = λ ended. none }
 
--- it is one behind the next line
+-- the number is one more after the next line
 stop_later : (said one : Draft) (bytes next : List ℕ) (more : List (List ℕ)) (number told : ℕ) → drafted said bytes ≡ Some one
     → Stops one (next ∷ more) (number + 1) told → Stops said (bytes ∷ next ∷ more) number told
 stop_later said one bytes next more number told first by = record {
@@ -179,7 +179,7 @@ begins_with lines new lack fit =
       says = run_on lines draft.Blank new by.rest 1 lack fit ∙ by.says (1 + length lines);
     }
 
--- and none with a line behind them that doesn't
+-- no certificate begins with a bad line after these
 begins_no_more : (lines : List (List ℕ)) (bytes : List ℕ) (new : Draft) → All Lacks lines → Lacks bytes
     → runs draft.Blank lines ≡ Some new → drafted new bytes ≡ None → Begins (ended lines ++ (bytes ++ 10 ∷ [])) → ⊥
 begins_no_more lines bytes new lack lacks fit unfit begins =
@@ -199,7 +199,7 @@ one_more parts i there =
     ap ended (take_more parts i [] there)
     ∙ sym (flat_map_more (λ (bytes : List ℕ). bytes ++ 10 ∷ []) [] (take i parts) (get_or parts i []))
 
--- the number that is told is that of the first line that doesn't fit
+-- the reported number is that of the first bad line
 pub told_is_first : (text : List ℕ) (number : ℕ) → cert_of text ≡ Err number → IsFirstUnfit text number
 told_is_first text number says =
     let parts : List (List ℕ) = parted 10 text in

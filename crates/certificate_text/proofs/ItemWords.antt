@@ -1,4 +1,4 @@
--- Passes and members as words: what words say, and the text of what they say.
+-- Passes and members as words: the meaning of words, and the text of that meaning.
 use Rattle.std.proofs.Common.{◌≡◌, ℕ, ◌+◌, ◌-◌, ◌<◌, ◌≤◌, ◌^◌, ◌==◌, Bool, true, false, nat_lt, List, [], ◌∷◌, ◌++◌, Some, option_map, length, All, decimal, subst, ap, sym, refl, ◌∙◌, map, arith}
 use Rattle.std.proofs.lemmas.Bool.{and_from, and_parts}
 use Rattle.std.proofs.lemmas.Bool.Decides.{nat_tests}
@@ -21,11 +21,11 @@ HasPass pass = pass.line + 1 < 2 ^ 32
 abbrev pub HasMember : ℕ → Type 0
 HasMember j = j + 1 < 2 ^ 32
 
--- the word that spells a member
+-- the word that denotes a member
 abbrev pub member_word : ℕ → List ℕ
 member_word j = decimal (j + 1)
 
--- the words of passes and of members are spelled after spaces
+-- the words of passes and of members are printed after spaces
 pub passes_spaced : (walk : List Pass) → passes_text walk ≡ spaced (map pass_word walk)
 passes_spaced [] = refl
 passes_spaced (pass ∷ walk) =
@@ -37,7 +37,7 @@ members_spaced [] = refl
 members_spaced (j ∷ members) =
     ap (λ (text : List ℕ). (32 ∷ member_word j) ++ text) (members_spaced members)
 
--- a spelled pass is read
+-- a printed pass is read
 pass_read : (pass : Pass) → HasPass pass → pass_in (pass_word pass) ≡ Some pass
 pass_read pass has = by_sign pass.back refl where
   along : (back : Bool) → pass_along back (decimal (pass.line + 1)) ≡ Some (record { line = pass.line; back = back })
@@ -59,13 +59,13 @@ pass_read pass has = by_sign pass.back refl where
       rw is (forward (decimal (pass.line + 1)) (digits_decimal own (pass.line + 1) fits)
       (decimal_nonempty (pass.line + 1) fits) ∙ along false)
 
--- and so are spelled passes
+-- printed passes are read
 pub passes_read : (walk : List Pass) → All HasPass walk → passes_in (map pass_word walk) ≡ Some walk
 passes_read [] have = refl
 passes_read (pass ∷ walk) have =
     rw (pass_read pass (All-head HasPass pass walk have), passes_read walk (All-tail HasPass pass walk have)) refl
 
--- what words say of passes
+-- the passes that words denote
 pub record SayPasses (words : List (List ℕ)) (walk : List Pass) : Type 0 where
   pub are : map pass_word walk ≡ words
   pub have : All HasPass walk
@@ -118,7 +118,7 @@ rises_reach j (k ∷ members) rising =
     let less = (and_parts (nat_lt j k) (above j members) both.0).0 in
     grind (arith, nat_tests, less)
 
--- spelled members are read
+-- printed members are read
 pub members_read : (before : ℕ) (members : List ℕ) → Reaches before members → rises members ≡ true → All HasMember members
     → members_after before (map member_word members) ≡ Some members
 members_read before [] reach rising have = refl
@@ -132,7 +132,7 @@ members_read before (j ∷ members) reach rising have =
       same,
     ) refl
 
--- what words say of members
+-- the members that words denote
 pub record SayMembers (before : ℕ) (words : List (List ℕ)) (members : List ℕ) : Type 0 where
   pub are : map member_word members ≡ words
   pub reach : Reaches before members

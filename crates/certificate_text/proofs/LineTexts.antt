@@ -1,4 +1,4 @@
--- The lines of a certificate as texts: what a line says, and the text of what it says.
+-- The lines of a certificate as texts: the meaning of a line, and the text of that meaning.
 use Rattle.std.proofs.Common.{◌≡◌, ◌≢◌, ℕ, ◌<◌, ◌^◌, Bool, true, false, List, [], ◌∷◌, ◌++◌, Some, option_map, All, bytes_eq, codes, decimal, subst, ap, sym, refl, ◌∙◌, map, append-nil}
 use Rattle.std.proofs.lemmas.List.Splits.{join_with_byte-slice_split}
 use Rattle.std.proofs.lemmas.Option.{none-some, same_Some}
@@ -15,13 +15,13 @@ use Rattle.cut_certificate.specs.Packings.{IsPlainCut}
 use Rattle.certificate_text.proofs.ItemWords.{HasMember, HasPass, members_are, members_spaced, passes_are, passes_spaced}
 use Rattle.certificate_text.proofs.NumberWords.{above_is, map_some, number_is, pass_word, spaced, then_some}
 
--- a cut that can be spelled
+-- a cut that can be printed
 pub record HasCut (cut : Cut) : Type 0 where
   pub plain : IsPlainCut cut
   pub small : cut.weight < 2 ^ 32
   pub members : All HasMember cut.members
 
--- what is said can be spelled
+-- a meaning that can be printed
 abbrev pub HasLine : CertLine → Type 0
 HasLine line.Head = Unit {0}
 HasLine (line.Piece retraced) = retraced < 2 ^ 32
@@ -29,7 +29,7 @@ HasLine (line.Walk walk) = (walk ≢ []) × All HasPass walk
 HasLine (line.Cut cut) = HasCut cut
 HasLine line.End = Unit {0}
 
--- the bytes that say it
+-- the bytes that have this meaning
 abbrev pub line_bytes : CertLine → List ℕ
 line_bytes line.Head = codes "redwork-certificate 1"
 line_bytes (line.Piece retraced) = codes "piece " ++ decimal retraced
@@ -37,7 +37,7 @@ line_bytes (line.Walk walk) = codes "walk" ++ passes_text walk
 line_bytes (line.Cut cut) = codes "cut " ++ (decimal cut.weight ++ flat_map member_text cut.members)
 line_bytes line.End = codes "end"
 
--- bytes say this, and nothing else does
+-- bytes have this meaning, and no other bytes do
 pub record SaysLine (bytes : List ℕ) (l : CertLine) : Type 0 where
   pub is : bytes ≡ line_bytes l
   pub has : HasLine l
@@ -127,7 +127,7 @@ words_are (word ∷ words) l says =
           (cut_said words l (rw (is, walks, cuts) at says))
       by_kind false false false is walks cuts = absurd (none-some l (rw (is, walks, cuts) at says))
 
--- what says a line is its text
+-- bytes with the meaning of a line are the text of that line
 pub line_is : (bytes : List ℕ) (l : CertLine) → line_said bytes ≡ Some l → SaysLine bytes l
 line_is bytes l says =
     by_kind (bytes_eq bytes (codes "redwork-certificate 1")) (bytes_eq bytes (codes "end")) refl refl where

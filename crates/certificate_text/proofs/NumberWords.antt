@@ -1,4 +1,4 @@
--- Numbers, passes and members as words: what a word says, and the text of what it says.
+-- Numbers, passes and members as words: the meaning of a word, and the text of that meaning.
 use Rattle.std.proofs.Common.{◌≡◌, ℕ, ◌+◌, ◌-◌, ◌<◌, ◌^◌, ◌==◌, Bool, true, false, not, nat_lt, List, [], ◌∷◌, ◌++◌, Option, None, Some, option_map, length, get_or, codes, decimal, if◌then◌else◌, subst, ap, sym, refl, ◌∙◌, inl, inr, arith}
 use Rattle.std.proofs.lemmas.Bool.{and_from, and_parts, cases_order}
 use Rattle.std.proofs.lemmas.Bool.Decides.{nat_tests}
@@ -18,7 +18,7 @@ use Rattle.certificate_text.specs.CertificateTexts.{pass_text}
 pub own : IsNumeralModel (λ ds. all_ascii_digits ds ≡ true) (digits_value 10)
 own = numerals_by_value (λ ds. all_ascii_digits ds ≡ true) tells_all_ascii_digits
 
--- what an answer that is there stands on
+-- the parts of a result that is present
 pub if_some : {A : Type 0} (test : Bool) (o : Option A) (a : A) → (if test then o else None) ≡ Some a
     → (test ≡ true) × (o ≡ Some a)
 if_some true o a is = (refl, is)
@@ -46,7 +46,7 @@ record IsPlain (word : List ℕ) : Type 0 where
 false_true : false ≡ true → ⊥
 false_true is = cc
 
--- what the test of a numeral tells
+-- the result of the test of a numeral
 plain_is : (word : List ℕ) → is_plain_numeral word ≡ true → IsPlain word
 plain_is [] is = absurd (false_true is)
 plain_is (b ∷ []) is = record { digits = and_from (is_ascii_digit b) true is refl; some = omega arith; lead = λ zero. refl }
@@ -54,7 +54,7 @@ plain_is (b ∷ c ∷ rest) is =
     let both = and_parts (not (b == 48)) (all_ascii_digits (b ∷ c ∷ rest)) is in
     record { digits = both.1; some = omega arith; lead = λ zero. absurd (grind (arith, nat_tests, both.0, zero)) }
 
--- digits behind one that is no zero are such a numeral
+-- digits after one that is no zero are such a numeral
 plain_from : (word : List ℕ) → all_ascii_digits word ≡ true → 0 < length word → 48 < get_or word 0 0
     → is_plain_numeral word ≡ true
 plain_from [] digits some lead = absurd (omega arith)
@@ -62,7 +62,7 @@ plain_from (b ∷ []) digits some lead = (and_parts (is_ascii_digit b) true digi
 plain_from (b ∷ c ∷ rest) digits some lead =
     and_from (not (b == 48)) (all_ascii_digits (b ∷ c ∷ rest)) (grind (arith, nat_tests, lead)) digits
 
--- the spelling of a number has no leading zero
+-- the numeral of a number has no leading zero
 decimal_plain : (n : ℕ) → n < 2 ^ 64 → is_plain_numeral (decimal n) ≡ true
 decimal_plain n small = elim (cases_order n 0) [
   | inl none ↦ rw (none, decimal_digit 0 (omega arith)) refl
@@ -71,19 +71,19 @@ decimal_plain n small = elim (cases_order n 0) [
       plain_from (decimal n) (digits_decimal own n small) (decimal_nonempty n small) (first_decimal n more small)
 ]
 
--- a number is read from its spelling
+-- a number is read from its numeral
 pub number_read : (n : ℕ) → n < 2 ^ 32 → number_in (decimal n) ≡ Some n
 number_read n small =
     let fits : n < 2 ^ 64 = omega (arith, small) in
     let test : nat_lt n (2 ^ 32) ≡ true = grind (arith, nat_tests, small) in
     rw (decimal_plain n fits, digits_value-decimal own n fits, test) refl
 
--- a word that spells this number
+-- a word that denotes this number
 pub record Spells (word : List ℕ) (n : ℕ) : Type 0 where
   pub is : decimal n ≡ word
   pub small : n < 2 ^ 32
 
--- the number that is read from a word is the one that it spells
+-- the number that is read from a word is the one that it denotes
 pub number_is : (word : List ℕ) (n : ℕ) → number_in word ≡ Some n → Spells word n
 number_is word n says =
     let plain = if_some (is_plain_numeral word) (small_number (digits_value 10 word)) n says in
@@ -115,7 +115,7 @@ above_is least word n says =
 abbrev pub spaced : List (List ℕ) → List ℕ
 spaced words = flat_map (λ (word : List ℕ). 32 ∷ word) words
 
--- a pass, and the word that spells it
+-- a pass, and the word that denotes it
 abbrev pub pass_word : Pass → List ℕ
 pass_word pass = (if pass.back then 45 ∷ [] else []) ++ decimal (pass.line + 1)
 
@@ -127,7 +127,7 @@ pass_spaced pass = by_sign pass.back where
   by_sign true = refl
   by_sign false = refl
 
--- what a word says of a pass
+-- the pass that a word denotes
 pub record SaysPass (word : List ℕ) (pass : Pass) : Type 0 where
   pub is : pass_word pass ≡ word
   pub fits : pass.line + 1 < 2 ^ 32

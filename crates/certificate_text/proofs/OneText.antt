@@ -1,4 +1,4 @@
--- A text that says a certificate is the text of that certificate, and no other is.
+-- A text that is read as a certificate is the text of that certificate, and no other text is.
 use Rattle.std.proofs.Common.{◌≡◌, ℕ, ◌+◌, ◌<◌, ◌^◌, List, [], ◌∷◌, ◌++◌, Option, None, Some, Result, Ok, Err, All, codes, decimal, subst, ap, sym, refl, ◌∙◌, append_assoc, append-nil}
 use Rattle.std.proofs.lemmas.Grind.{flat_map-append}
 use Rattle.std.proofs.lemmas.List.Elements.{All-nil, All-push, All-weaker}
@@ -33,7 +33,7 @@ pub record HasText (piece : PieceCert) : Type 0 where
 abbrev pub begun : List PieceCert → List ℕ
 begun done = codes "redwork-certificate 1" ++ (line_end ++ flat_map piece_text done)
 
--- the lines that say a draft
+-- the lines of a draft
 abbrev draft_text : Draft → List ℕ
 draft_text draft.Blank = []
 draft_text draft.Headed = begun []
@@ -81,7 +81,7 @@ piece_more piece cut =
     ∙ sym (ap (λ (t : List ℕ). codes "piece " ++ t) (append_assoc cost (10 ∷ (codes "walk" ++ (walk ++ 10 ∷ cuts))) text
     ∙ ap (λ (t : List ℕ). cost ++ 10 ∷ (codes "walk" ++ t)) (append_assoc walk (10 ∷ cuts) text)))
 
--- a walk behind the first line of its piece
+-- a walk after the first line of its piece
 walk_bytes : (retraced : ℕ) (walk : List Pass)
     → (codes "piece " ++ (decimal retraced ++ line_end)) ++ (line_bytes (line.Walk walk) ++ line_end)
     ≡ piece_text (record { retraced = retraced; walk = walk; cuts = [] })
@@ -157,7 +157,7 @@ added said new bytes fits =
       has = λ before. both.1 before one.has;
     })
 
--- what a text says has that text
+-- the certificate that is read from a text has that text
 record Spelled (before text : List ℕ) (said : Draft) (pieces : List PieceCert) : Type 0 where
   text_is : before ++ text ≡ certificate_text pieces
   has : HasDraft said → All HasText pieces
@@ -171,18 +171,18 @@ abbrev AtEnd : Draft → List ℕ → Result (List PieceCert) ℕ → Type 0
 AtEnd said rest (Ok pieces) = Spelled (draft_text said) rest said pieces
 AtEnd said rest (Err n) = Unit {0}
 
--- behind the end nothing stands
+-- nothing follows the end
 ends : (n : ℕ) (said : Draft) (rest : List ℕ) → AtEnd said rest (at_end n said rest)
 ends n (draft.Ended pieces) [] = record { text_is = append-nil (certificate_text pieces); has = λ all. all }
 ends n said rest = tt
 
--- a line that fits, and what comes behind it
+-- a line that may follow, and what comes after it
 goes_on : (n : ℕ) (new : Option Draft) (next : Draft → Result (List PieceCert) ℕ) (pieces : List PieceCert) {P : Type 0}
     → and_then (ok_or new n) next ≡ Ok pieces → ((said : Draft) → new ≡ Some said → next said ≡ Ok pieces → P) → P
 goes_on n None next pieces says then = absurd (err_ok n pieces says)
 goes_on n (Some said) next pieces says then = then said refl says
 
--- the text behind a draft
+-- the text after a draft
 spelled_after : (parts : List (List ℕ)) (n : ℕ) (said : Draft) (pieces : List PieceCert) → said_after n said parts ≡ Ok pieces
     → Spelled (draft_text said) (join_with_byte 10 parts) said pieces
 spelled_after [] n said pieces says = absurd (err_ok n pieces says)
@@ -207,11 +207,11 @@ whole text pieces says =
     subst (λ (bytes : List ℕ). Spelled [] bytes draft.Blank pieces) (join_with_byte-slice_split 10 text)
     (spelled_after (parted 10 text) 1 draft.Blank pieces says)
 
--- a text that says pieces is their text
+-- a text that is read as pieces is the text of these pieces
 pub one_text : (text : List ℕ) (pieces : List PieceCert) → cert_of text ≡ Ok pieces → text ≡ certificate_text pieces
 one_text text pieces says = (whole text pieces says).text_is
 
--- and these can be spelled
+-- pieces that are read can be printed
 pub said_spelled : (text : List ℕ) (pieces : List PieceCert) → cert_of text ≡ Ok pieces
     → All CanBeSpelled pieces × All HasSmallNumbers pieces
 said_spelled text pieces says =

@@ -1,4 +1,4 @@
--- The text of a certificate says that certificate.
+-- The text of a certificate is read as that certificate.
 use Rattle.std.proofs.Common.{◌≡◌, ◌≢◌, ℕ, ◌+◌, ◌<◌, ◌^◌, ◌==◌, ◌&&◌, Bool, true, false, not, List, [], ◌∷◌, ◌++◌, Option, Some, option_map, Ok, All, bytes_eq, codes, decimal, map, subst, ap, sym, refl, ◌∙◌, append_assoc, append-nil, arith}
 use Rattle.std.proofs.lemmas.Bool.{and_from, and_parts, not-true}
 use Rattle.std.proofs.lemmas.Bool.Decides.{nat_tests}
@@ -47,11 +47,11 @@ digits_inner (b ∷ ds) digits =
     let both = and_parts (is_ascii_digit b) (all_ascii_digits ds) digits in
     and_from (is_inner b) (list_all is_inner ds) (grind (arith, nat_tests, both.0)) (digits_inner ds both.1)
 
--- a spelled number is one
+-- a printed number is one word
 number_word : (n : ℕ) → n < 2 ^ 32 → list_all is_inner (decimal n) ≡ true
 number_word n small = digits_inner (decimal n) (digits_decimal own n (omega (arith, small)))
 
--- a spelled pass is one
+-- a printed pass is one word
 pass_inner : (pass : Pass) → HasPass pass → list_all is_inner (pass_word pass) ≡ true
 pass_inner pass has = by_sign pass.back refl where
   by_sign : (back : Bool) → pass.back ≡ back → list_all is_inner (pass_word pass) ≡ true
@@ -153,7 +153,7 @@ record IsLine (l : CertLine) : Type 0 where
   words : words_in (line_bytes l) ≡ line_words l
   kept : list_all is_kept (line_bytes l) ≡ true
 
--- each line that can be spelled is such a line
+-- each line that can be printed is such a line
 is_line : (l : CertLine) → HasLine l → IsLine l
 is_line l has =
     let of = words_of l in
@@ -181,7 +181,7 @@ by_words : (bytes : List ℕ) → bytes_eq bytes (codes "redwork-certificate 1")
     → line_said bytes ≡ words_said (words_in bytes)
 by_words bytes head end = rw (head, end) refl
 
--- the text of a line says it
+-- the text of a line has its meaning
 line_read : (l : CertLine) → HasLine l → line_said (line_bytes l) ≡ Some l
 line_read line.Head has = refl
 line_read (line.Piece retraced) has =
@@ -199,7 +199,7 @@ line_read line.End has = refl
 abbrev pub Lacks : List ℕ → Type 0
 Lacks bytes = All (λ b. (b == 10) ≡ false) bytes
 
--- the lines behind a draft say these pieces, whatever their numbers
+-- the lines after a draft complete it with these pieces, whatever their numbers
 abbrev pub SayOn : Draft → List ℕ → List PieceCert → Type 0
 SayOn said text pieces = (number : ℕ) → said_after number said (parted 10 text) ≡ Ok pieces
 
@@ -209,7 +209,7 @@ pub next_judged : (number : ℕ) (said : Draft) (bytes text : List ℕ) → Lack
 next_judged number said bytes text lacks =
     line_judged number said (bytes ++ 10 ∷ text) bytes text (slice_split_at (λ (b : ℕ). b == 10) bytes 10 text lacks refl)
 
--- the same of a line by what it says
+-- a line by its meaning, after a draft
 pub line_before : (said new : Draft) (l : CertLine) (text : List ℕ) (pieces : List PieceCert) → HasLine l
     → judged said l ≡ Some new → SayOn new text pieces → SayOn said (line_bytes l ++ 10 ∷ text) pieces
 line_before said new l text pieces has fits rest number =
@@ -250,12 +250,12 @@ cuts_before (cut ∷ cuts) done piece text pieces have rest =
     (line_before (draft.Within done piece) (draft.Within done (with_cut piece cut)) (line.Cut cut) behind pieces
     (All-head HasCut cut cuts have) refl others)
 
--- behind a draft a piece may begin, or the certificate may end, with these pieces done
+-- after a draft a piece may begin, or the certificate may end, with these pieces complete
 record Awaits (said : Draft) (done : List PieceCert) : Type 0 where
   opens : (retraced : ℕ) → judged said (line.Piece retraced) ≡ Some (draft.Opened done retraced)
   ends : judged said line.End ≡ Some (draft.Ended done)
 
--- the cuts of a piece that can be spelled
+-- the cuts of a piece that can be printed
 cuts_have : (cuts : List Cut) → All IsPlainCut cuts → All (λ (cut : Cut). All HasMember cut.members) cuts
     → All (λ (cut : Cut). cut.weight < 2 ^ 32) cuts → All HasCut cuts
 cuts_have cuts plain members small = λ k d there. record { plain = plain k d there; small = small k d there; members = members k d there }
@@ -301,7 +301,7 @@ pieces_say (piece ∷ pieces) said done awaits have =
     (sym (append_assoc (piece_text piece) (flat_map piece_text pieces) (codes "end" ++ line_end)))
     (piece_before said done piece rest (done ++ piece ∷ pieces) awaits (All-head HasText piece pieces have) whole)
 
--- the whole text
+-- the entire text
 pub text_says : (pieces : List PieceCert) → All CanBeSpelled pieces → All HasSmallNumbers pieces
     → cert_of (certificate_text pieces) ≡ Ok pieces
 text_says pieces spelled small =

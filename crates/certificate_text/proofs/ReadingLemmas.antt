@@ -8,17 +8,17 @@ use Rattle.text_parts.specs.Parts.{parted}
 use Rattle.certificate_text.specs.ReadCertificates.{cert_of, drafted, said_after}
 use Rattle.certificate_text.proofs.PartLemmas.{some_part}
 
--- what is said after the next line
+-- the result after the next line
 abbrev pub goes_on : ℕ → Option Draft → List (List ℕ) → Result (List PieceCert) ℕ
 goes_on number new rest = and_then (ok_or new number) (λ said. said_after (number + 1) said rest)
 
--- by the parts behind it
+-- by the parts after it
 line_of_more : (number : ℕ) (said : Draft) (line : List ℕ) (rest : List (List ℕ)) → rest ≢ []
     → said_after number said (line ∷ rest) ≡ goes_on number (drafted said line) rest
 line_of_more number said line [] some = absurd (some refl)
 line_of_more number said line (next ∷ rest) some = refl
 
--- the next line is judged, and then those behind it
+-- the next line is read, and then those after it
 pub line_judged : (number : ℕ) (said : Draft) (text line after : List ℕ) → parted 10 text ≡ line ∷ parted 10 after
     → said_after number said (parted 10 text) ≡ goes_on number (drafted said line) (parted 10 after)
 line_judged number said text line after are =

@@ -1,4 +1,4 @@
--- A text has more bytes than any list of what it says has items.
+-- A text has more bytes than any list of its certificate has items.
 use Rattle.std.proofs.Common.{◌≡◌, ℕ, ◌+◌, ◌<◌, ◌≤◌, List, [], ◌∷◌, ◌++◌, length, get_or, codes, decimal, ap, arith}
 use Rattle.std.proofs.lemmas.List.{length-append}
 use Rattle.std.proofs.lemmas.List.Folds.{length-flat_map-take}
@@ -38,11 +38,11 @@ cut_some cut = omega arith
 piece_some : (piece : PieceCert) → 1 ≤ length (piece_text piece)
 piece_some piece = omega arith
 
--- what stands first is no longer than the whole
+-- the first part is no longer than all parts together
 first_most : (before after : List ℕ) → length before ≤ length (before ++ after)
 first_most before after = omega (arith, length-append before after)
 
--- nor is what stands behind it
+-- nor is what follows it
 last_most : (before after : List ℕ) → length after ≤ length (before ++ after)
 last_most before after = omega (arith, length-append before after)
 

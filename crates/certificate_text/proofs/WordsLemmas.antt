@@ -6,7 +6,7 @@ use Rattle.text_parts.specs.Parts.{words_in}
 use Rattle.certificate_text.proofs.PartLemmas.{some_part}
 use Rattle.line_graph.specs.declared.pass.Pass.{Pass}
 
--- a word with others behind it is not the only one
+-- a word with others after it is not the only one
 not_only : (word : List ℕ) (words : List (List ℕ)) → words ≢ [] → only_number (word ∷ words) ≡ None
 not_only word [] some = absurd (some refl)
 not_only word (next ∷ words) some = refl
@@ -28,21 +28,21 @@ walk_of_words words = walk_of_some (words_in words) (some_part 32 words)
 abbrev pub behind : {A : Type 0} → List A → Option (List A) → Option (List A)
 behind items rest = option_map (λ more. items ++ more) rest
 
--- the words so far spell these passes, and the rest goes on
+-- the words so far denote these passes, and the rest is read after them
 pub record PassesOn (words rest : List ℕ) (walk : List Pass) : Type 0 where
   pub whole : passes_in (words_in words) ≡ behind walk (passes_in (words_in rest))
 
--- the words so far spell these members, and the rest goes on behind that number
+-- the words so far denote these members, and the rest is read after that number
 pub record MembersOn (words rest : List ℕ) (before : ℕ) (members : List ℕ) : Type 0 where
   pub whole : members_after 0 (words_in words) ≡ behind members (members_after before (words_in rest))
 
--- a member is behind those so far, and others behind it
+-- a member is after those so far, and others after it
 one_behind : (members : List ℕ) (n : ℕ) (rest : Option (List ℕ))
     → behind members (option_map (λ more. n ∷ more) rest) ≡ behind (members ++ n ∷ []) rest
 one_behind members n None = refl
 one_behind members n (Some more) = ap Some (sym (append_assoc members (n ∷ []) more))
 
--- so the word that spells it goes over to the members
+-- the word that denotes a member is added to the members
 pub one_member : (words rest word after : List ℕ) (before number : ℕ) (members more : List ℕ) → MembersOn words rest before members
     → words_in rest ≡ word ∷ words_in after → Some number ≡ number_above before word → more ≡ members ++ (number - 1) ∷ []
     → MembersOn words after number more

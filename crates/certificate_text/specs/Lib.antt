@@ -1,6 +1,6 @@
--- words of the crate below that public clauses cite
+-- Definitions of a lower crate that public clauses cite.
 pub use Rattle.cut_certificate.specs.Certificates
--- read this one first: what a certificate looks like
+-- Read this one first: the text of a certificate.
 pub mod CertificateTexts
 pub mod CertificateLines
 pub mod ReadCertificates

@@ -8,23 +8,23 @@ use design_model::Memory;
 use line_graph::Walk;
 use std::alloc::Global;
 
-/// What the lines of a certificate text so far say.
+/// A draft: the certificate of the text lines so far.
 #[derive(Debug, Drop)]
 pub enum Draft {
-    /// No line came.
+    /// There is no line yet.
     Blank,
-    /// The first line came, and no piece.
+    /// There is the first line, and no piece yet.
     Headed,
-    /// These pieces are done, and one with that retraced cost wants its walk.
+    /// The pieces in `done` are complete, and a piece with the retraced cost needs its walk.
     Opened { done: PieceCerts, retraced: u32 },
-    /// These pieces are done, and further cuts of this one may come.
+    /// The pieces in `done` are complete, and more cuts of `piece` may follow.
     Within { done: PieceCerts, piece: PieceCert },
-    /// The last line came.
+    /// The certificate is complete.
     Ended { pieces: PieceCerts },
 }
 
 impl Draft {
-    /// What is said with one more line, if it may stand there.
+    /// Returns the draft with one more line, if such a line may follow.
     pub(crate) fn with_line(self, alloc: Global, line: &[u8]) -> Result<Option<Draft>, Memory>
         ensures { IfOk result (λ new. new ≡ drafted self line.now) }
     {

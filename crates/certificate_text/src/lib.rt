@@ -1,4 +1,4 @@
-//! The text of certificates: its reading, and its printing.
+//! The text of certificates: reads and prints it.
 #![tactic(auto)]
 
 mod draft;

@@ -10,12 +10,12 @@ use line_graph::{Pass, Walk};
 use std::alloc::Global;
 use text_parts::{spells, split_first};
 
-/// What one line of a certificate says.
+/// The meaning of one line of a certificate.
 #[derive(Debug, Drop)]
 pub enum CertLine {
     /// A certificate begins.
     Head,
-    /// A piece begins, whose walk costs so many steps above its lines.
+    /// A piece begins. The number is its retraced cost: the cost of its walk above that of its lines.
     Piece(u32),
     /// The walk of the piece.
     Walk(Walk),
@@ -25,7 +25,7 @@ pub enum CertLine {
     End,
 }
 
-/// What the bytes of a line say, if they say anything.
+/// Returns the meaning of a line by its bytes, if there is one.
 pub(crate) fn line_of(alloc: Global, line: &[u8]) -> Result<Option<CertLine>, Memory>
     ensures { IfOk result (λ said. said ≡ line_said line.now) }
 {
@@ -150,7 +150,7 @@ fn members_of(alloc: Global, words: &[u8]) -> Result<Option<Numbers>, Memory>
     Ok(Some(members))
 }
 
-/// The number that a word spells, where it is greater than that one.
+/// Returns the number that a word denotes, if it is greater than the given one.
 fn number_above(least: u32, word: &[u8]) -> Option<u32>
     ensures value { result ≡ above least word.now }
     ensures more { IfSome result (λ number. least < number) }

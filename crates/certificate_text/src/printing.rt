@@ -10,7 +10,7 @@ use itoa::Buffer;
 use line_graph::Pass;
 use std::alloc::Global;
 
-/// The text of a certificate, which is read as that certificate again.
+/// Returns the text of a certificate. Reading the text returns the certificate.
 #[tactic(auto, using(crate::proofs::ReadTexts::text_says))]
 pub fn print_cert(alloc: Global, cert: &Cert) -> Result<Bytes, Memory>
     requires { All CanBeSpelled cert.now.pieces }

@@ -9,15 +9,16 @@ use design_model::Memory;
 use std::alloc::Global;
 use text_parts::split_line;
 
-/// The most bytes of a certificate's text.
+/// The greatest number of bytes of a certificate's text.
 pub const MAX_CERT: usize = 67_108_864;
 
-/// Why a text is no certificate. Lines of a text count from 1.
+/// The reason why a text is no certificate. Lines of a text are numbered from 1.
 #[derive(Clone, Copy, Debug, PartialEq, Eq)]
 pub enum CertFault {
-    /// The first line that doesn't fit, or the one that is missing where the text ends too early.
+    /// The first line that may not follow the lines before it, or the missing line where the text ends too
+    /// early.
     BadLine { number: u32 },
-    /// Memory was wanted and not found.
+    /// Memory could not be allocated.
     Memory,
 }
 
@@ -31,7 +32,7 @@ impl From<Memory> for CertFault {
     }
 }
 
-/// The certificate that a text says.
+/// Returns the certificate that a text denotes. Errors: `BadLine` at the first bad line; or `Memory`.
 pub fn read_cert(alloc: Global, bytes: &[u8]) -> Result<Cert, CertFault>
     requires { length bytes.now ≤ MAX_CERT }
     ensures value { ReadsCert (cert_of bytes.now) result }

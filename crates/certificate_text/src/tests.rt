@@ -18,7 +18,7 @@ fn cert(alloc: Global, text: &[u8]) -> Result<Cert, CertFault>
     read_cert(alloc, text)
 }
 
-/// The number of the first line that doesn't fit, or 0 where the text is a certificate.
+/// The number of the first bad line, or 0 where the text is a certificate.
 fn bad_line(alloc: Global, text: &[u8]) -> Option<u32> {
     match cert(alloc, text) {
         Ok(_) => Some(0),
@@ -53,7 +53,7 @@ fn the_first_line_and_the_last_line_have_one_spelling(rt: HostRuntime) {
     }
 }
 
-/// So many times a text, behind a head and before an end.
+/// The given number of times a text, after a head and before an end.
 fn repeated(
     alloc: Global,
     head: &str,
@@ -70,7 +70,7 @@ fn repeated(
     Ok(text)
 }
 
-/// Of each text behind a first line the first line that doesn't fit is that one, or 0 where all do.
+/// For each text after a first line, the number of the first bad line, or 0 where there is none.
 fn tells_each(rt: &impl Abort, alloc: Global, table: &[(&str, u32)]) -> Result<(), Fail> {
     for (rest, number) in table {
         let text = repeated(alloc, "redwork-certificate 1\n", rest, 1, "")

@@ -4,7 +4,7 @@ ghost use Rattle.std.specs.Str.{all_ascii_digits};
 ghost use Rattle.std.specs.Str.Parse.{digits_value};
 ghost use Rattle.certificate_text.specs.CertificateLines.{is_plain_numeral as is_plain, number_in as number_spelled};
 
-/// The number below 2 ^ 32 that a word of any length spells without leading zeros.
+/// Returns the number below 2 ^ 32 that a word of any length denotes without leading zeros.
 pub(crate) fn number_in(word: &[u8]) -> Option<u32>
     ensures { result ≡ number_spelled word.now }
 {
