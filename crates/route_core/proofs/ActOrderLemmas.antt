@@ -32,7 +32,7 @@ drop_step acts at a rest is =
     behind [] = []
     behind (x ∷ xs) = xs
 
--- acts that begin with the expected one go on behind it
+-- acts that begin with the expected one continue after it
 pub begins : (acts : List NumberedAct) (at : ℕ) (expected : Act) → begins_with (bare (drop at acts)) expected ≡ true
     → Passes acts at (expected ∷ []) (Ok (at + 1))
 begins acts at expected is = by_rest (drop at acts) refl is
@@ -89,7 +89,7 @@ pub goes_all : (acts : List NumberedAct) (at next : ℕ) (whole left : List Act)
 goes_all acts at next whole left is on =
     (on.there, λ others. on.same others ∙ ap (λ xs. first_difference (next + 1) (bare (drop next acts)) (xs ++ others)) is)
 
--- the last part tells the rest
+-- the last part decides the rest
 pub goes_last : (acts : List NumberedAct) (at next : ℕ) (whole part : List Act) (r : Result ℕ ℕ) → GoesOn acts at whole next part
     → Passes acts next part r → Passes acts at whole r
 goes_last acts at next whole part (Ok behind) on passed =
@@ -150,7 +150,7 @@ pub drawn_next : (d : DrawingValue) (left rest : List PieceCert) (cert : PieceCe
     → AreDrawn d cert.walk
 drawn_next d left rest cert is drawn = All-head (λ (c : PieceCert). AreDrawn d c.walk) cert rest (subst (AllDrawn d) is drawn)
 
--- once all walks are passed over, the end tells
+-- once all walks are compared, the end of the acts decides
 pub runs_all : (d : DrawingValue) (acts : List NumberedAct) (certs : List PieceCert) (at before : ℕ) (left : List PieceCert) → left ≡ []
     → LeftRuns d acts certs at before left
     → first_difference 1 (bare acts) (acts_after 0 (runs_of d (walks_of certs))) ≡ first_difference (at + 1) (bare (drop at acts)) []

@@ -92,7 +92,7 @@ filled_more rows a b d old t new ab within value so_far places entries = record 
       ∙ itself_after a b x d (entry t x x) ab ∙ so_far.none x below;
 }
 
--- the first so many columns of a table are filled
+-- the first n columns of a table are filled
 pub record HasColumns (rows : RowsValue) (n b : ℕ) (t : TableValue) : Type 0 where
   pub places : t.places ≡ n
   pub entries : (x y : ℕ) → x < y → y < b → y < n → entry t x y ≡ cost_at rows x (terminal_of rows y)

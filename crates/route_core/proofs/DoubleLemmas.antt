@@ -41,7 +41,7 @@ pub doubled_all : (pieces left : List Piece) (certs : List PieceCert) → left �
 doubled_all pieces left certs is l =
     subst (AreDoubled pieces) (append-nil certs) (l.whole [] (subst (λ (ps : List Piece). AreDoubled ps []) (sym is) tt))
 
--- a double walk and no cuts can be spelled
+-- a double walk and no cuts can be printed
 doubles_spelled : (d : DrawingValue) (lines : List ℕ) (cert : PieceCert) (first : ℕ) → KeepsDrawing d
     → All (λ line. line < length d.lines) lines
     → IsSewable d lines cert.walk → BeginsWith first cert.walk → cert.cuts ≡ [] → CanBeSpelled cert

@@ -119,7 +119,7 @@ moats_under n (m ∷ moats) odd =
     let rest = moats_under n moats (All-tail (IsOddMoat n) m moats odd) in
     omega (arith, one.wide, rest, sum_by-cons (λ (m : Moat). m.width) m moats)
 
--- what all pairs cost is no more than so many longest distances
+-- the cost of all pairs is at most the greatest distance for each
 costs_few : (t : TableValue) → IsTable t → (pairs : List Pair) → All (λ (q : Pair). (q.a < t.places) × (q.b < t.places)) pairs
     → matching_cost t pairs ≤ length pairs * MAX_DISTANCE
 costs_few t table [] there = omega arith

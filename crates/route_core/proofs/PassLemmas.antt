@@ -192,7 +192,7 @@ parity d false is = even d is
     even : (d : ℕ) → (d % 2 == 1) ≡ false → d % 2 ≡ 0
     even d is = grind (arith, nat_tests)
 
--- the pairs end at a junction as its parity asks
+-- the pairs end at a junction as its parity requires
 pairs_parity : (p : PieceValue) → KeepsPiece p → (rows : RowsValue) → AreOddRows p rows → (pairs : List Pair) → All (IsPairOf rows) pairs
     → PairsEach (length rows.terminals) pairs → (v : ℕ) → (degree (closed_edges p) v + pair_ends rows v pairs) % 2 ≡ 0
 pairs_parity p kept rows odd_rows pairs there each v = by_range (nat_lt v (length p.junctions)) refl

@@ -79,7 +79,7 @@ pub record Left (d : DrawingValue) (pieces : List PieceCert) (begun design : Des
   pub whole : with_commands design (commands_after before (runs_of d (walks_of rest)))
       ≡ with_commands begun (commands_after 0 (runs_of d (walks_of pieces)))
 
--- the commands of one walk, and those of the walks behind it
+-- the commands of one walk, and those of the walks after it
 walk_first : (d : DrawingValue) (before : ℕ) (piece : PieceCert) (rest : List PieceCert)
     → commands_after before (runs_of d (walks_of (piece ∷ rest)))
     ≡ run_commands before (block_of_walk d piece.walk) (needles_of_walk d piece.walk)

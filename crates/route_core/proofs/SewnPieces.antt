@@ -19,14 +19,14 @@ use Rattle.line_graph.specs.Walks.{needles_of_walk}
 use Rattle.route_core.specs.Routes.{walks_of}
 use Rattle.route_core.specs.SewingSteps.{AllDrawn, AreDrawn}
 
--- the walk of a piece can be sewn and spelled, and costs no more than the lines twice
+-- the walk of a piece can be sewn and printed, and costs no more than the lines twice
 pub record Sewn (d : DrawingValue) (lines : List ℕ) (cert : PieceCert) : Type 0 where
   pub spelled : CanBeSpelled cert
   pub sewable : IsSewable d lines cert.walk
   pub below : All (λ line. line < length d.lines) lines
   pub costs : walk_cost (piece_of d lines) cert.walk ≤ 2 * piece_cost (piece_of d lines)
 
--- the lines of the first piece, and of those behind it
+-- the lines of the first piece, and of those after it
 pub front : (n : ℕ) (xs ys : List ℕ) → All (λ line. line < n) (xs ++ ys) → All (λ line. line < n) xs
 front n [] ys all = All-nil (λ line. line < n)
 front n (x ∷ xs) ys all =

@@ -48,7 +48,7 @@ pub known_kinds : alone (needle 3) act.Trim ∷ alone (needle 3) act.Stop ∷ al
     ∷ alone act.Stop (needle 3) ∷ alone act.Stop act.Trim ∷ [] ≡ replicate 6 (Some 1)
 known_kinds = refl
 
--- the act behind the beginning of the longer list
+-- the act after the shorter list
 pub known_short : first_difference 1 (needle 3 ∷ []) (needle 3 ∷ act.Trim ∷ []) ≡ Some 2
 known_short = refl
 
@@ -128,7 +128,7 @@ known_none = refl
 pub known_more : on_stroke sewn (right ∷ right ∷ []) ≡ verdict.No (reason.Pieces 2 1)
 known_more = refl
 
--- of one piece the walk tells first, then the retraced cost, then the cuts, and the acts last
+-- of one piece the walk is tested first, then the retraced cost, then the cuts, and the acts last
 pub known_walk_first : on_stroke [] (said 3 (forth 0 ∷ []) (cut 9 (0 ∷ [])) ∷ []) ≡ verdict.No (reason.Walk 1 walk_fault.Open)
 known_walk_first = refl
 
@@ -208,12 +208,12 @@ pub known_second_cuts : on_strokes (first_sewn ++ Stop ∷ second_sewn) first_ri
     ≡ verdict.No (reason.Cuts 2 (cut_fault.Total 4 6))
 known_second_cuts = refl
 
--- a line tells its number in the drawing
+-- a fault has the line's number in the drawing
 pub known_second_line : on_strokes (first_sewn ++ Stop ∷ second_sewn) first_right (said 3 second_walk (cut 7 (0 ∷ [])))
     ≡ verdict.No (reason.Cuts 2 (cut_fault.Overload 2 7 6))
 known_second_line = refl
 
--- and the first piece tells before the second
+-- the first piece is tested before the second
 pub known_first_piece : on_strokes [] (said 1 both_ways (cut 4 (1 ∷ []))) (said 3 both_ways (cut 6 (0 ∷ []))) ≡ verdict.No
     (reason.Retraced 1 1 2)
 known_first_piece = refl

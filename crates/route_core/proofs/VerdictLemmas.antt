@@ -125,7 +125,7 @@ piece_told walks cuts p keeps number cert right =
     below : (w c r : ℕ) → w ≡ c + r → r ≡ w - c
     below w c r is = omega arith
 
--- what is said of the piece is right
+-- the certificate of the piece is correct
 abbrev RightOf : Piece → PieceCert → Type 0
 RightOf p cert = IsRight (graph_of p) cert
 
@@ -244,7 +244,7 @@ all_along d keeps sews walks (p ∷ pieces) (c ∷ certs) number below each long
 count_none : (found drawn : ℕ) → count_reason found drawn ≡ None → found ≡ drawn
 count_none found drawn is = equal found drawn (test_none (found == drawn) (reason.Pieces found drawn) is)
 
--- certificates that have no reason up to the pieces tell walks along the drawing's lines
+-- certificates without a fault of a piece have walks along the drawing's lines
 pub drawn_right : (d : DrawingValue) (pieces : List Piece) (certs : List PieceCert) → KeepsDrawing d → FittingWalksAreSewable
     → WalkFaultsAreExact
     → AreCutFrom d pieces → count_reason (length certs) (length pieces) ≡ None → pieces_reason 1 (map graph_of pieces) certs ≡ None

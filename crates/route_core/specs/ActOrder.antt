@@ -1,15 +1,16 @@
--- Where two lists of acts begin to differ. Acts are told by number, from 1.
+-- The first act in which two lists of acts differ. Acts are numbered from 1.
 use Rattle.std.specs.Prelude.{ℕ, ◌+◌, Bool, true, false, not, ◌&&◌, List, [], ◌∷◌, Option, Some, None, if◌then◌else◌}
 use Rattle.design_model.specs.declared.act.Act.{Act}
 use Rattle.design_model.specs.declared.act.Act.TheVariants as act
 use Rattle.design_model.specs.Points.{is_same_point}
 
--- both are so, or neither is
+-- Two truth values are equal.
 abbrev pub is_same_answer : Bool → Bool → Bool
 is_same_answer true other = other
 is_same_answer false other = not other
 
--- the acts are the same: for needles, the point, and whether it is a float
+-- Two acts are equal. Needle acts are equal if they have equal points and both or neither are
+-- floats.
 abbrev pub is_same_act : Act → Act → Bool
 is_same_act (act.Needle p float) (act.Needle q other) =
     is_same_point p q && is_same_answer float other
@@ -22,8 +23,8 @@ is_same_act act.Stop (act.Needle q other) = false
 is_same_act act.Stop act.Trim = false
 is_same_act act.Stop act.Stop = true
 
--- the first act in which two lists differ, the first of them with that number; where one list is
--- the beginning of the other, it is the act behind that
+-- The number of the first act in which two lists differ, where their first acts have the given
+-- number. If one list is the beginning of the other, it is the number after the shorter list.
 abbrev pub first_difference : ℕ → List Act → List Act → Option ℕ
 first_difference number [] [] = None
 first_difference number [] (b ∷ others) = Some number

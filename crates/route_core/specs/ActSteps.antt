@@ -1,4 +1,4 @@
--- Acts that are passed over one after another.
+-- The comparison of a design's acts with the expected ones, act by act.
 use Rattle.std.specs.Prelude.{◌≡◌, ℕ, ◌+◌, ◌≤◌, Bool, false, List, [], ◌∷◌, ◌++◌, Some, Result, Ok, Err, drop, length, map, replicate}
 use Rattle.design_model.specs.declared.act.Act.{Act}
 use Rattle.design_model.specs.declared.act.Act.TheVariants as act
@@ -7,18 +7,18 @@ use Rattle.design_model.specs.declared.point.Point.{Point}
 use Rattle.design_model.specs.Acts.{bare}
 use Rattle.route_core.specs.ActOrder.{first_difference, is_same_act}
 
--- the list begins with that act
+-- A list begins with the given act.
 abbrev pub begins_with : List Act → Act → Bool
 begins_with [] expected = false
 begins_with (a ∷ acts) expected = is_same_act a expected
 
--- the acts of a run behind so many stops
+-- The acts of a run after the given number of stops.
 abbrev pub run_acts : ℕ → List Point → List Act
 run_acts stops points =
     replicate stops act.Stop ++ (map (λ p. act.Needle p false) points ++ act.Trim ∷ [])
 
--- what is told of expected acts from an index on: whatever is expected behind them, it is from
--- there on that the first difference is found, or it is found already
+-- The comparison of acts, from an index on, with expected ones. Either they are equal and it
+-- continues at the next index, or the number of the first difference is known.
 abbrev pub Passes : List NumberedAct → ℕ → List Act → Result ℕ ℕ → Type 0
 Passes acts at expected (Ok next) = (next ≤ length acts) × ((others : List Act)
     → first_difference (at + 1) (bare (drop at acts)) (expected ++ others)

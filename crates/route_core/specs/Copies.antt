@@ -1,5 +1,5 @@
--- Copies of the lines of a piece, one for each line of the paths between matched
--- junctions. Costs count steps.
+-- Copies of the lines of a piece. A line is copied once for each path between matched junctions
+-- that uses it. Costs count steps.
 use Rattle.std.specs.Prelude.{◌≡◌, ℕ, zero, suc, ◌+◌, ◌*◌, ◌%◌, ◌<◌, ◌==◌, List, [], ◌∷◌, length, slice_get}
 use Rattle.blossom_match.specs.declared.matching.Pair.{Pair}
 use Rattle.line_graph.specs.declared.edge.Edge.{Edge}
@@ -7,57 +7,57 @@ use Rattle.line_graph.specs.PieceGraphs.{PieceValue, bit}
 use Rattle.line_graph.specs.PieceWalks.{cost_of, of_edge}
 use Rattle.odd_paths.specs.LeastRows.{RowsValue, cost_at, terminal_of}
 
--- the sum of a quantity over edges, each as often as it has copies
+-- The sum of a function of edges over all copies.
 abbrev pub copies_sum : (Edge → ℕ) → List Edge → List ℕ → ℕ
 copies_sum f [] copies = 0
 copies_sum f (e ∷ edges) [] = 0
 copies_sum f (e ∷ edges) (c ∷ copies) = c * f e + copies_sum f edges copies
 
--- the sum of a quantity over the edges at these places
+-- The sum of a function over the edges with the given indexes.
 abbrev pub place_sum : (Edge → ℕ) → List Edge → List ℕ → ℕ
 place_sum f edges [] = 0
 place_sum f edges (k ∷ places) = of_edge f (slice_get edges k) + place_sum f edges places
 
--- how many ends of an edge are at a junction
+-- The number of ends of an edge at a junction: 0, 1 or 2.
 abbrev pub ends_at : ℕ → Edge → ℕ
 ends_at v e = bit (e.a == v) + bit (e.b == v)
 
--- all copies
+-- The total number of copies.
 abbrev pub add_up : List ℕ → ℕ
 add_up [] = 0
 add_up (c ∷ copies) = c + add_up copies
 
--- one copy more at a place
+-- The numbers of copies, with one more at the given index.
 abbrev pub more_at : List ℕ → ℕ → List ℕ
 more_at [] k = []
 more_at (c ∷ copies) zero = (c + 1) ∷ copies
 more_at (c ∷ copies) (suc k) = c ∷ more_at copies k
 
--- one copy more for each of the places
+-- One copy is added at each of the given indexes.
 pub record AddsPlaces (old places new : List ℕ) : Type 0 where
   pub sized : length new ≡ length old
   pub up : add_up new ≡ add_up old + length places
   pub sums : (f : Edge → ℕ) (edges : List Edge) → length edges ≡ length old
       → copies_sum f edges new ≡ copies_sum f edges old + place_sum f edges places
 
--- how many of the pairs' ends are at a junction
+-- The number of ends of pairs at a junction.
 abbrev pub pair_ends : RowsValue → ℕ → List Pair → ℕ
 pair_ends rows v [] = 0
 pair_ends rows v (q ∷ pairs) =
     (bit (terminal_of rows q.a == v) + bit (terminal_of rows q.b == v)) + pair_ends rows v pairs
 
--- what least walks between the pairs cost
+-- The cost of least walks between the pairs.
 abbrev pub pair_costs : RowsValue → List Pair → ℕ
 pair_costs rows [] = 0
 pair_costs rows (q ∷ pairs) = cost_at rows q.a (terminal_of rows q.b) + pair_costs rows pairs
 
--- the pair is of terminals
+-- A pair of terminals: both indexes are below the number of terminals.
 pub record IsPairOf (rows : RowsValue) (q : Pair) : Type 0 where
   pub a_in : q.a < length rows.terminals
   pub b_in : q.b < length rows.terminals
 
--- further copies for least walks between the pairs: they cost what these walks cost, and change the
--- parity of the ends of passes at a junction as often as it is an end of a pair
+-- Copies are added for least walks between the pairs. They cost as much as these walks. At each
+-- junction the parity of the number of ends changes as often as the junction is an end of a pair.
 pub record AddsPairs (p : PieceValue) (rows : RowsValue) (pairs : List Pair)
     (old new : List ℕ) : Type 0 where
   pub sized : length new ≡ length old

@@ -1,28 +1,28 @@
--- A table of the least costs between the terminals of rows. Costs count steps.
+-- The table of least costs between the terminals of rows (`odd_paths`). Costs count steps.
 use Rattle.std.specs.Prelude.{◌≡◌, ℕ, ◌<◌, ◌==◌, ◌&&◌, Bool, length, nat_lt, if◌then◌else◌}
 use Rattle.blossom_match.specs.Tables.{entry}
 use Rattle.blossom_match.specs.TableValue.{TableValue}
 use Rattle.line_graph.specs.PieceGraphs.{PieceValue}
 use Rattle.odd_paths.specs.LeastRows.{AreRows, RowsValue, cost_at, terminal_of}
 
--- the entry of two terminals is the least cost from the first to the second, and
--- from a terminal to itself 0
+-- Each entry of a table is the least cost between its two terminals, and 0 from a terminal to
+-- itself.
 pub record HasDistances (rows : RowsValue) (t : TableValue) : Type 0 where
   pub entries : (a b : ℕ) → a < b → b < t.places → entry t a b ≡ cost_at rows a (terminal_of rows b)
   pub none : (a : ℕ) → a < t.places → entry t a a ≡ 0
 
--- the table of the rows of a piece, whose terminals are its junctions
+-- The table of least costs between junctions of a piece.
 pub record IsTableOf (p : PieceValue) (rows : RowsValue) (t : TableValue) : Type 0 where
   pub rows_are : AreRows p rows
   pub there : (a : ℕ) → a < length rows.terminals → terminal_of rows a < length p.junctions
   pub places : t.places ≡ length rows.terminals
   pub distances : HasDistances rows t
 
--- the entry of x and y is that of b with a terminal before a
+-- The entry of x and y is that of b with a terminal before a.
 abbrev pub filled : (b a x y : ℕ) → Bool
 filled b a x y = y == b && nat_lt x a
 
--- the entries of b with the terminals before it are set so far, up to a, and no others
+-- The entries of b with the terminals before a are set, and no other entry has changed.
 pub record IsFilled (rows : RowsValue) (b a : ℕ) (old new : TableValue) : Type 0 where
   pub places : new.places ≡ old.places
   pub entries : (x y : ℕ) → x < y → y < old.places

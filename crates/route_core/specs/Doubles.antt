@@ -16,16 +16,17 @@ use Rattle.line_graph.specs.Walks.{needles_of_walk}
 use Rattle.route_core.specs.declared.routed.Routed.{Routed}
 use Rattle.route_core.specs.Routes.{walks_of}
 
--- the certificate has a double walk over the piece of these lines, which retraces what the lines
--- cost, and no cuts; the needle goes down once more often than the walk costs steps
+-- A certificate with a double walk over the piece of the given lines, without cuts. The retraced
+-- cost is the cost of the lines. There is one needle point more than the walk costs steps.
 pub record IsDoubled (d : DrawingValue) (lines : List ℕ) (cert : PieceCert) : Type 0 where
   pub double : IsDouble (piece_of d lines) cert.walk
   pub retraced : cert.retraced ≡ piece_cost (piece_of d lines)
   pub cuts : cert.cuts ≡ []
   pub penetrations : length (needles_of_walk d cert.walk) ≡ 2 * piece_cost (piece_of d lines) + 1
 
--- the double run over the pieces of a drawing: double walks over each of them in order, and the
--- design that sews them, which every format can write whose limit the drawing's step keeps
+-- The double run over the pieces of a drawing: a double walk over each piece in order, and the
+-- design that sews these walks. A format can write the design if its limit is at least the
+-- drawing's step.
 pub record IsDoubleOver (d : DrawingValue) (pieces : List (List ℕ)) (routed : Routed) : Type 0 where
   pub pieces_are : ArePieces d pieces
   pub each : AllZip (IsDoubled d) pieces routed.cert.pieces
@@ -33,7 +34,7 @@ pub record IsDoubleOver (d : DrawingValue) (pieces : List (List ℕ)) (routed : 
   pub writable : AreWritable d.step (runs_of d (walks_of routed.cert.pieces))
   pub design : routed.design ≡ sewn_design d (walks_of routed.cert.pieces)
 
--- of the inside: the same of a piece alone
+-- A certificate with a double walk over a piece, without cuts. Used only inside this crate.
 pub record RunsDouble (p : PieceValue) (cert : PieceCert) : Type 0 where
   pub double : IsDouble p cert.walk
   pub fitting : fits (unbound p) cert.walk ≡ true
@@ -41,7 +42,7 @@ pub record RunsDouble (p : PieceValue) (cert : PieceCert) : Type 0 where
   pub retraced : cert.retraced ≡ piece_cost p
   pub cuts : cert.cuts ≡ []
 
--- each of the certificates has a double walk over its piece
+-- Certificates with double walks, one for each piece in order.
 abbrev pub AreDoubled : List Piece → List PieceCert → Type 0
 AreDoubled pieces certs =
     AllZip (λ (p : Piece) (cert : PieceCert). RunsDouble (graph_of p) cert) pieces certs

@@ -1,5 +1,5 @@
--- The odd junctions of a piece in pairs, with moats that pay for them. Costs count steps,
--- widths halves of a step.
+-- A matching of the odd junctions of a piece, with moats (dual variables) of the same total. Costs
+-- count steps, widths halves of a step.
 use Rattle.std.specs.Prelude.{◌≡◌, ◌*◌, ◌+◌, ◌<◌, ◌≤◌, ◌^◌, true, List, None, length, All}
 use Rattle.blossom_match.specs.declared.matching.Moat.{Moat}
 use Rattle.blossom_match.specs.declared.matching.Pair.{Pair}
@@ -12,13 +12,13 @@ use Rattle.line_graph.specs.PieceWalks.{BeginsWith, fits, piece_cost, walk_cost}
 use Rattle.odd_paths.specs.LeastRows.{AreRows, RowsValue}
 use Rattle.route_core.specs.Copies.{IsPairOf, pair_costs}
 
--- the rows of the odd junctions of a piece, in order
+-- The rows of least costs from the odd junctions of a piece, in order.
 pub record AreOddRows (p : PieceValue) (rows : RowsValue) : Type 0 where
   pub rows_are : AreRows p rows
   pub terminals : rows.terminals ≡ odd_junctions p
 
--- pairs of all odd junctions, and few moats that are twice as wide as least
--- walks between the pairs cost
+-- A perfect matching of the odd junctions, with moats whose total width is twice the cost of least
+-- walks between the pairs.
 pub record IsMatched (p : PieceValue) (rows : RowsValue) (pairs : List Pair)
     (moats : List Moat) : Type 0 where
   pub moats_are : AreMoats p rows moats
@@ -27,7 +27,7 @@ pub record IsMatched (p : PieceValue) (rows : RowsValue) (pairs : List Pair)
   pub each : PairsEach (length rows.terminals) pairs
   pub paid : width_of moats ≡ 2 * pair_costs rows pairs
 
--- a fitting walk that costs as much above the lines as least walks between the pairs
+-- A fitting walk whose cost, above that of the lines, is the cost of least walks between the pairs.
 pub record IsWalkBy (p : PieceValue) (rows : RowsValue) (pairs : List Pair)
     (walk : List Pass) : Type 0 where
   pub fitting : fits p walk ≡ true

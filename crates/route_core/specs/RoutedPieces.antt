@@ -1,4 +1,4 @@
--- The certificates of pieces, each with its piece.
+-- The certificates of the pieces of a drawing. Used only inside this crate.
 use Rattle.std.specs.Prelude.{List}
 use Rattle.std.specs.List.{AllZip}
 use Rattle.cut_certificate.specs.declared.certificate.PieceCert.{PieceCert}
@@ -7,11 +7,11 @@ use Rattle.line_graph.specs.declared.piece.Piece.{Piece}
 use Rattle.line_graph.specs.CutPieces.{graph_of}
 use Rattle.route_core.specs.PieceRoutes.{Proves}
 
--- the certificate proves its walk least, and has a text
+-- A certificate with a least walk over a piece, which can be printed.
 pub record IsRouted (p : Piece) (cert : PieceCert) : Type 0 where
   pub proved : Proves (graph_of p) cert
   pub spelled : CanBeSpelled cert
 
--- each of the certificates is one of its piece
+-- Certificates with least walks, one for each piece in order.
 abbrev pub AreRouted : List Piece → List PieceCert → Type 0
 AreRouted pieces certs = AllZip IsRouted pieces certs

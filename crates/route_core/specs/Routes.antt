@@ -1,5 +1,5 @@
--- The route of a drawing: for each piece a walk that none undercuts, and cuts that prove it.
--- Weights of cuts count halves of a step, costs count steps.
+-- The route of a drawing: a least walk over each piece, with cuts that prove it least, and the
+-- design that sews these walks. Weights of cuts count halves of a step, costs count steps.
 use Rattle.std.specs.Prelude.{◌≡◌, ℕ, ◌+◌, List, length, map, All}
 use Rattle.std.specs.List.{AllZip}
 use Rattle.cut_certificate.specs.declared.certificate.PieceCert.{PieceCert}
@@ -14,20 +14,20 @@ use Rattle.line_graph.specs.Walks.{needles_of_walk}
 use Rattle.route_core.specs.declared.routed.Routed.{Routed}
 use Rattle.route_core.specs.PieceRoutes.{Proves}
 
--- the walk of each piece
+-- The walks of the certificates of pieces.
 abbrev pub walks_of : List PieceCert → List (List Pass)
 walks_of certs = map (λ (cert : PieceCert). cert.walk) certs
 
--- the certificate proves the walk least over the piece of these lines, and the needle goes down
--- once more often than the walk costs steps
+-- A certificate with a least walk over the piece of the given lines. There is one needle point more
+-- than the walk costs steps.
 pub record IsBest (d : DrawingValue) (lines : List ℕ) (cert : PieceCert) : Type 0 where
   pub proved : Proves (piece_of d lines) cert
   pub penetrations : length (needles_of_walk d cert.walk)
       ≡ walk_cost (piece_of d lines) cert.walk + 1
 
--- the route over the pieces of a drawing: a certificate that is right for each of them
--- in order, and the design that sews its walks, which every format can write whose
--- limit the drawing's step keeps
+-- The route over the given pieces: a certificate with a least walk over each piece in order, and
+-- the design that sews these walks. A format can write the design if its limit is at least the
+-- drawing's step.
 pub record IsRouteOver (d : DrawingValue) (pieces : List (List ℕ)) (routed : Routed) : Type 0 where
   pub pieces_are : ArePieces d pieces
   pub best : AllZip (IsBest d) pieces routed.cert.pieces
@@ -35,7 +35,7 @@ pub record IsRouteOver (d : DrawingValue) (pieces : List (List ℕ)) (routed : R
   pub writable : AreWritable d.step (runs_of d (walks_of routed.cert.pieces))
   pub design : routed.design ≡ sewn_design d (walks_of routed.cert.pieces)
 
--- the route of a drawing: that over its pieces
+-- The route of a drawing: the route over its pieces.
 pub record IsRoute (d : DrawingValue) (routed : Routed) : Type 0 where
   pub pieces : List (List ℕ)
   pub is : IsRouteOver d pieces routed

@@ -1,5 +1,5 @@
--- Verdicts on designs and their certificates. Pieces and acts are told by number, from 1. Weights
--- of cuts count halves of a step, costs count steps.
+-- Verdicts on designs and their certificates. Pieces and acts are numbered from 1. Weights of cuts
+-- count halves of a step, costs count steps.
 use Rattle.std.specs.Prelude.{◌≡◌, ◌↔◌, ℕ, ◌+◌, ◌-◌, ◌*◌, ◌<◌, ◌^◌, ◌==◌, true, List, [], ◌∷◌, Option, Some, None, length, map, if◌then◌else◌}
 use Rattle.std.specs.List.{AllZip}
 use Rattle.cut_certificate.specs.declared.certificate.PieceCert.{PieceCert}
@@ -24,83 +24,85 @@ use Rattle.route_core.specs.declared.verdict.Verdict.TheVariants as verdict
 use Rattle.route_core.specs.ActOrder.{first_difference}
 use Rattle.route_core.specs.Routes.{walks_of}
 
--- the certificate is to have as many pieces as the drawing
+-- The reason that the certificate has another number of pieces than the drawing, if it has.
 abbrev pub count_reason : (found drawn : ℕ) → Option Reason
 count_reason found drawn = if found == drawn then None else Some (reason.Pieces found drawn)
 
--- what is wrong with the walk of the piece with that number
+-- The reason that the walk of the piece with the given number has a fault, if it has one.
 abbrev pub walk_reason : ℕ → Option WalkFault → Option Reason
 walk_reason number None = None
 walk_reason number (Some fault) = Some (reason.Walk number fault)
 
--- what a walk costs above the lines of its piece
+-- The cost of a walk above that of the lines of its piece.
 abbrev pub cost_above : PieceValue → PieceCert → ℕ
 cost_above p cert = walk_cost p cert.walk - piece_cost p
 
--- that cost is to be said
+-- The reason that the retraced cost in the certificate isn't that of the walk, if so.
 abbrev pub retraced_reason : (number said found : ℕ) → Option Reason
 retraced_reason number said found =
     if said == found then None else Some (reason.Retraced number said found)
 
--- what is wrong with the cuts of the piece with that number
+-- The reason that the cuts of the piece with the given number have a fault, if they have one.
 abbrev pub cuts_reason : ℕ → Option CutFault → Option Reason
 cuts_reason number None = None
 cuts_reason number (Some fault) = Some (reason.Cuts number fault)
 
--- what is wrong with what is said of the piece with that number, first: with its walk, its retraced
--- cost, or its cuts
+-- The first fault in the certificate of a piece: in its walk, its retraced cost or its cuts.
 abbrev pub piece_reason : PieceValue → ℕ → PieceCert → Option Reason
 piece_reason p number cert = first_fault (walk_reason number (walk_fault p cert.walk))
     (first_fault (retraced_reason number cert.retraced (cost_above p cert))
     (cuts_reason number (cuts_fault p cert.retraced cert.cuts)))
 
--- what is wrong with what is said of pieces in order, the first of them with that number
+-- The first fault in the certificates of pieces in order, where the first piece has the given
+-- number.
 abbrev pub pieces_reason : ℕ → List PieceValue → List PieceCert → Option Reason
 pieces_reason number [] certs = None
 pieces_reason number (p ∷ pieces) [] = None
 pieces_reason number (p ∷ pieces) (cert ∷ certs) =
     first_fault (piece_reason p number cert) (pieces_reason (number + 1) pieces certs)
 
--- the act with that number is not the one that sews the walks
+-- The reason that the act with the given number isn't the one that sews the walks, if there is such
+-- an act.
 abbrev pub acts_reason : Option ℕ → Option Reason
 acts_reason None = None
 acts_reason (Some number) = Some (reason.Acts number)
 
--- the first act of a design that is not the one that sews these walks
+-- The number of the first act of a design that isn't the one that sews the walks.
 abbrev pub difference_of : DrawingValue → DesignValue → List PieceCert → Option ℕ
 difference_of d design certs =
     first_difference 1 (bare (acts_of design)) (sewn_acts (runs_of d (walks_of certs)))
 
--- the first thing that is wrong: with the count of pieces, with a piece, or with an act
+-- The first fault: in the number of pieces, in the certificate of a piece, or in an act of the
+-- design.
 abbrev pub reason_of : DrawingValue → List PieceValue → DesignValue → List PieceCert → Option Reason
 reason_of d pieces design certs = first_fault (count_reason (length certs) (length pieces))
     (first_fault (pieces_reason 1 pieces certs) (acts_reason (difference_of d design certs)))
 
--- no where there is such a reason, else yes
+-- The verdict: no with a reason if there is one, else yes.
 abbrev pub verdict_by : Option Reason → Verdict
 verdict_by None = verdict.Yes
 verdict_by (Some wrong) = verdict.No wrong
 
--- the verdict over the pieces of a drawing
+-- The verdict on a design and certificates, over the pieces of a drawing.
 abbrev pub verdict_of : DrawingValue → List (List ℕ) → DesignValue → List PieceCert → Verdict
 verdict_of d pieces design certs = verdict_by (reason_of d (map (piece_of d) pieces) design certs)
 
--- what is said of a piece is right: the walk fits it, the retraced cost is what the walk costs
--- above its lines, and the cuts are a packing with twice that total
+-- A correct certificate of a piece. The walk is a fitting walk. The retraced cost is the cost of
+-- the walk above that of the lines, and the cuts are a packing whose total is twice that.
 pub record IsRight (p : PieceValue) (cert : PieceCert) : Type 0 where
   pub fitting : fits p cert.walk ≡ true
   pub retraced : walk_cost p cert.walk ≡ piece_cost p + cert.retraced
   pub packing : IsPacking p cert.cuts
   pub total : total_of cert.cuts ≡ 2 * cert.retraced
 
--- what is said of each piece of a drawing is right, and the design sews the drawing by the walks
+-- The certificates of all pieces are correct, and the design sews the drawing by their walks.
 pub record AreRight (d : DrawingValue) (pieces : List (List ℕ)) (design : DesignValue)
     (certs : List PieceCert) : Type 0 where
   pub each : AllZip (λ lines cert. IsRight (piece_of d lines) cert) pieces certs
   pub sews : Sews d (walks_of certs) (acts_of design)
 
--- the verdict over the pieces of a drawing: yes exactly where all is right, and then no walk is
--- undercut
+-- The verdict over the pieces of a drawing. The verdict is yes exactly where all is correct, and
+-- then each walk is least.
 pub record IsVerdictOver (d : DrawingValue) (pieces : List (List ℕ)) (design : DesignValue)
     (certs : List PieceCert) (given : Verdict) : Type 0 where
   pub pieces_are : ArePieces d pieces
@@ -109,13 +111,13 @@ pub record IsVerdictOver (d : DrawingValue) (pieces : List (List ℕ)) (design :
   pub least : given ≡ verdict.Yes
       → AllZip (λ lines cert. IsLeast (piece_of d lines) cert.walk) pieces certs
 
--- the verdict on a design and what is said of the pieces of a drawing: that over its pieces
+-- The verdict on a design and certificates: the verdict over the pieces of the drawing.
 pub record IsVerdict (d : DrawingValue) (design : DesignValue) (certs : List PieceCert)
     (given : Verdict) : Type 0 where
   pub pieces : List (List ℕ)
   pub is : IsVerdictOver d pieces design certs given
 
--- the design sews for each piece of the drawing a fitting walk that none undercuts
+-- A design sews each piece of a drawing by a least walk.
 pub record SewsLeast (d : DrawingValue) (design : DesignValue)
     (certs : List PieceCert) : Type 0 where
   pub pieces : List (List ℕ)
@@ -124,7 +126,7 @@ pub record SewsLeast (d : DrawingValue) (design : DesignValue)
   pub least : AllZip (λ lines cert. IsLeast (piece_of d lines) cert.walk) pieces certs
   pub sews : Sews d (walks_of certs) (acts_of design)
 
--- lists of what is said of a piece are not too long, and no member of a cut is the greatest index
+-- The lists of a certificate are not too long, and no member of a cut is the greatest index.
 pub record IsShort (cert : PieceCert) : Type 0 where
   pub walk : length cert.walk < 2 ^ 32 - 1
   pub cuts : length cert.cuts < 2 ^ 32 - 1

@@ -16,7 +16,8 @@ use design_model::{Act, Memory, NumberedAct, Point};
 use line_graph::Drawing;
 use std::alloc::Global;
 
-/// The number of the first act that isn't the one that sews the walks of these pieces.
+/// Returns the number of the first act that isn't the one that sews the walks of the given certificates, if
+/// there is one.
 pub(crate) fn first_difference(
     alloc: Global,
     d: &Drawing,
@@ -44,7 +45,7 @@ pub(crate) fn first_difference(
     Ok(end_of_acts(acts, at))
 }
 
-/// The number of the act at an index, if there is one.
+/// Returns the number of the act at an index, if there is one.
 fn end_of_acts(acts: &[NumberedAct], at: u32) -> Option<u32>
     requires few { length acts.now ≤ MAX_COMMANDS }
     ensures { result ≡ difference (at + 1) (bare (drop at acts.now)) [] }
@@ -56,8 +57,8 @@ fn end_of_acts(acts: &[NumberedAct], at: u32) -> Option<u32>
     }
 }
 
-/// Passes over the acts of a run from an index on, so many stops first: the index behind them, or
-/// the number of the first act that differs.
+/// Compares the acts from an index on with those of a run, after the given number of stops. Returns the
+/// index after them, or the number of the first act that differs.
 fn pass_run(acts: &[NumberedAct], at: u32, stops: u32, points: &[Point]) -> Result<u32, u32>
     requires few { length acts.now ≤ MAX_COMMANDS }
     requires there { at ≤ length acts.now }
@@ -103,7 +104,8 @@ fn pass_needles(acts: &[NumberedAct], at: u32, points: &[Point]) -> Result<u32, 
     Ok(next)
 }
 
-/// Passes over one act.
+/// Compares the act at an index with the expected one. Returns the next index, or the number of the act if
+/// it differs.
 fn pass(acts: &[NumberedAct], at: u32, expected: Act) -> Result<u32, u32>
     requires few { length acts.now ≤ MAX_COMMANDS }
     requires there { at ≤ length acts.now }

@@ -12,7 +12,7 @@ use line_graph::Piece;
 use odd_paths::Rows;
 use std::alloc::Global;
 
-/// How often each line is passed once more, for least walks between the pairs of terminals.
+/// Returns the number of copies of each line, for least walks between the pairs of terminals.
 pub(crate) fn copies_of(
     alloc: Global,
     p: &Piece,
@@ -59,7 +59,7 @@ fn add_pair(
     Ok(())
 }
 
-/// The places of the lines of a least walk between two terminals.
+/// Returns the indexes of the lines of a least walk between two terminals.
 fn path_between(
     alloc: Global,
     p: &Piece,
@@ -78,7 +78,7 @@ fn path_between(
     Ok(places)
 }
 
-/// Adds a copy at each of the places.
+/// Adds a copy at each of the indexes.
 fn add_places(copies: &mut Vec<u32>, places: &[u32])
     requires there { All (λ k. k < length copies.old.items) places.now }
     requires few { add_up copies.old.items + length places.now < 2 ^ 32 }
@@ -91,7 +91,7 @@ fn add_places(copies: &mut Vec<u32>, places: &[u32])
     }
 }
 
-/// Adds a copy at a place.
+/// Adds a copy at an index.
 fn add_one(copies: &mut Vec<u32>, k: usize)
     requires there { k < length copies.old.items }
     requires few { get_or copies.old.items k 0 < 2 ^ 32 - 1 }

@@ -10,7 +10,7 @@ use line_graph::Piece;
 use odd_paths::Rows;
 use std::alloc::Global;
 
-/// The least costs between the terminals of rows.
+/// Returns the table of least costs between the terminals of rows.
 pub(crate) fn distances(
     alloc: Global,
     p: &Piece,
@@ -44,7 +44,7 @@ fn fill(table: &mut DistTable, p: &Piece, rows: &Rows, b: u32, terminal: u32)
     }
 }
 
-/// The least cost from a terminal to a junction.
+/// Returns the least cost from a terminal to a junction.
 pub(crate) fn distance(p: &Piece, rows: &Rows, a: u32, junction: u32) -> u32
     requires rows { AreRows (graph_of p.now) rows.now }
     requires there { a < length rows.now.terminals }

@@ -10,8 +10,8 @@ use double_run::double;
 use line_graph::{Drawing, Piece, fitting_walks_are_sewable, pieces_keep_limits};
 use std::alloc::Global;
 
-/// The double run of a drawing whose pieces are at hand: for each a walk that passes each line once
-/// forwards and once backwards, with no cuts, and the design that sews these walks.
+/// Returns the double run of a drawing whose pieces are given, with the design that sews it. A double run
+/// has for each piece a walk that passes each line once forwards and once backwards, and no cuts.
 pub fn double_pieces(alloc: Global, d: &Drawing, pieces: &[Piece]) -> Result<Routed, Memory>
     requires { AreCutFrom d.now pieces.now }
     ensures { IfOk result (IsDoubleOver d.now (lines_of_pieces pieces.now)) }
@@ -26,7 +26,7 @@ pub fn double_pieces(alloc: Global, d: &Drawing, pieces: &[Piece]) -> Result<Rou
     Ok(Routed { design, cert })
 }
 
-/// A double walk over each of the pieces, in order.
+/// Returns a certificate with a double walk for each of the pieces, in order.
 fn double_certs(alloc: Global, pieces: &[Piece]) -> Result<PieceCerts, Memory>
     ensures { IfOk result (AreDoubled pieces.now) }
 {
@@ -39,7 +39,7 @@ fn double_certs(alloc: Global, pieces: &[Piece]) -> Result<PieceCerts, Memory>
     Ok(certs)
 }
 
-/// A double walk over a piece, which retraces each of its lines.
+/// Returns a certificate with a double walk over a piece. The retraced cost is the cost of its lines.
 fn double_cert(alloc: Global, p: &Piece) -> Result<PieceCert, Memory>
     ensures { IfOk result (RunsDouble (graph_of p.now)) }
 {

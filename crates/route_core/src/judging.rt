@@ -15,9 +15,10 @@ use design_model::{Design, Memory, acts};
 use line_graph::{Drawing, Piece, fitting_walks_are_sewable, pieces, pieces_keep_limits};
 use std::alloc::Global;
 
-/// Whether a design sews a drawing by the walks of a certificate, and the certificate proves these
-/// walks least, whoever made the two. Else the first reason: the number of pieces; then for each
-/// piece its walk, its retraced cost and its cuts; then the first act that differs.
+/// Returns the verdict on a design and a certificate, whoever made the two. The verdict is yes where the
+/// design sews the drawing by the walks of the certificate, and the certificate proves each walk least.
+/// Else it has the first reason. Reasons are tested in this order: the number of pieces; for each piece its
+/// walk, its retraced cost and its cuts; the first act that differs. The only error is `Memory`.
 pub fn judge(alloc: Global, d: &Drawing, design: &Design, cert: &Cert) -> Result<Verdict, Memory>
     requires few { length cert.now.pieces < 2 ^ 32 - 1 }
     requires short { All IsShort cert.now.pieces }
@@ -30,7 +31,8 @@ pub fn judge(alloc: Global, d: &Drawing, design: &Design, cert: &Cert) -> Result
     Ok(given)
 }
 
-/// The same, of a drawing whose pieces are at hand.
+/// Returns the verdict on a design and a certificate, for a drawing whose pieces are given. The only error
+/// is `Memory`.
 pub fn judge_pieces(
     alloc: Global,
     d: &Drawing,
@@ -61,7 +63,7 @@ fn verdict_by(reason: Option<Reason>) -> Verdict
     }
 }
 
-/// The first thing that is wrong.
+/// Returns the first fault, if there is one.
 fn first_reason(
     alloc: Global,
     d: &Drawing,
@@ -89,7 +91,7 @@ fn first_reason(
     Ok(reason)
 }
 
-/// The first act that isn't the one that sews the walks.
+/// Returns the first act that isn't the one that sews the walks, if there is one.
 fn wrong_act(
     alloc: Global,
     d: &Drawing,

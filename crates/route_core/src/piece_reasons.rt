@@ -8,7 +8,7 @@ use crate::verdict::Reason;
 use cut_certificate::{PieceCert, check_cuts, check_walk, first_lent};
 use line_graph::Piece;
 
-/// Another number of pieces than is drawn.
+/// Returns the reason that the certificate has another number of pieces than the drawing, if it has.
 pub(crate) fn wrong_count(certs: &[PieceCert], pieces: &[Piece]) -> Option<Reason>
     requires found { length certs.now < 2 ^ 32 - 1 }
     requires drawn { length pieces.now ≤ MAX_LINES }
@@ -23,7 +23,7 @@ pub(crate) fn wrong_count(certs: &[PieceCert], pieces: &[Piece]) -> Option<Reaso
     })
 }
 
-/// What is wrong with what is said of the pieces, first.
+/// Returns the first fault in the certificates of the pieces.
 pub(crate) fn wrong_piece(pieces: &[Piece], certs: &[PieceCert]) -> Option<Reason>
     requires few { length pieces.now ≤ MAX_LINES }
     requires short { All IsShort certs.now }
@@ -46,7 +46,7 @@ pub(crate) fn wrong_piece(pieces: &[Piece], certs: &[PieceCert]) -> Option<Reaso
     None
 }
 
-/// What is wrong with what is said of the piece with that number, first.
+/// Returns the first fault in the certificate of the piece with the given number.
 fn wrong_with(p: &Piece, number: u32, cert: &PieceCert) -> Option<Reason>
     requires { IsShort cert.now }
     ensures { result ≡ piece_reason (graph_of p.now) number cert.now }

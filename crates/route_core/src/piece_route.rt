@@ -20,7 +20,7 @@ use line_graph::{Piece, Walk};
 use odd_paths::{Rows, odd, odds_are_even, rows};
 use std::alloc::Global;
 
-/// A walk over a piece that none undercuts, with its retraced cost and cuts that prove it.
+/// Returns a certificate with a least walk over a piece, its retraced cost, and cuts that prove it least.
 pub(crate) fn route_piece(alloc: Global, p: &Piece) -> Result<PieceCert, Memory>
     ensures proves { IfOk result (Proves (graph_of p.now)) }
     ensures spelled { IfOk result CanBeSpelled }
@@ -42,7 +42,7 @@ pub(crate) fn route_piece(alloc: Global, p: &Piece) -> Result<PieceCert, Memory>
     })
 }
 
-/// A least matching of the odd junctions of a piece by the costs of walks between them.
+/// Returns a least matching of the odd junctions of a piece, by the costs of walks between them.
 fn match_odds(alloc: Global, p: &Piece, rows: &Rows, odds: &[u32]) -> Result<Matching, Memory>
     requires rows { AreOddRows (graph_of p.now) rows.now }
     requires odds { rows.now.terminals ≡ odds.now }
@@ -55,7 +55,7 @@ fn match_odds(alloc: Global, p: &Piece, rows: &Rows, odds: &[u32]) -> Result<Mat
     Ok(matching)
 }
 
-/// A walk over each line and, once more, over least walks between the pairs.
+/// Returns a walk over each line and, once more, over least walks between the pairs.
 fn walk_by(
     alloc: Global,
     p: &Piece,
@@ -75,7 +75,7 @@ fn walk_by(
     Ok(walk)
 }
 
-/// What least walks between the pairs cost.
+/// Returns the cost of least walks between the pairs.
 fn cost_of_pairs(p: &Piece, rows: &Rows, odds: &[u32], pairs: &[Pair]) -> u32
     requires rows { AreRows (graph_of p.now) rows.now }
     requires odds { rows.now.terminals ≡ odds.now }
@@ -92,7 +92,7 @@ fn cost_of_pairs(p: &Piece, rows: &Rows, odds: &[u32], pairs: &[Pair]) -> u32
     cost
 }
 
-/// What a least walk between two terminals costs.
+/// Returns the cost of a least walk between two terminals.
 fn cost_of_pair(p: &Piece, rows: &Rows, odds: &[u32], pair: Pair) -> u32
     requires rows { AreRows (graph_of p.now) rows.now }
     requires odds { rows.now.terminals ≡ odds.now }

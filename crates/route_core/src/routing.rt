@@ -11,8 +11,8 @@ use design_model::Memory;
 use line_graph::{Drawing, Piece, fitting_walks_are_sewable, pieces, pieces_keep_limits};
 use std::alloc::Global;
 
-/// The route of a drawing: for each of its pieces a walk over every line that none undercuts, with cuts
-/// that prove it, and the design that sews these walks.
+/// Returns the route of a drawing. A route has for each piece a least walk over all its lines, with cuts
+/// that prove it least, and the design that sews these walks. The only error is `Memory`.
 pub fn route(alloc: Global, d: &Drawing) -> Result<Routed, Memory>
     ensures { IfOk result (IsRoute d.now) }
 {
@@ -20,7 +20,7 @@ pub fn route(alloc: Global, d: &Drawing) -> Result<Routed, Memory>
     route_pieces(alloc, d, pieces.as_slice())
 }
 
-/// The same, of a drawing whose pieces are at hand.
+/// Returns the route of a drawing whose pieces are given. The only error is `Memory`.
 pub fn route_pieces(alloc: Global, d: &Drawing, pieces: &[Piece]) -> Result<Routed, Memory>
     requires { AreCutFrom d.now pieces.now }
     ensures { IfOk result (IsRouteOver d.now (lines_of_pieces pieces.now)) }
@@ -36,7 +36,7 @@ pub fn route_pieces(alloc: Global, d: &Drawing, pieces: &[Piece]) -> Result<Rout
     Ok(Routed { design, cert })
 }
 
-/// A certificate for each of the pieces, in order.
+/// Returns a certificate with a least walk for each of the pieces, in order.
 fn certs_of(alloc: Global, pieces: &[Piece]) -> Result<PieceCerts, Memory>
     ensures { IfOk result (AreRouted pieces.now) }
 {

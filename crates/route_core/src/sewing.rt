@@ -17,8 +17,9 @@ use design_model::{Command, Design, Memory, ModelFault, Point};
 use line_graph::{Drawing, Pass, needles_lead_along};
 use std::alloc::Global;
 
-/// The design that sews a drawing by the walks of a certificate: the drawing's label, the threads of its
-/// blocks, and for each walk the stops up to its block, a stitch at each of its needles, and a trim.
+/// Returns the design that sews a drawing by the walks of a certificate. The design has the drawing's label
+/// and the threads of its blocks. For each walk it has the stops up to its block, a stitch at each of its
+/// needle points, and a trim.
 pub fn sew(alloc: Global, d: &Drawing, cert: &Cert) -> Result<Design, Memory>
     requires there { AllDrawn d.now cert.now.pieces }
     requires room { length (commands_after 0 (runs_of d.now (walks_of cert.now.pieces)))
@@ -30,7 +31,7 @@ pub fn sew(alloc: Global, d: &Drawing, cert: &Cert) -> Result<Design, Memory>
     Ok(design)
 }
 
-/// The design with a drawing's label and threads, before anything is sewn.
+/// Returns the design with a drawing's label and threads, before anything is sewn.
 fn unsewn(alloc: Global, drawing: &Drawing) -> Design
     ensures { result ≡ record {
       label = drawing.now.label;
@@ -47,7 +48,7 @@ fn unsewn(alloc: Global, drawing: &Drawing) -> Design
     design
 }
 
-/// Sews on with the walks of pieces, beginning in block 0.
+/// Adds the commands of the walks of pieces, from block 0 on.
 fn sew_walks(
     alloc: Global,
     design: &mut Design,
@@ -69,7 +70,7 @@ fn sew_walks(
     Ok(())
 }
 
-/// Sews on with a walk after one in the block before, and answers its block.
+/// Adds the commands of a walk after one in the block `before`, and returns its block.
 fn sew_walk(
     alloc: Global,
     design: &mut Design,
@@ -92,7 +93,7 @@ fn sew_walk(
     Ok(block)
 }
 
-/// The block of a walk's first line.
+/// Returns the block of a walk's first line.
 pub(crate) fn block_of_walk(d: &Drawing, walk: &[Pass]) -> u32
     requires { AreDrawn d.now walk.now }
     ensures { result ≡ block_of_a_walk d.now walk.now }
@@ -103,7 +104,7 @@ pub(crate) fn block_of_walk(d: &Drawing, walk: &[Pass]) -> u32
     }
 }
 
-/// Sews on with a run in a block, after a run in the block before.
+/// Adds the commands of a run in a block, after a run in the block `before`.
 fn sew_run(design: &mut Design, before: u32, block: u32, points: &[Point]) -> Result<(), Memory>
     requires in_range { All IsNeedlePoint points.now }
     requires room { length design.old.commands

@@ -33,8 +33,8 @@ fn stitch(x: i32) -> Command {
     Command::Stitch(Point { x, y: 0 })
 }
 
-/// What is said of a piece: the retraced cost, two passes by line number, backwards below 0, and
-/// the weight and the junctions of one cut, by number; 0 is none.
+/// The certificate of a piece: the retraced cost, two passes by line number (negative for backwards), and
+/// the weight and the junctions of one cut, by number. The number 0 stands for none.
 type Said = (u32, [i8; 2], u32, [u8; 2]);
 
 fn cert_of(alloc: Global, said: &Said) -> Result<PieceCert, Memory>

@@ -7,7 +7,8 @@ use design_model::{Memory, Point, Points};
 use line_graph::{Drawing, Pass, needles};
 use std::alloc::Global;
 
-/// The needle points of a walk: those of its passes, the point that two neighbours share taken once.
+/// Returns the needle points of a walk: those of its passes in order. A point that ends one pass and starts
+/// the next is taken once.
 pub(crate) fn walk_needles(alloc: Global, d: &Drawing, walk: &[Pass]) -> Result<Points, Memory>
     requires { AreDrawn d.now walk.now }
     ensures { IfOk result (λ points. points ≡ needles_of_walk d.now walk.now) }
@@ -34,7 +35,7 @@ fn add_later(alloc: Global, points: &mut Points, d: &Drawing, walk: &[Pass]) -> 
     Ok(())
 }
 
-/// The needle points of a pass.
+/// Returns the needle points of a pass.
 fn pass_needles(alloc: Global, d: &Drawing, pass: Pass) -> Result<Points, Memory>
     requires { pass.line < length d.now.lines }
     ensures { IfOk result (λ points. points ≡ needles_of_pass d.now pass) }
@@ -43,7 +44,7 @@ fn pass_needles(alloc: Global, d: &Drawing, pass: Pass) -> Result<Points, Memory
     Ok(points)
 }
 
-/// The points, or the points in reverse.
+/// Returns the points, in reverse order if `back` is set.
 fn directed(points: Points, back: bool) -> Points
     ensures { result ≡ (if back then reverse points else points) }
 {
