@@ -1,4 +1,4 @@
--- What a feed comes to once a piece was passed on.
+-- The state of a feed after a chunk was passed on.
 use Rattle.std.proofs.Common.{◌≡◌, ℕ, ◌+◌, ◌-◌, ◌<◌, ◌≤◌, Bool, false, List, [], ◌∷◌, ◌++◌, length, refl, ap, sym, subst, ◌∙◌, arith, append_assoc, append-nil}
 use Rattle.format_traits.specs.Feeding.{IsFed}
 use Rattle.format_traits.specs.Feeds.{feeding_of, given_of, rest_of}
@@ -39,7 +39,7 @@ fed_on old new was now start taken before (byte ∷ bytes) after whether then fi
       ∙ sym ((passes.on there here).given []) ∙ ap (old.given at) (append_assoc before piece [])
   given (m ∷ more) = sym ((passes.on there here).given (m ∷ more)) ∙ ap (old.given at) (append_assoc before piece (m ∷ more))
 
--- the number of bytes that were pending is told by a call
+-- the number of pending bytes is the result of a call
 pub is_fed : (old new : Stream) (was now : SoFar) (start taken count : ℕ) (before piece after : List ℕ) (whether : Bool)
     → length before ≤ taken → count ≡ length before → 0 < length piece
     → Passes old new now (start + (taken - count)) before piece after → whether ≡ false
@@ -48,7 +48,7 @@ is_fed old new was now start taken count before piece after whether fits told so
     fed_on old new was now start taken before piece after whether whether fits some
     (subst (λ n. Passes old new now (start + (taken - n)) before piece after) told passes) sound sound
 
--- a piece that is the whole file
+-- a chunk that is the whole file
 pub passes_whole : (fresh old new : Stream) (so_far : SoFar) (start : ℕ) (before bytes after : List ℕ) → before ≡ []
     → IsSameStream old fresh → Passes old new so_far start before bytes after → fresh.rest start bytes ≡ so_far.answer
 passes_whole fresh old new so_far start before bytes after none same passes =

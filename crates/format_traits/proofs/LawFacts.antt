@@ -1,4 +1,4 @@
--- What no law lets pass, and endings.
+-- Violations of each law, and endings.
 use Rattle.std.proofs.Common.{◌≡◌, ℕ, pos, true, false, List, [], ◌∷◌, None, Result, Ok, Err, codes, refl, arith, sym, true≢false}
 use Rattle.design_model.specs.declared.act.Act.TheVariants as act
 use Rattle.design_model.specs.declared.command.Command.TheVariants.{Stitch, Trim}
@@ -24,7 +24,7 @@ known_no_ending ending = omega (arith, ending.some)
 pub known_capital : IsEnding (codes "dsT") → ⊥
 known_capital ending = true≢false (sym ending.spelled)
 
--- no answer but want of memory stands for another one
+-- no result except out of memory is allowed in place of the specified one
 abbrev want : Result Loaded ReadFault
 want = Err read.Memory
 
@@ -51,7 +51,7 @@ stitch = record { label = []; threads = []; commands = Stitch origin ∷ [] }
 abbrev trimmed : DesignValue
 trimmed = record { label = []; threads = []; commands = Stitch origin ∷ Trim ∷ [] }
 
--- what reads again has all acts, and an end
+-- what reads back has all acts, and an end
 pub known_lost : IsAgain trimmed (record { design = stitch; ended = true }) → ⊥
 known_lost again = fewer again.acts
   where

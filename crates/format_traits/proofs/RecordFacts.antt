@@ -1,4 +1,4 @@
--- Worked values of records, and of how acts are spelled.
+-- Worked values of records, and of the encoding of acts.
 use Rattle.std.proofs.Common.{◌≡◌, ℕ, ℤ, pos, negsuc, true, false, [], ◌∷◌, length, map, take, drop, Some, None, Ok, Err, refl}
 use Rattle.design_model.specs.declared.act.Act.TheVariants.{Needle, Trim as TrimAct, Stop as StopAct}
 use Rattle.design_model.specs.declared.command.Command.TheVariants.{Stitch, Jump, Trim, Stop}
@@ -64,7 +64,7 @@ pub known_range_first : reads_from 1000000 (point (pos 0) (pos 0)) (next 7 (even
     ≡ Err (fault.Range 7)
 known_range_first = refl
 
--- the move of a record that is refused is told no more
+-- the move of a refused record is left out
 pub known_moves_kept : moves_from 999998 (point (pos 0) (pos 0)) (cut_to (pos 5)) ≡ point (pos 5) (pos 0) ∷ []
 known_moves_kept = refl
 
@@ -97,7 +97,7 @@ pub known_cuts : map cuts (event.Stitch (point (pos 0) (pos 0)) ∷ event.Jump (
     ≡ false ∷ false ∷ true ∷ true ∷ true ∷ true ∷ []
 known_cuts = refl
 
--- a header of a label and a thread, and records that stitch to where their number and their offset say
+-- a header of a label and a thread, and records of stitches whose moves are their number and their offset
 abbrev two_bytes : Layout
 two_bytes = record {
   header = 2;
@@ -117,11 +117,11 @@ known_layout = refl
 pub known_layout_given : map (given_by two_bytes 5) ((65 ∷ []) ∷ (65 ∷ 9 ∷ []) ∷ []) ≡ [] ∷ (Stitch (point (pos 0) (pos 7)) ∷ []) ∷ []
 known_layout_given = refl
 
--- a refusal that a format tells
+-- a refusal by a format
 pub known_refusal : course_of (next 0 event.Trim (refused (fault.Control 4))) ≡ Err (fault.Control 4)
 known_refusal = refl
 
--- records that are spelled by their kind, and numbers of stops by themselves
+-- records that are encoded by their kind, and numbers of stops as they are
 abbrev pub plain_spelling : Spelling
 plain_spelling = record {
   stitch = λ m. 1 ∷ [];
@@ -130,11 +130,11 @@ plain_spelling = record {
   stop = λ before. 4 ∷ before ∷ [];
 }
 
--- a format with the limit 121 and at most so many jumps to a float
+-- a format with the limit 121 and a maximum of hops of a float
 abbrev pub with_most : ℕ → Reach
 with_most most = record { limit = 121; float_hops = Some most; stops = None }
 
--- two hops to a loose needle, a trim, a stop, another, a loose needle on the spot, a float of 300 and one of no length
+-- two hops to a loose needle, a trim, two stops, a loose needle in place, a float of 300 and one of no length
 pub known_records : records_of plain_spelling (with_most 4) (numbered 1 (Needle (point (pos 200) (pos 0)) false)
     ∷ numbered 2 TrimAct ∷ numbered 3 StopAct ∷ numbered 4 StopAct ∷ numbered 5 (Needle (point (pos 200) (pos 0)) false)
     ∷ numbered 7 (Needle (point (pos 500) (pos 0)) true) ∷ numbered 9 (Needle (point (pos 500) (pos 0)) true) ∷ [])

@@ -37,7 +37,7 @@ known_way = refl
 pub known_back : moved_along (point (pos 7) (pos 7)) (point (pos 2) (negsuc 4) ∷ point (negsuc 1) (pos 5) ∷ []) ≡ point (pos 7) (pos 7)
 known_back = refl
 
--- a stop that moves is none on the spot
+-- a stop with a move is not in place
 pub known_stop : is_stop (event.StopBy (point (pos 0) (pos 0))) ≡ true
 known_stop = refl
 

@@ -1,10 +1,10 @@
--- What bytes come to that are taken one part after another.
+-- The results of bytes that a decoder takes part by part.
 use Rattle.std.proofs.Common.{◌≡◌, ℕ, ◌+◌, ◌-◌, ◌≤◌, List, [], ◌++◌, length, drop, ap, sym, ◌∙◌, subst, arith, length-append, append_assoc, append-nil}
 use Rattle.std.proofs.Math.Seq.{drop-append-add}
 use Rattle.std.proofs.lemmas.List.{length-drop}
 use Rattle.format_traits.specs.Streams.{ComesOn, IsSameStream, IsSettled, Passes, SoFar, Stream, Takes}
 
--- behind no header is the whole file
+-- after no header is the whole file
 pub same_behind : (fresh new : Stream) (header : ℕ) → header ≡ 0 → ((at : ℕ) → ComesOn fresh new at (at + header) [] [])
     → IsSameStream new fresh
 same_behind fresh new header none on =
@@ -14,7 +14,7 @@ same_behind fresh new header none on =
       given = λ at bytes. sym ((on at).given bytes ∙ ap (λ n. new.given n bytes) (here at));
     }
 
--- what is taken behind a header that is whole
+-- what is taken after a header that is whole
 pub takes_behind : (fresh middle new : Stream) (so_far : SoFar) (at least header size : ℕ) (bytes front back : List ℕ)
     → bytes ≡ front ++ back → length front ≡ header → least ≡ header → ComesOn fresh middle at (at + least) front []
     → Takes middle new so_far (at + header) back size → Takes fresh new so_far at bytes (header + size)
@@ -45,7 +45,7 @@ takes_behind fresh middle new so_far at least header size bytes front back whole
           (subst (λ left. IsSettled new so_far ((at + header) + size) left) (sym left) takes.settled);
     }
 
--- bytes are taken off those that are pending, and others stand behind them
+-- bytes are taken off those that are pending, and others stand after them
 pub passes_on : {old middle new : Stream} {so_far : SoFar} (start at size : ℕ) (whole pending rest left behind : List ℕ)
     → ComesOn old middle start at whole (pending ++ rest) → Takes middle new so_far at pending size
     → left ++ behind ≡ drop size pending ++ rest → ComesOn old new start (at + size) whole (left ++ behind)
@@ -58,7 +58,7 @@ passes_on {old} {middle} {new} start at size whole pending rest left behind on t
       ∙ ap (λ bytes. new.given (at + size) (bytes ++ more)) (sym same);
 }
 
--- nothing stands behind what is left
+-- nothing stands after what is left
 pub passes_end : {old middle new : Stream} {so_far : SoFar} (start at size : ℕ) (before piece pending rest left : List ℕ)
     → ComesOn old middle start at (before ++ piece) (pending ++ rest) → Takes middle new so_far at pending size
     → rest ≡ [] → left ≡ drop size pending → (at + length pending) + length rest ≡ (start + length before) + length piece

@@ -1,4 +1,4 @@
--- What is known of the acts of a design that a format can write.
+-- Properties of the acts of a design that a format can write.
 use Rattle.std.specs.Prelude.{◌≡◌, ℕ, ◌≤◌, List, Some, None, IsTrue}
 use Rattle.std.specs.List.{list_all}
 use Rattle.design_model.specs.declared.act.NumberedAct.{NumberedAct}
@@ -10,13 +10,14 @@ use Rattle.format_traits.specs.declared.standing.Reach.{Reach}
 use Rattle.format_traits.specs.Refusals.{stops_of, first_refusal}
 use Rattle.format_traits.specs.Rooms.{room_of}
 
--- acts in range, with little room and no more stops than the format may have
+-- Acts within a format's limits: each act is in range, their room is at most that of a design, and
+-- their stops are at most the format's.
 pub record IsSmall (reach : Reach) (acts : List NumberedAct) : Type 0 where
   pub in_range : IsTrue (list_all (λ a. is_act_in_range a.act) acts)
   pub room : room_of reach.limit acts ≤ MAX_COMMANDS
   pub stops : (most : ℕ) → reach.stops ≡ Some most → stops_of acts ≤ most
 
--- the acts of a design that are not refused are so
+-- Theorem: the acts of a design that the format does not refuse are within the format's limits.
 abbrev pub AcceptedIsSmall : Type 0
 AcceptedIsSmall = (reach : Reach) (d : DesignValue) → KeepsLimits d
     → first_refusal reach (acts_of d) ≡ None

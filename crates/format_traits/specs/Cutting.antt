@@ -1,5 +1,5 @@
--- What it means to cut the first record from the bytes that are left of a
--- file, and to read them all.
+-- Decoding of one record: what the next record of a file's remaining bytes is, and what a reader's
+-- answer about it means.
 use Rattle.std.specs.Prelude.{◌≡◌, ℕ, ◌+◌, ◌<◌, ◌≤◌, Bool, true, List, ◌++◌, length, drop, IsTrue}
 use Rattle.std.specs.List.{list_all}
 use Rattle.design_model.specs.Points.{is_within}
@@ -9,8 +9,9 @@ use Rattle.format_traits.specs.declared.record_reader.NextRecord.TheVariants as 
 use Rattle.format_traits.specs.declared.record_reader.TheConstants.{GREATEST_STEP, MOST_RECORD}
 use Rattle.format_traits.specs.Records.{Records, over, refused, next, moves_in}
 
--- the records of a reader before and after the cut, whatever bytes follow: one of so many bytes
--- stands at the offset, and the others are those of the bytes behind it
+-- A decoded record: for any bytes that follow, a record of `size` bytes begins at the offset. The
+-- other records are those of the bytes after it. `before` and `after` are the records as the
+-- reader's states before and after the call read them.
 pub record IsCut (before after : ℕ → List ℕ → Records) (at : ℕ) (bytes : List ℕ) (size : ℕ)
     (event : Event) : Type 0 where
   pub some : 0 < size
@@ -19,15 +20,15 @@ pub record IsCut (before after : ℕ → List ℕ → Records) (at : ℕ) (bytes
       ≡ next at event (after (at + size) (drop size bytes ++ more))
   pub small : IsTrue (list_all (λ move. is_within GREATEST_STEP move) (moves_in event))
 
--- the bytes are too few for a record: the reader stays as it is, and the file is over if they are
--- its last
+-- An incomplete record: the bytes are too few for a record. The reader's state does not change, and
+-- `ended` is true where a file that ends here is complete.
 pub record IsWanting (before after : ℕ → List ℕ → Records) (at : ℕ) (bytes : List ℕ)
     (ended : Bool) : Type 0 where
   pub few : length bytes < MOST_RECORD
   pub same : (at : ℕ) (bytes : List ℕ) → before at bytes ≡ after at bytes
   pub is : before at bytes ≡ over ended
 
--- what an answer of cutting a record means
+-- Meaning of each answer of a record reader's `next`.
 abbrev pub Cuts : (before after : ℕ → List ℕ → Records) → ℕ → List ℕ → NextRecord → Type 0
 Cuts before after at bytes cut.End = (more : List ℕ) → before at (bytes ++ more) ≡ over true
 Cuts before after at bytes (cut.Wants ended) = IsWanting before after at bytes ended

@@ -1,32 +1,35 @@
--- Which format a file name asks for: by the part after its last dot, in small letters.
+-- Selection of a format by a file name: by the part after its last dot, with ASCII capitals read as
+-- small letters.
 use Rattle.std.specs.Prelude.{ℕ, ◌+◌, List, [], ◌∷◌, Option, Some, None, bytes_eq, ◌==◌, if◌then◌else◌, option_and_then, slice_get}
 use Rattle.std.specs.Str.{str_to_ascii_lowercase}
 use Rattle.format_traits.specs.Meanings.{Meaning}
 
--- the text after a dot, unless there is a later dot
+-- The text after this byte, if the byte is the last dot; an ending that was found later in the name
+-- stays.
 abbrev pub after_dot : ℕ → List ℕ → Option (List ℕ) → Option (List ℕ)
 after_dot byte rest (Some ending) = Some ending
 after_dot byte rest None = if byte == 46 then Some rest else None
 
--- the part of a name after its last dot
+-- The part of a name after its last dot.
 abbrev pub ending_in : List ℕ → Option (List ℕ)
 ending_in [] = None
 ending_in (byte ∷ rest) = after_dot byte rest (ending_in rest)
 
--- the place of the first meaning with that ending, the first place being n
+-- The index of the first format with the ending, where the first format of the list has index n.
 abbrev pub found_from : ℕ → List ℕ → List Meaning → Option ℕ
 found_from n ending [] = None
 found_from n ending (m ∷ more) =
     if bytes_eq m.ending ending then Some n else found_from (n + 1) ending more
 
--- the place of the first meaning with the ending of a name
+-- The index of the first format with the ending of a name, if the name has one.
 abbrev pub found_for : List Meaning → Option (List ℕ) → Option ℕ
 found_for meanings (Some ending) = found_from 0 (str_to_ascii_lowercase ending) meanings
 found_for meanings None = None
 
+-- The index of the format of a file name: the first whose ending is the name's.
 abbrev pub found_in : List Meaning → List ℕ → Option ℕ
 found_in meanings name = found_for meanings (ending_in name)
 
--- the format whose ending a name has
+-- The format of a file name: the first whose ending is the name's.
 abbrev pub format_of : List Meaning → List ℕ → Option Meaning
 format_of formats name = option_and_then (λ place. slice_get formats place) (found_in formats name)

@@ -1,4 +1,4 @@
--- The state of a feed, as contracts see it.
+-- The state of a feed, computed from the state of its decoder and from the pending bytes.
 use Rattle.std.specs.Prelude.{ℕ, ◌+◌, ◌-◌, Bool, List, [], ◌∷◌, ◌++◌, length, Result}
 use Rattle.design_model.specs.declared.command.Command.{Command}
 use Rattle.format_traits.specs.declared.fault.ReadFault.{ReadFault}
@@ -6,17 +6,18 @@ use Rattle.format_traits.specs.declared.loaded.Loaded.{Loaded}
 use Rattle.format_traits.specs.Feeding.{Feeding}
 use Rattle.format_traits.specs.Streams.{SoFar, Stream}
 
--- what the file reads as once those bytes more come, behind those that are pending
+-- The result of the file as a function of the remaining bytes, which follow the pending ones.
 abbrev pub rest_of : Stream → SoFar → ℕ → List ℕ → List ℕ → Result Loaded ReadFault
 rest_of stream so_far at pending [] = so_far.answer
 rest_of stream so_far at pending (byte ∷ more) = stream.rest at (pending ++ byte ∷ more)
 
--- the commands that it then gives
+-- The commands of the file as a function of the remaining bytes, which follow the pending ones.
 abbrev pub given_of : Stream → SoFar → ℕ → List ℕ → List ℕ → List Command
 given_of stream so_far at pending [] = so_far.commands
 given_of stream so_far at pending (byte ∷ more) = stream.given at (pending ++ byte ∷ more)
 
--- a feed from an offset on: so many bytes were taken, and the last of them are pending
+-- The state of a feed whose first byte has the offset `start`: `taken` bytes were fed, and the last
+-- of them are pending.
 abbrev pub feeding_of : Stream → SoFar → (start taken : ℕ) → List ℕ → Bool → Feeding
 feeding_of stream so_far start taken pending spoiled = record {
   spoiled = spoiled;

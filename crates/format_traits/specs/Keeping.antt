@@ -1,4 +1,4 @@
--- What it means to add the commands of one record to a design that is being read.
+-- Adding the commands of one record to a design that is being read.
 use Rattle.std.specs.Prelude.{◌≡◌, ◌+◌, ◌≤◌, List, ◌++◌, length, Result, Ok, Err, IsTrue, ℕ}
 use Rattle.std.specs.List.{list_all}
 use Rattle.design_model.specs.declared.command.Command.{Command}
@@ -12,25 +12,26 @@ use Rattle.format_traits.specs.Faults.{read_wants}
 use Rattle.format_traits.specs.Readings.{Course, tries}
 use Rattle.format_traits.specs.Records.{taken_of}
 
--- the same design but for its commands
+-- Two designs with the same label and the same threads.
 pub record SameButCommands (old new : DesignValue) : Type 0 where
   pub label : new.label ≡ old.label
   pub threads : new.threads ≡ old.threads
 
--- the commands are in range, and the design has room for them
+-- The commands are in range, and the design has room for them.
 abbrev pub Fit : List Command → DesignValue → Type 0
 Fit commands d = IsTrue (list_all is_in_range commands)
     × (length d.commands + length commands ≤ MAX_COMMANDS)
 
--- trying the commands of the record at that offset comes to a refusal, and those before the one
--- that is refused are kept
+-- One of the commands of the record at an offset is refused with the fault `f`, and the commands
+-- before it are added.
 pub record Refuses (at : ℕ) (commands : List Command) (old : DesignValue) (f : ReadFault)
     (new : DesignValue) : Type 0 where
   pub is : (rest : Result Course ReadFault) → tries at (length old.commands) commands rest ≡ Err f
   pub kept : (rest : List Command)
       → new.commands ≡ old.commands ++ taken_of (length old.commands) commands rest
 
--- what each answer means
+-- Meaning of each answer: the record's commands are added, or one of them is refused, or memory ran
+-- out.
 abbrev pub Keeps : {T : Type 0} → ℕ → List Command → DesignValue → Result T ReadFault → DesignValue
     → Type 0
 Keeps at commands old (Ok _) new = Fit commands old × (new ≡ with_commands old commands)

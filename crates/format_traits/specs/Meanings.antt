@@ -1,4 +1,4 @@
--- What a format object means: six things, by which contracts know it.
+-- The meaning of a format object: six values by which contracts know it.
 use Rattle.std.specs.Prelude.{ℕ, List, Result}
 use Rattle.design_model.specs.declared.command.Command.{Command}
 use Rattle.design_model.specs.declared.point.Point.{Point}
@@ -7,9 +7,10 @@ use Rattle.format_traits.specs.declared.fault.ReadFault.{ReadFault}
 use Rattle.format_traits.specs.declared.fault.WriteFault.{WriteFault}
 use Rattle.format_traits.specs.declared.loaded.Loaded.{Loaded}
 
--- the ending of its file names, the limit of one move on each axis, what a file's bytes read as,
--- what a design is written as, the moves of a file's records before its end or first refusal, and
--- the commands that those of its records give that lie whole in the bytes
+-- The meaning of a format. `ending` is that of its file names, `limit` the greatest move of a
+-- stitch on each axis, in tenths of a millimetre. `reads` is the result of reading a file's bytes,
+-- `writes` that of writing a design. `moves` are the moves of a file's records before its end or
+-- its first refusal. `shown` are the commands of the records that are complete in the bytes.
 pub record Meaning : Type 0 where
   pub ending : List ℕ
   pub limit : ℕ

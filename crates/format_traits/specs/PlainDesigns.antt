@@ -1,4 +1,4 @@
--- Designs that every format can write.
+-- Plain designs: those that every format can write.
 use Rattle.std.specs.Prelude.{ℕ, ◌≤◌, Bool, true, not, ◌&&◌, ◌||◌, List, [], ◌∷◌, IsTrue}
 use Rattle.design_model.specs.declared.act.Act.{Act}
 use Rattle.design_model.specs.declared.act.Act.TheVariants as act
@@ -12,20 +12,22 @@ use Rattle.design_model.specs.ActPlaces.{place_after, is_loose_after}
 use Rattle.format_traits.specs.Refusals.{stops_of}
 use Rattle.format_traits.specs.Rooms.{room_of}
 
--- a needle is no float, and where it is not loose it lies within the limit of the needle before
+-- True for an act that every format can write: a needle is no float, and lies within the limit of
+-- the needle before unless the thread is loose.
 abbrev pub is_plain_act : ℕ → Bool → Point → Act → Bool
 is_plain_act limit loose place (act.Needle p float) =
     not float && (loose || is_within limit (move_between place p))
 is_plain_act limit loose place act.Trim = true
 is_plain_act limit loose place act.Stop = true
 
--- all needles are so
+-- True where each of the acts is plain, from a position and a state of the thread on.
 abbrev pub are_plain_from : ℕ → Bool → Point → List NumberedAct → Bool
 are_plain_from limit loose place [] = true
 are_plain_from limit loose place (a ∷ rest) = is_plain_act limit loose place a.act
     && are_plain_from limit (is_loose_after a.act) (place_after place a.act) rest
 
--- a design without floats and long stitches, with few stops, that is not too long
+-- A plain design for a limit: no float, no stitch beyond the limit, at most 254 stops, and room for
+-- its acts.
 pub record IsPlain (limit : ℕ) (d : DesignValue) : Type 0 where
   pub needles : IsTrue (are_plain_from limit true origin (acts_of d))
   pub stops : stops_of (acts_of d) ≤ 254

@@ -1,4 +1,5 @@
--- Where a reader of records stands, and what is still to come from there.
+-- The state of a decoder of records: the design so far, the hoop's position and the stage, as
+-- functions of the remaining bytes.
 use Rattle.std.specs.Prelude.{ℕ, true, List, [], ◌++◌, length, Result, Ok, Err}
 use Rattle.design_model.specs.declared.command.Command.{Command}
 use Rattle.design_model.specs.declared.point.Point.{Point}
@@ -13,15 +14,16 @@ use Rattle.format_traits.specs.Readings.{after_commands, loaded_with}
 use Rattle.format_traits.specs.Records.{Records, given_from, reads_from}
 use Rattle.format_traits.specs.Streams.{SoFar, Stream}
 
--- what the records to come make of a design that was read up to a place
+-- The result of the remaining records after a design that was read up to a position.
 abbrev pub reads_on : DesignValue → Point → Records → Result Loaded ReadFault
 reads_on d place records = loaded_with d.label d.threads
     (after_commands d.commands (reads_from (length d.commands) place records))
 
--- the commands so far and those that the records to come give
+-- The commands of a design that was read up to a position, and those of the remaining records.
 abbrev pub given_on : DesignValue → Point → Records → List Command
 given_on d place records = d.commands ++ given_from (length d.commands) place records
 
+-- The result of the file at a stage, as a function of the remaining bytes.
 abbrev pub rest_at : Layout → (ℕ → List ℕ → Records) → DesignValue → Point → Stage → ℕ → List ℕ
     → Result Loaded ReadFault
 rest_at layout records d place (stage.Header end) at bytes = reads_by layout at bytes
@@ -29,6 +31,7 @@ rest_at layout records d place (stage.Records ended) at bytes = reads_on d place
 rest_at layout records d place stage.Over at bytes = Ok (record { design = d; ended = true })
 rest_at layout records d place (stage.Refused f) at bytes = Err f
 
+-- The commands of the file at a stage, as a function of the remaining bytes.
 abbrev pub given_at : Layout → (ℕ → List ℕ → Records) → DesignValue → Point → Stage → ℕ → List ℕ
     → List Command
 given_at layout records d place (stage.Header end) at bytes = given_by layout at bytes
@@ -36,27 +39,27 @@ given_at layout records d place (stage.Records ended) at bytes = given_on d plac
 given_at layout records d place stage.Over at bytes = d.commands
 given_at layout records d place (stage.Refused f) at bytes = d.commands
 
--- what is still to come
+-- The decoder state at a stage: the result and the commands as functions of the remaining bytes.
 abbrev pub stream_at : Layout → (ℕ → List ℕ → Records) → DesignValue → Point → Stage → Stream
 stream_at layout records d place stage = record {
   rest = rest_at layout records d place stage;
   given = given_at layout records d place stage;
 }
 
--- what the file reads as if it ends here
+-- The result of the file if it ends at this stage.
 abbrev pub answer_at : DesignValue → Stage → Result Loaded ReadFault
 answer_at d (stage.Header end) = Err (fault.Short end)
 answer_at d (stage.Records ended) = Ok (record { design = d; ended = ended })
 answer_at d stage.Over = Ok (record { design = d; ended = true })
 answer_at d (stage.Refused f) = Err f
 
--- the commands so far
+-- The commands that were decoded up to this stage.
 abbrev pub commands_so_far : DesignValue → Stage → List Command
 commands_so_far d (stage.Header end) = []
 commands_so_far d (stage.Records ended) = d.commands
 commands_so_far d stage.Over = d.commands
 commands_so_far d (stage.Refused f) = d.commands
 
--- both
+-- The result and the commands if the file ends at this stage.
 abbrev pub so_far_at : DesignValue → Stage → SoFar
 so_far_at d stage = record { answer = answer_at d stage; commands = commands_so_far d stage }

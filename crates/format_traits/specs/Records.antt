@@ -1,5 +1,5 @@
--- The records of a file, in any format, and the commands that they come to. Each record stands at
--- an offset of the file and asks for one event.
+-- The records of a file, in any format, and the commands that are computed from them. Each record
+-- begins at an offset of the file and stands for one event.
 use Rattle.std.specs.Prelude.{ℕ, ◌+◌, Bool, true, false, ◌&&◌, List, [], ◌∷◌, ◌++◌, length, nat_le, nat_lt, Result, Ok, Err, if◌then◌else◌}
 use Rattle.std.specs.List.{list_all}
 use Rattle.design_model.specs.declared.command.Command.{Command}
@@ -14,18 +14,19 @@ use Rattle.format_traits.specs.declared.fault.ReadFault.{ReadFault}
 use Rattle.format_traits.specs.Placing.{moved}
 use Rattle.format_traits.specs.Readings.{Course, tries}
 
--- records up to where the file is over, with an end or without one, or is refused
+-- The records of a file in order, up to its end or its first refusal; `ended` is true where the
+-- file has an end.
 pub data Records : Type 0 where
   over : (ended : Bool) → Records
   refused : (f : ReadFault) → Records
   next : (at : ℕ) (event : Event) (rest : Records) → Records
 
--- a stop, and a jump where the move is not (0, 0)
+-- The commands of a stop with a move: a stop, and a jump unless the move is (0, 0).
 abbrev pub stops_by : Point → Point → List Command
 stops_by m there = if is_same_point m origin then command.Stop ∷ []
     else command.Stop ∷ command.Jump there ∷ []
 
--- the place after an event
+-- The position of the hoop after an event.
 abbrev pub place_by : Event → Point → Point
 place_by (event.Stitch m) place = moved place m
 place_by (event.Jump m) place = moved place m
@@ -34,7 +35,7 @@ place_by event.Trim place = place
 place_by event.Stop place = place
 place_by (event.StopBy m) place = moved place m
 
--- the commands of an event that leaves the hoop there
+-- The commands of an event after which the hoop is at the position `there`.
 abbrev pub commands_at : Event → Point → List Command
 commands_at (event.Stitch m) there = command.Stitch there ∷ []
 commands_at (event.Jump m) there = command.Jump there ∷ []
@@ -43,7 +44,7 @@ commands_at event.Trim there = command.Trim ∷ []
 commands_at event.Stop there = command.Stop ∷ []
 commands_at (event.StopBy m) there = stops_by m there
 
--- the event trims or stops
+-- True for an event that cuts the thread or stops.
 abbrev pub cuts : Event → Bool
 cuts (event.Stitch m) = false
 cuts (event.Jump m) = false
@@ -52,11 +53,11 @@ cuts event.Trim = true
 cuts event.Stop = true
 cuts (event.StopBy m) = true
 
--- the commands of an event, by the place before it
+-- The commands of an event, by the position before it.
 abbrev pub commands_of : Event → Point → List Command
 commands_of event place = commands_at event (place_by event place)
 
--- the move of an event, where it has one
+-- The move of an event, as a list that is empty where the event has none.
 abbrev pub moves_in : Event → List Point
 moves_in (event.Stitch m) = m ∷ []
 moves_in (event.Jump m) = m ∷ []
@@ -65,7 +66,7 @@ moves_in event.Trim = []
 moves_in event.Stop = []
 moves_in (event.StopBy m) = m ∷ []
 
--- what records come to after so many commands and at that place
+-- The result of records after `count` commands, from a position on.
 abbrev pub reads_from : ℕ → Point → Records → Result Course ReadFault
 reads_from count place (over ended) = Ok (record { commands = []; ended = ended })
 reads_from count place (refused f) = Err f
@@ -73,20 +74,20 @@ reads_from count place (next at event rest) =
     let commands = commands_of event place in
     tries at count commands (reads_from (count + length commands) (place_by event place) rest)
 
--- what all records of a file come to
+-- The result of all records of a file.
 abbrev pub course_of : Records → Result Course ReadFault
 course_of records = reads_from 0 origin records
 
--- the commands of one record that are taken after so many, up to the first that is refused, and
--- those that come of the rest where none is
+-- The accepted commands of one record after `count` others, up to the first refused one. Where none
+-- is refused, `rest` follows.
 abbrev pub taken_of : ℕ → List Command → List Command → List Command
 taken_of count [] rest = rest
 taken_of count (command ∷ more) rest =
     if is_in_range command && nat_lt count MAX_COMMANDS
     then command ∷ taken_of (count + 1) more rest else []
 
--- the commands that records give before the end and before the first refusal, after so many
--- commands and at that place
+-- The commands of records before the end and before the first refusal, after `count` commands and
+-- from a position on.
 abbrev pub given_from : ℕ → Point → Records → List Command
 given_from count place (over ended) = []
 given_from count place (refused f) = []
@@ -94,16 +95,17 @@ given_from count place (next at event rest) =
     let commands = commands_of event place in
     taken_of count commands (given_from (count + length commands) (place_by event place) rest)
 
--- those of all records of a file
+-- The commands of all records of a file, before the end and before the first refusal.
 abbrev pub given_of : Records → List Command
 given_of records = given_from 0 origin records
 
--- commands of a record that are kept, after so many
+-- True where all commands of a record are accepted after `count` others.
 abbrev pub are_kept : ℕ → List Command → Bool
 are_kept count commands = list_all is_in_range commands && nat_le
     (count + length commands) MAX_COMMANDS
 
--- the moves of the records that come before the end and before the first refusal
+-- The moves of records before the end and before the first refusal, after `count` commands and from
+-- a position on.
 abbrev pub moves_from : ℕ → Point → Records → List Point
 moves_from count place (over ended) = []
 moves_from count place (refused f) = []
@@ -112,6 +114,6 @@ moves_from count place (next at event rest) =
     if are_kept count commands
     then moves_in event ++ moves_from (count + length commands) (place_by event place) rest else []
 
--- those of all records of a file
+-- The moves of all records of a file, before the end and before the first refusal.
 abbrev pub moves_of : Records → List Point
 moves_of records = moves_from 0 origin records

@@ -1,37 +1,40 @@
--- What the bytes of a file come to while they are read in pieces. A stream is what is still to
--- come: what the file reads as, and the commands that it gives, by the bytes from an offset on.
+-- The state of a decoder, as two functions of the remaining bytes of the file, given from an offset
+-- on.
 use Rattle.std.specs.Prelude.{◌≡◌, ℕ, ◌+◌, ◌<◌, ◌≤◌, List, ◌++◌, length, drop, Result}
 use Rattle.design_model.specs.declared.command.Command.{Command}
 use Rattle.format_traits.specs.declared.decoder.TheConstants.{MOST_PENDING}
 use Rattle.format_traits.specs.declared.fault.ReadFault.{ReadFault}
 use Rattle.format_traits.specs.declared.loaded.Loaded.{Loaded}
 
+-- A decoder state: the result of the file (`rest`) and its commands (`decoded`), as functions of an
+-- offset and of the remaining bytes from there on.
 pub record Stream : Type 0 where
   pub rest : ℕ → List ℕ → Result Loaded ReadFault
   pub given : ℕ → List ℕ → List Command
 
--- what a reader has of a file: what the file reads as if it ends here, and the commands so far
+-- What a decoder has read: the result of the file if it ends here, and the commands so far.
 pub record SoFar : Type 0 where
   pub answer : Result Loaded ReadFault
   pub commands : List Command
 
--- the bytes that are left at that offset give nothing more than what is there
+-- A record boundary: the remaining bytes at the offset add nothing to what was read.
 pub record IsSettled (stream : Stream) (so_far : SoFar) (at : ℕ) (bytes : List ℕ) : Type 0 where
   pub answer : stream.rest at bytes ≡ so_far.answer
   pub commands : stream.given at bytes ≡ so_far.commands
 
--- two streams come to the same, whatever bytes come
+-- Two decoder states with the same result and the same commands for all remaining bytes.
 pub record IsSameStream (one other : Stream) : Type 0 where
   pub rest : (at : ℕ) (bytes : List ℕ) → one.rest at bytes ≡ other.rest at bytes
   pub given : (at : ℕ) (bytes : List ℕ) → one.given at bytes ≡ other.given at bytes
 
--- whatever bytes follow, the one comes to with `before` at an offset what the other comes to with
--- `after` at another
+-- For any bytes that follow, the state `one` with `before` at an offset equals the state `other`
+-- with `after` at another offset.
 pub record ComesOn (one other : Stream) (at there : ℕ) (before after : List ℕ) : Type 0 where
   pub rest : (more : List ℕ) → one.rest at (before ++ more) ≡ other.rest there (after ++ more)
   pub given : (more : List ℕ) → one.given at (before ++ more) ≡ other.given there (after ++ more)
 
--- so many of the bytes at an offset were taken; those that are left are few, and give nothing yet
+-- A decoder took `size` of the bytes at an offset. The bytes that are left are few, and add nothing
+-- yet.
 pub record Takes (old new : Stream) (so_far : SoFar) (at : ℕ) (bytes : List ℕ)
     (size : ℕ) : Type 0 where
   pub there : size ≤ length bytes
@@ -39,8 +42,8 @@ pub record Takes (old new : Stream) (so_far : SoFar) (at : ℕ) (bytes : List �
   pub on : ComesOn old new at (at + size) bytes (drop size bytes)
   pub settled : IsSettled new so_far (at + size) (drop size bytes)
 
--- a piece was passed on behind the bytes that were pending at an offset; what is pending then ends
--- where the piece ends
+-- A chunk was passed on after the bytes that were pending at an offset. The bytes that are pending
+-- then end where the chunk ends.
 pub record Passes (old new : Stream) (so_far : SoFar) (at : ℕ)
     (before piece after : List ℕ) : Type 0 where
   pub few : length after ≤ length before + length piece

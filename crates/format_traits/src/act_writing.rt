@@ -18,8 +18,8 @@ use design_model::{
     Act, ActWalk, Bytes, Command, MAX_COMMANDS, Memory, NEEDLE_LIMIT, NumberedAct, Point,
 };
 
-/// Adds the records of a design's acts, up to the first that the format cannot write, and says how it
-/// stands after them.
+/// Appends the records of a design's acts, and returns the encoder's state after them. An act that the format
+/// cannot write is reported; the contents of `out` are not specified then.
 pub fn put_acts<W: RecordWriter>(
     writer: &W,
     out: &mut Bytes,
@@ -43,9 +43,10 @@ pub fn put_acts<W: RecordWriter>(
     Ok(standing)
 }
 
-/// Adds the records of an act, after which it stands otherwise, or says why the format cannot write it.
-// Nearly all acts are needles that are sewn on: what they take stands in the loop, and all else
-// apart.
+/// Appends the records of an act and updates the encoder state, or reports why the format cannot write the
+/// act.
+// Nearly all acts are needles that are sewn on: their code is in the loop, and that of all other acts is in a
+// function of its own.
 #[inline(always)]
 fn put_act<W: RecordWriter>(
     writer: &W,
@@ -67,8 +68,8 @@ fn put_act<W: RecordWriter>(
     }
 }
 
-/// The same apart, with a copy of the act and of how it stands: lent themselves, they would live in memory all
-/// along the loop.
+/// Appends the records of an act from copies of the act and of the encoder state. References to the originals
+/// would keep both in memory for the entire loop.
 #[inline(always)]
 fn put_act_copied<W: RecordWriter>(
     writer: &W,
@@ -92,8 +93,8 @@ fn put_act_copied<W: RecordWriter>(
     Ok(())
 }
 
-// Loose needles and stops go the same way as the others, but each in a copy of its own: LLVM then knows all along
-// it what the act is, and its hops are counted once.
+// All acts take the same steps, but loose needles and stops have calls of their own: LLVM then knows the act
+// in each copy, and the hops are counted once.
 #[cold]
 #[inline(never)]
 fn put_act_apart<W: RecordWriter>(
@@ -138,7 +139,7 @@ fn put_act_here<W: RecordWriter>(
     Ok(())
 }
 
-// In line, since a call would keep the loop's standing in memory.
+// Inlined, since a call would keep the loop's encoder state in memory.
 #[inline(always)]
 fn put_act_records<W: RecordWriter>(
     writer: &W,
@@ -187,7 +188,7 @@ fn put_needle<W: RecordWriter>(
     writer.put_stitch(out, step)
 }
 
-/// Adds the records of a float of so many jumps.
+/// Appends the records of a float of `count` hops.
 fn put_float<W: RecordWriter>(
     writer: &W,
     out: &mut Bytes,
@@ -207,7 +208,7 @@ fn put_float<W: RecordWriter>(
     put_hops(writer, out, count, step)
 }
 
-/// Says whether a number is the most that is allowed.
+/// Returns whether a number is the maximum, if there is one.
 fn is_most(most: Option<u32>, number: u32) -> bool
     ensures { result ≡ is_most_of most number }
 {
@@ -217,7 +218,7 @@ fn is_most(most: Option<u32>, number: u32) -> bool
     }
 }
 
-/// Adds jumps that make up a move, and a stitch in the place of the last of so many.
+/// Appends the records of a move in `count` hops, of which the last is a stitch.
 fn put_stitched<W: RecordWriter>(
     writer: &W,
     out: &mut Bytes,
@@ -236,7 +237,7 @@ fn put_stitched<W: RecordWriter>(
     Ok(())
 }
 
-/// Adds so many jumps that make up a move, and a stitch on the spot.
+/// Appends the records of a move in `count` jumps, and a stitch without a move.
 fn put_hops<W: RecordWriter>(
     writer: &W,
     out: &mut Bytes,
@@ -254,7 +255,7 @@ fn put_hops<W: RecordWriter>(
     Ok(())
 }
 
-/// Adds the jumps of the first `wanted` of the `count` equal parts of a move.
+/// Appends the jumps of the first `wanted` of the `count` equal parts of a move.
 fn put_jumps<W: RecordWriter>(
     writer: &W,
     out: &mut Bytes,

@@ -11,7 +11,7 @@ use crate::loaded::Loaded;
 use design_model::{Bytes, Command, Design, Memory};
 use std::alloc::Global;
 
-/// The ending of a boxed object.
+/// Returns the ending of a boxed format's file names.
 pub fn ext_of(format: &Box<dyn Format>) -> &str
     ensures value { result.now ≡ (meaning format.now).ending }
     ensures spelled { IsEnding result.now }
@@ -19,7 +19,7 @@ pub fn ext_of(format: &Box<dyn Format>) -> &str
     format.ext()
 }
 
-/// The limit of a boxed object.
+/// Returns the limit of a boxed format, in tenths of a millimetre.
 pub fn limit_of(format: &Box<dyn Format>) -> u32
     ensures value { result ≡ (meaning format.now).limit }
     ensures least { LEAST_LIMIT ≤ result }
@@ -28,14 +28,14 @@ pub fn limit_of(format: &Box<dyn Format>) -> u32
     format.limit()
 }
 
-/// What a file's bytes read as by a boxed object.
+/// Reads a file's bytes by a boxed format.
 pub fn decode_by(alloc: Global, format: &Box<dyn Format>, bytes: &[u8]) -> Result<Loaded, ReadFault>
     ensures { Reads ((meaning format.now).reads bytes.now) result }
 {
     format.decode(alloc, bytes)
 }
 
-/// The file of a design by a boxed object.
+/// Writes a design as a file by a boxed format.
 pub fn encode_by(
     alloc: Global,
     format: &Box<dyn Format>,
@@ -50,7 +50,7 @@ pub fn encode_by(
     format.encode(alloc, design)
 }
 
-/// Forgets all that was fed to a boxed object.
+/// Discards all that was fed to a boxed format.
 pub fn begin_by(format: &mut Box<dyn Format>)
     ensures same { meaning format.new ≡ meaning format.old }
     ensures fresh { IsFresh (meaning format.old).reads (meaning format.old).shown (feeding format.new) }
@@ -58,7 +58,7 @@ pub fn begin_by(format: &mut Box<dyn Format>)
     format.begin();
 }
 
-/// Feeds a boxed object.
+/// Feeds the next chunk of a file to a boxed format.
 pub fn feed_by(format: &mut Box<dyn Format>, piece: &[u8]) -> Result<(), Memory>
     requires { (feeding format.old).taken + length piece.now ≤ MAX_FED }
     ensures same { meaning format.new ≡ meaning format.old }
@@ -67,7 +67,7 @@ pub fn feed_by(format: &mut Box<dyn Format>, piece: &[u8]) -> Result<(), Memory>
     format.feed(piece)
 }
 
-/// What the file that was fed to a boxed object reads as.
+/// Returns the result of reading the file that was fed to a boxed format.
 pub fn finish_by(format: &mut Box<dyn Format>) -> Result<Loaded, ReadFault>
     ensures same { meaning format.new ≡ meaning format.old }
     ensures told { Finishes (meaning format.old).reads (meaning format.old).shown (feeding format.old) result
@@ -76,14 +76,14 @@ pub fn finish_by(format: &mut Box<dyn Format>) -> Result<Loaded, ReadFault>
     format.finish()
 }
 
-/// The number of bytes fed to a boxed object.
+/// Returns the number of bytes fed to a boxed format.
 pub fn taken_by(format: &Box<dyn Format>) -> u64
     ensures { result ≡ (feeding format.now).taken }
 {
     format.taken()
 }
 
-/// The commands that a boxed object read so far.
+/// Returns the commands that a boxed format has read.
 pub fn so_far_by(format: &Box<dyn Format>) -> &[Command]
     requires { (feeding format.now).spoiled ≡ false }
     ensures { result.now ≡ (feeding format.now).given [] }

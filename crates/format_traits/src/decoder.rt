@@ -2,41 +2,42 @@ use crate::fault::ReadFault;
 use crate::loaded::Loaded;
 use design_model::{Command, Memory};
 
-/// A decoder never leaves as many bytes as this for later.
+/// A decoder leaves fewer pending bytes than this.
 pub const MOST_PENDING: usize = 528;
 
-/// A reader that takes what it can of the bytes that are there, and goes on where it stands when
-/// more of them come.
+/// A decoder of a file that arrives in chunks: it takes the complete records of the bytes, and continues from
+/// its state when more bytes come.
 pub trait Decoder {
     ghost use Rattle.std.specs.Prelude.{ℕ, List, [], ◌≡◌, ◌+◌, ◌<◌, ◌^◌, IfOk, length};
     ghost use Rattle.format_traits.specs.Laws.{Reads};
     ghost use Rattle.format_traits.specs.Streams.{IsSameStream, IsSettled, SoFar, Stream, Takes};
 
-    /// What a whole file comes to, from the offset of its first byte on.
+    /// The state at the start of a file, as a function of the offset of the file's first byte.
     ghost fresh: { Stream };
 
-    /// What the bytes to come are.
+    /// The current state: the file's result and commands as functions of the remaining bytes.
     ghost stream: { Self → Stream };
 
-    /// What it has so far.
+    /// The result and the commands if the file ends here.
     ghost so_far: { Self → SoFar };
 
-    /// Forgets all, and stands before a file whose first byte has that offset.
+    /// Discards all that was read. The first byte of the next file has the offset `at`.
     fn begin(&mut self, at: u64)
         ensures same { IsSameStream (stream self.new) fresh }
         ensures settled { IsSettled (stream self.new) (so_far self.new) at [] };
 
-    /// Takes so many of the bytes at that offset, which begin with those that it left before.
+    /// Takes bytes at an offset, and returns how many it took. The bytes begin with those that the last call
+    /// left.
     fn take(&mut self, at: u64, bytes: &[u8]) -> Result<usize, Memory>
         requires { at + length bytes.now < 2 ^ 64 }
         ensures { IfOk result (λ size.
             Takes (stream self.old) (stream self.new) (so_far self.new) at bytes.now size) };
 
-    /// What the file reads as if no more bytes come. Then it has to begin anew.
+    /// Returns the result of the file, which ends here. The decoder must begin again after this call.
     fn finish(&mut self) -> Result<Loaded, ReadFault>
         ensures { Reads (so_far self.old).answer result };
 
-    /// The commands so far.
+    /// Returns the commands read so far.
     fn so_far(&self) -> &[Command]
         ensures { result.now ≡ (so_far self.now).commands };
 }

@@ -1,7 +1,6 @@
 use design_model::Point;
 
-/// What one record of a file asks for. A move goes from the place where the records before it left
-/// the hoop.
+/// What one record of a file stands for. A move begins at the hoop's position after the records before.
 #[derive(Clone, Copy, Debug, PartialEq, Eq)]
 pub enum Event {
     /// The needle goes down after the move.
@@ -14,6 +13,6 @@ pub enum Event {
     Trim,
     /// A colour stop.
     Stop,
-    /// A colour stop, and then a move of the hoop where it isn't (0, 0).
+    /// A colour stop, and a move of the hoop unless it is (0, 0).
     StopBy(Point),
 }

@@ -12,9 +12,9 @@ use crate::keeping::{keep, keep_both};
 use crate::placing::moved;
 use design_model::{Command, Design, Point};
 
-// The event is looked at once, in three arms: a stitch and a jump go the same way, each in a copy of its own, and all
-// else goes apart. Were it looked at twice, or in more arms, a jump through a table would be taken at each record.
-/// Adds the commands of the record at that offset, and gives the place after it.
+// One match with three arms. A stitch and a jump take the same steps, each in a copy of its own, and all
+// other events go to another function. A second match, or more arms, would cost a table jump at each record.
+/// Adds the commands of the record at an offset to a design, and returns the hoop's position after it.
 #[inline(always)]
 pub(crate) fn keep_event(
     design: &mut Design,
@@ -50,15 +50,15 @@ fn keep_here(design: &mut Design, at: u64, place: Point, event: Event) -> Result
     Ok(there)
 }
 
-/// An event of the record at that offset.
+/// An event, and the offset of its record.
 #[derive(Clone, Copy, Debug, PartialEq, Eq)]
 struct EventAt {
     at: u64,
     event: Event,
 }
 
-/// Adds the commands of an event that trims or stops, from a copy of it, and gives the place after it: lent itself, the
-/// event would live in memory all along the loop, and the place of the answer would be set up there.
+/// Adds the commands of an event that trims or stops, from a copy of it, and returns the position after it. A
+/// reference to the event would keep it in memory for the entire loop, and the result as well.
 #[inline(always)]
 fn keep_cut_copied(
     design: &mut Design,
@@ -80,7 +80,7 @@ fn keep_cut_copied(
     Ok(there)
 }
 
-/// The place after an event.
+/// Returns the position after an event.
 fn place_after(place: Point, event: Event) -> Point
     requires place { IsTrue (is_within JUMP_LIMIT place) }
     requires small { IsTrue (list_all (λ move. is_within GREATEST_STEP move) (moves_in event)) }
@@ -92,7 +92,7 @@ fn place_after(place: Point, event: Event) -> Point
     }
 }
 
-/// The same for an event that trims or stops.
+/// Returns the position after an event that trims or stops.
 #[cold]
 #[inline(never)]
 fn place_after_cut(place: Point, event: Event) -> Point
@@ -107,7 +107,7 @@ fn place_after_cut(place: Point, event: Event) -> Point
     }
 }
 
-/// Adds the commands of an event after which the hoop is there.
+/// Adds the commands of an event after which the hoop is at `there`.
 #[inline(always)]
 fn keep_commands(design: &mut Design, at: u64, event: Event, there: Point) -> Result<(), ReadFault>
     ensures value { Keeps at (commands_at event there) design.old result design.new }
@@ -120,7 +120,8 @@ fn keep_commands(design: &mut Design, at: u64, event: Event, there: Point) -> Re
     }
 }
 
-/// The same for an event that trims or stops. These are few, and so apart from the readers' loops.
+/// Adds the commands of an event that trims or stops. Such events are rare, and therefore outside the
+/// readers' loops.
 #[cold]
 #[inline(never)]
 fn keep_cut(design: &mut Design, at: u64, event: Event, there: Point) -> Result<(), ReadFault>

@@ -3,34 +3,33 @@ ghost use Rattle.std.specs.Prelude.{◌≡◌};
 use design_model::Memory;
 use thiserror::Error;
 
-/// Why a file was not read. `at` is a byte's offset in the file, counted from 0.
+/// Why a file was not read. `at` is the offset of a byte in the file, counted from 0.
 #[derive(Clone, Copy, Debug, PartialEq, Eq, Error)]
 pub enum ReadFault {
-    /// The file ends, at its length, before all that its format asks for.
+    /// The file ends before all that its format requires; `at` is its length.
     #[error("byte {at}: file too short")]
     Short { at: u64 },
-    /// The file does not begin as its format does.
+    /// The file does not begin with the signature of its format.
     #[error("byte {at}: signature not known")]
     Signature { at: u64 },
     /// A sequin.
     #[error("byte {at}: sequin")]
     Sequin { at: u64 },
-    /// A control code that the format does not have.
+    /// A control code that the format does not define.
     #[error("byte {at}: control code not known")]
     Control { at: u64 },
-    /// The point of a command leaves its range.
+    /// The point of a command is out of range.
     #[error("byte {at}: point out of range")]
     Range { at: u64 },
     /// More commands than a design may have.
     #[error("byte {at}: more than 1000000 commands")]
     TooMany { at: u64 },
-    /// Memory was wanted and not found.
+    /// Out of memory.
     #[error("out of memory")]
     Memory,
 }
 
-/// Why a design was not written. `number` is that of the command whose act was refused, counted
-/// from 1.
+/// Why a design was not written. `number` is the number of the refused act's command, counted from 1.
 #[derive(Clone, Copy, Debug, PartialEq, Eq, Error)]
 pub enum WriteFault {
     /// A stitch beyond the format's limit.
@@ -45,7 +44,7 @@ pub enum WriteFault {
     /// The file could read as more commands than a design may have.
     #[error("command {number}: more than 1000000 commands written")]
     TooLong { number: u32 },
-    /// Memory was wanted and not found.
+    /// Out of memory.
     #[error("out of memory")]
     Memory,
 }

@@ -8,28 +8,28 @@ use crate::passing::pass_on;
 use arrayvec::ArrayVec;
 use design_model::{Command, Memory};
 
-/// The most bytes that may be fed of one file.
+/// The largest number of bytes that may be fed of one file.
 pub const MAX_FED: u64 = 67_108_864;
 
-/// A decoder that is fed in pieces, with the bytes that it left of them for later.
+/// A decoder that is fed a file in chunks, and the pending bytes, which the decoder has not taken yet.
 #[derive(Drop)]
 pub struct Feed<D: Decoder + Drop> {
     pub decoder: D,
-    /// The offset of the first byte in its file.
+    /// The offset of the first byte that is fed.
     pub start: u32,
-    /// The bytes fed.
+    /// The number of bytes fed.
     pub taken: u64,
     pub pending: ArrayVec<u8, MOST_PENDING>,
-    /// Memory was wanted.
+    /// Whether memory ran out.
     pub spoiled: bool,
     ghost fits: { length pending.items ≤ taken },
 }
 
-/// What is fed in pieces.
+/// An object that is fed a file in chunks.
 pub trait Fed {
     ghost use Rattle.format_traits.specs.Feeding.{Feeding};
 
-    /// What was fed of a file, and what comes of it with any bytes more.
+    /// The bytes fed, and the file's result and commands as functions of the remaining bytes.
     ghost feeding: { Self → Feeding };
 }
 
@@ -45,7 +45,7 @@ impl<D: Decoder + Drop> Feed<D> {
     ghost use Rattle.format_traits.specs.declared.feed.TheConstants.{MAX_FED as most_fed};
     ghost use Rattle.format_traits.specs.Feeding.{Feeds, Finishes, IsFresh};
 
-    /// A feed of a file whose first byte has offset 0. It takes no memory.
+    /// Returns a feed of a file whose first byte has the offset 0. Allocates nothing.
     pub fn new(decoder: D) -> Self
         ensures { IsFresh (D.fresh.rest 0) (D.fresh.given 0)
             (⟦<Feed<D> as Fed>⟧.feeding result) }
@@ -61,7 +61,7 @@ impl<D: Decoder + Drop> Feed<D> {
         }
     }
 
-    /// Forgets all that was fed. The first byte of the next file has that offset.
+    /// Discards all that was fed. The first byte of the next file has the offset `start`.
     pub fn begin(&mut self, start: u32)
         ensures { IsFresh (D.fresh.rest start) (D.fresh.given start)
             (⟦<Feed<D> as Fed>⟧.feeding self.new) }
@@ -73,7 +73,8 @@ impl<D: Decoder + Drop> Feed<D> {
         self.spoiled = false;
     }
 
-    /// Takes the next bytes of the file.
+    /// Takes the next chunk of the file. Out of memory, it is spoiled: it counts the bytes, and reports out
+    /// of memory until it begins again.
     pub fn feed(&mut self, piece: &[u8]) -> Result<(), Memory>
         requires { self.old.taken + length piece.now ≤ most_fed }
         ensures { Feeds
@@ -98,7 +99,7 @@ impl<D: Decoder + Drop> Feed<D> {
         }
     }
 
-    /// What the file that was fed reads as. Then the next one may be fed, from offset 0 on.
+    /// Returns the result of the file that was fed. The next file may be fed then, from the offset 0 on.
     pub fn finish(&mut self) -> Result<Loaded, ReadFault>
         ensures { Finishes (D.fresh.rest 0) (D.fresh.given 0)
             (⟦<Feed<D> as Fed>⟧.feeding self.old) result
@@ -119,7 +120,7 @@ impl<D: Decoder + Drop> Feed<D> {
         }
     }
 
-    /// The commands so far.
+    /// Returns the commands read so far.
     pub fn so_far(&self) -> &[Command]
         ensures { result.now ≡ (⟦<Feed<D> as Fed>⟧.feeding self.now).given [] }
     {

@@ -2,7 +2,7 @@ ghost use Rattle.std.specs.Prelude.{◌≡◌, ◌≤◌, ◌++◌, length, drop
 
 use design_model::Bytes;
 
-/// The bytes with others in the place of the first. This takes no memory.
+/// Returns the bytes with `front` written over their beginning. Allocates nothing.
 pub fn with_front(bytes: Bytes, front: &[u8]) -> Bytes
     requires { length front.now ≤ length bytes }
     ensures { result ≡ front.now ++ drop (length front.now) bytes }

@@ -5,8 +5,8 @@ ghost use Rattle.format_traits.specs.Keeping.{Keeps, SameButCommands};
 use crate::fault::ReadFault;
 use design_model::{Command, Design, ModelFault};
 
-/// Adds the command of the record at that offset. `Range` is tested first. A refusal leaves the design
-/// as it was.
+/// Adds the command of the record at an offset to a design. `Range` is tested first. After an error the
+/// design is unchanged.
 pub fn keep(design: &mut Design, at: u64, command: Command) -> Result<(), ReadFault>
     ensures value { Keeps at (command ∷ []) design.old result design.new }
     ensures err { OnErr result (design.new ≡ design.old) }
@@ -20,8 +20,7 @@ pub fn keep(design: &mut Design, at: u64, command: Command) -> Result<(), ReadFa
     }
 }
 
-/// Adds the two commands of the record at that offset, in order. Where the second is refused, the first
-/// stays.
+/// Adds the two commands of the record at an offset, in order. If the second is refused, the first stays.
 #[tactic(auto, using(crate::proofs::KeepingLemmas::same_on))]
 pub fn keep_both(
     design: &mut Design,

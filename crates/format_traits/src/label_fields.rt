@@ -6,7 +6,7 @@ ghost use Rattle.format_traits.specs.LabelFields.{label_field, label_in, shown a
 use arrayvec::ArrayVec;
 use design_model::{Bytes, Design, MAX_LABEL, Memory};
 
-/// Adds so many spaces.
+/// Appends `count` spaces.
 pub fn put_spaces(out: &mut Bytes, count: usize) -> Result<(), Memory>
     ensures { OnOk result (out.new ≡ out.old ++ replicate count 32) }
 {
@@ -16,7 +16,7 @@ pub fn put_spaces(out: &mut Bytes, count: usize) -> Result<(), Memory>
     Ok(())
 }
 
-/// Adds a label, filled with spaces to the places of its field.
+/// Appends a label, padded with spaces to the length of its field.
 pub fn put_label(out: &mut Bytes, label: &[u8]) -> Result<(), Memory>
     requires { length label.now ≤ MAX_LABEL }
     ensures { OnOk result (out.new ≡ out.old ++ label_field label.now) }
@@ -26,8 +26,8 @@ pub fn put_label(out: &mut Bytes, label: &[u8]) -> Result<(), Memory>
     Ok(())
 }
 
-/// Sets a design's label to what a label field holds. A byte that no label may hold becomes `?`, and
-/// then the spaces at the end are dropped.
+/// Sets a design's label to that of a label field. A byte that no label may contain becomes `?`; spaces at
+/// the end are dropped then.
 pub fn read_label(design: &mut Design, field: &[u8])
     requires { length field.now ≤ MAX_LABEL }
     ensures { design.new ≡ with_label design.old (label_in field.now) }
@@ -49,7 +49,7 @@ fn shown(byte: u8) -> u8
     }
 }
 
-/// A text without the spaces at its end.
+/// Returns a text without the spaces at its end.
 fn trimmed(text: &[u8]) -> &[u8]
     ensures { result.now ≡ trimmed_text text.now }
 {

@@ -1,5 +1,5 @@
-//! The trait of stitch formats: what a format object reads and writes, and the laws that each of
-//! them keeps; and what all of them do alike with records and acts.
+//! The trait of stitch formats: what a format object reads and writes, and the laws that each of them keeps.
+//! The parts of reading and writing that are the same in all formats are here too.
 #![tactic(auto)]
 
 mod act_writing;

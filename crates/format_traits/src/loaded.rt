@@ -1,6 +1,6 @@
 use design_model::Design;
 
-/// A design that was read, and whether its file had an end.
+/// A design that was read, and whether its file has an end.
 #[derive(Debug, Drop)]
 pub struct Loaded {
     pub design: Design,

@@ -5,8 +5,8 @@ ghost use Rattle.format_traits.specs.Endings.{found_from, found_in, ending_in};
 use crate::boxed::ext_of;
 use crate::format_object::Format;
 
-/// The index of the first format whose ending is the part of `name` after its last `.`, ASCII
-/// capitals being read as small letters.
+/// Returns the index of the first format whose ending is the part of `name` after its last `.`, with ASCII
+/// capitals read as small letters.
 pub fn find(formats: &[Box<dyn Format>], name: &str) -> Option<usize>
     ensures value { result ≡ found_in (map (λ f. meaning f) formats.now) name.now }
     ensures there { IfSome result (λ place. place < length formats.now) }
@@ -30,7 +30,7 @@ fn find_ending(formats: &[Box<dyn Format>], ending: &[u8]) -> Option<usize>
     None
 }
 
-/// The part of a name after its last `.`.
+/// Returns the part of a name after its last `.`.
 fn ending_of(name: &[u8]) -> Option<&[u8]>
     ensures { option_map (λ ending. ending.now) result ≡ ending_in name.now }
 {
@@ -45,7 +45,7 @@ fn ending_of(name: &[u8]) -> Option<&[u8]>
     ending
 }
 
-/// Says whether a text in small letters is `ending`.
+/// Returns whether a text, in small letters, equals `ending`.
 fn is_spelled(text: &[u8], ending: &[u8]) -> bool
     ensures { result ≡ bytes_eq ending.now (str_to_ascii_lowercase text.now) }
 {

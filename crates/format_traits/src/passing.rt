@@ -9,8 +9,8 @@ use crate::loaded::Loaded;
 use arrayvec::ArrayVec;
 use design_model::Memory;
 
-/// Passes on to a decoder what is pending at that offset and a piece behind it, as far as it takes them; what it
-/// leaves is pending then.
+/// Passes the pending bytes at an offset and a chunk after them on to a decoder. The bytes that the decoder
+/// leaves are pending then.
 pub(crate) fn pass_on<D: Decoder>(
     decoder: &mut D,
     pending: &mut ArrayVec<u8, MOST_PENDING>,
@@ -33,7 +33,7 @@ pub(crate) fn pass_on<D: Decoder>(
     }
 }
 
-/// What all bytes from that offset of a file on read as.
+/// Reads all bytes of a file from an offset on.
 pub fn decode_whole<D: Decoder + Drop>(
     decoder: D,
     start: u64,
@@ -49,7 +49,8 @@ pub fn decode_whole<D: Decoder + Drop>(
     decoder.finish()
 }
 
-/// Drops of what is pending at that offset what the decoder takes, so many bytes.
+/// Passes the pending bytes at an offset on to a decoder, drops those that it takes, and returns their
+/// number.
 fn take_pending<D: Decoder>(
     decoder: &mut D,
     pending: &mut ArrayVec<u8, MOST_PENDING>,
@@ -65,7 +66,7 @@ fn take_pending<D: Decoder>(
     Ok(size)
 }
 
-/// Drops the first bytes, so many of them.
+/// Drops the first `size` bytes.
 fn drop_first(bytes: &mut ArrayVec<u8, MOST_PENDING>, size: usize)
     requires { size ≤ length bytes.old.items }
     ensures { bytes.new.items ≡ drop size bytes.old.items }
@@ -76,7 +77,7 @@ fn drop_first(bytes: &mut ArrayVec<u8, MOST_PENDING>, size: usize)
     *bytes = left;
 }
 
-/// Adds as many bytes as there is room for, and gives those behind them.
+/// Appends as many bytes of a chunk as there is room for, and returns the rest of the chunk.
 fn fill<'a>(bytes: &mut ArrayVec<u8, MOST_PENDING>, piece: &'a [u8]) -> &'a [u8]
     requires room { length bytes.old.items < MOST_PENDING }
     requires some { 0 < length piece.now }

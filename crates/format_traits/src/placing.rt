@@ -11,10 +11,10 @@ use design_model::Point;
 /// The greatest move between two needles on each axis, in tenths of a millimetre.
 pub const GREATEST_MOVE: u32 = 60_000;
 
-/// The most hops of a move, at the least limit that a format may have.
+/// The most hops of a move, at the least limit of a format.
 pub const MOST_HOPS: u32 = 496;
 
-/// The move from one needle to another.
+/// Returns the move from one needle to another.
 pub fn move_between(from: Point, to: Point) -> Point
     requires from { IsTrue (is_within NEEDLE_LIMIT from) }
     requires to { IsTrue (is_within NEEDLE_LIMIT to) }
@@ -36,7 +36,7 @@ fn difference(from: i32, to: i32) -> i32
     to - from
 }
 
-/// The place after a move.
+/// Returns the position after a move.
 pub fn moved(place: Point, step: Point) -> Point
     requires place { IsTrue (is_within JUMP_LIMIT place) }
     requires step { size step ≤ GREATEST_MOVE }
@@ -56,14 +56,14 @@ fn sum(place: i32, step: i32) -> i32
     place + step
 }
 
-/// The size of a move: that of its larger axis.
+/// Returns the size of a move: the greater of its sizes on the two axes.
 pub fn size_of(step: Point) -> u32
     ensures { result ≡ size step }
 {
     step.x.unsigned_abs().max(step.y.unsigned_abs())
 }
 
-/// The least number of moves within the limit that a move takes.
+/// Returns the least number of moves within the limit that make up a move.
 pub fn hops(limit: u32, step: Point) -> u32
     requires limit { 0 < limit }
     requires most { limit ≤ GREATEST_LIMIT }
@@ -73,7 +73,7 @@ pub fn hops(limit: u32, step: Point) -> u32
     (size_of(step) + (limit - 1)) / limit
 }
 
-/// The move of one of the `count` equal parts of a move, after the first `done` of them.
+/// Returns the move of one of the `count` equal parts of a move, after the first `done` of them.
 pub fn part_move(step: Point, count: u32, done: u32) -> Point
     requires size { size step ≤ GREATEST_MOVE }
     requires there { done < count }
@@ -108,8 +108,7 @@ fn less(end: i32, start: i32) -> i32
     end - start
 }
 
-/// The end of the first `done` of the `count` equal parts of a move, rounded towards the lesser
-/// number.
+/// Returns the end of the first `done` of the `count` equal parts of a move on one axis, rounded down.
 fn part(step: i32, count: u32, done: u32) -> i32
     requires size { unsigned_abs step ≤ GREATEST_MOVE }
     requires there { done ≤ count }
@@ -121,7 +120,7 @@ fn part(step: i32, count: u32, done: u32) -> i32
     floor_part(step, count, done)
 }
 
-// Most moves are of one part, which takes no division.
+// Most moves have one part, which needs no division.
 #[tactic(auto, using(crate::proofs::rereading::Hops::axis_all, crate::proofs::rereading::Hops::axis_none))]
 fn floor_part(step: i32, count: u32, done: u32) -> i32
     requires size { unsigned_abs step ≤ GREATEST_MOVE }

@@ -30,7 +30,7 @@ impl<R: RecordReader + Drop> RecordDecoder<R> {
     ghost use Rattle.format_traits.specs.RecordStreams.{so_far_at, stream_at};
     ghost use Rattle.format_traits.specs.Streams.{ComesOn, IsSettled, Takes};
 
-    /// A decoder that has to begin.
+    /// Returns a decoder, which must begin before it takes bytes.
     pub fn new(alloc: Global, reader: R) -> Self {
         RecordDecoder {
             alloc,
@@ -41,7 +41,8 @@ impl<R: RecordReader + Drop> RecordDecoder<R> {
         }
     }
 
-    /// Stands behind that header, before the first record. A file that stops here has an end, or has none.
+    /// Reads a header, and continues before the first record. Returns whether a file that ends here has an
+    /// end.
     fn enter(&mut self, header: &[u8]) -> bool
         requires { length header.now ≡ R.layout.header }
         ensures on { (at : ℕ) → ComesOn (stream_by R.layout)
@@ -57,7 +58,7 @@ impl<R: RecordReader + Drop> RecordDecoder<R> {
         self.reader.restart()
     }
 
-    /// Goes on behind the header, once it is whole.
+    /// Takes the header once it is complete, and the complete records after it.
     fn take_header(&mut self, at: u64, bytes: &[u8]) -> Result<usize, Memory>
         requires { at + length bytes.now < 2 ^ 64 }
         ensures { IfOk result (λ size. Takes (stream_by R.layout)
@@ -75,7 +76,7 @@ impl<R: RecordReader + Drop> RecordDecoder<R> {
         Ok(length + size)
     }
 
-    /// Takes the records that are whole.
+    /// Takes the complete records.
     fn take_records(&mut self, at: u64, bytes: &[u8]) -> Result<usize, Memory>
         requires { at + length bytes.now < 2 ^ 64 }
         ensures { IfOk result (λ size. Takes

@@ -11,7 +11,7 @@ use crate::record_reader::{NextRecord, RecordReader};
 use crate::stage::Stage;
 use design_model::{Design, Memory, Point};
 
-/// How far a reader of records came: through so many bytes, to a place of the hoop.
+/// How far a reader of records read: the number of bytes, the hoop's position, and the stage.
 #[derive(Clone, Copy, Debug, PartialEq, Eq)]
 pub struct Reached {
     pub size: usize,
@@ -19,7 +19,7 @@ pub struct Reached {
     pub stage: Stage,
 }
 
-/// Adds the commands of the records in the bytes at an offset, as far as they are whole, from a place on.
+/// Adds the commands of the complete records in the bytes at an offset, from a position of the hoop on.
 pub fn read_records<R: RecordReader>(
     reader: &mut R,
     design: &mut Design,
@@ -62,7 +62,7 @@ pub fn read_records<R: RecordReader>(
     }
 }
 
-/// Nothing of the bytes is left where reading is over.
+/// Returns the end of reading: all bytes count as read.
 fn stopped(bytes: &[u8], place: Point, stage: Stage) -> Reached
     ensures { result ≡ record { size = length bytes.now; place = place; stage = stage } }
 {

@@ -2,28 +2,28 @@ use crate::event::Event;
 use crate::fault::ReadFault;
 use design_model::Design;
 
-/// The greatest move of a record on each axis that a format can read, in tenths of a millimetre.
+/// The greatest move of a record on each axis that a format may read, in tenths of a millimetre.
 pub const GREATEST_STEP: u32 = 2048;
 
-/// All records of a format have fewer bytes than this.
+/// Each record of a format has fewer bytes than this.
 pub const MOST_RECORD: usize = 5;
 
-/// What stands first in the bytes that are left of a file.
+/// The next record in the remaining bytes of a file.
 #[derive(Clone, Copy, Debug, PartialEq, Eq)]
 pub enum NextRecord {
-    /// The file has its end here.
+    /// The end of the file's records.
     End,
-    /// Too few bytes for a record. A file that stops with them has an end, or has none.
+    /// Too few bytes for a record; `ended` is true where a file that ends here is complete.
     Wants { ended: bool },
-    /// What the file is refused for.
+    /// The refusal of the file.
     Refused(ReadFault),
-    /// A record of so many bytes.
-    // The event stands first: a number of another variant would else lie across its move, and a cut
-    // would pass through memory.
+    /// A record of `size` bytes.
+    // The event is the first field: a number of another variant would overlap its move otherwise, and the
+    // answer would go through memory.
     Record { event: Event, size: usize },
 }
 
-/// The records of a format, cut from the bytes of a file in order, and the header before them.
+/// A reader of a format's header and of its records, one at a time.
 pub trait RecordReader {
     ghost use Rattle.std.specs.Prelude.{ℕ, List, [], ◌≡◌, ◌++◌, ◌≤◌, length};
     ghost use Rattle.design_model.specs.Designs.{empty_design};
@@ -32,18 +32,18 @@ pub trait RecordReader {
     ghost use Rattle.format_traits.specs.Records.{Records, over};
     ghost use Rattle.format_traits.specs.Cutting.{Cuts};
 
-    /// The header, and the records behind it.
+    /// The layout of the format: its header and the records after it.
     ghost layout: { Layout };
 
-    /// The records of the bytes from an offset on.
+    /// The records of the remaining bytes, from an offset on, in the reader's current state.
     ghost records: { Self → ℕ → List ℕ → Records };
 
-    /// The bytes of the header.
+    /// Returns the number of bytes of the header.
     fn header_length(&self) -> usize
         ensures value { result ≡ layout.header }
         ensures fits { result ≤ MOST_PENDING };
 
-    /// Takes the label and the threads that a header tells into a design that is empty.
+    /// Sets the label and the threads of an empty design to those of a header.
     fn read_header(&self, design: &mut Design, header: &[u8])
         requires length { length header.now ≡ layout.header }
         requires empty { design.old ≡ empty_design }
@@ -53,12 +53,12 @@ pub trait RecordReader {
           commands = [];
         } };
 
-    /// Begins anew, and says whether a file without any record has an end.
+    /// Begins again before the first record, and returns whether a file without records has an end.
     fn restart(&mut self) -> bool
         ensures same { (at : ℕ) (bytes : List ℕ) → records self.new at bytes ≡ layout.records at bytes }
         ensures none { (at : ℕ) → layout.records at [] ≡ over result };
 
-    /// Cuts off the record at that offset, where the bytes begin.
+    /// Decodes the record at the beginning of the bytes, which are at the offset `at`.
     fn next(&mut self, at: u64, bytes: &[u8]) -> NextRecord
         ensures { Cuts (records self.old) (records self.new) at bytes.now result };
 }

@@ -1,7 +1,7 @@
 use crate::standing::Reach;
 use design_model::{Bytes, Memory, Point};
 
-/// The records of a format, added one by one to the bytes of a file.
+/// A writer of a format's records, which appends them to the bytes of a file.
 pub trait RecordWriter {
     ghost use Rattle.std.specs.Prelude.{◌≡◌, ◌≤◌, ◌++◌, IsTrue, OnOk};
     ghost use Rattle.std.specs.List.{concat};
@@ -10,33 +10,33 @@ pub trait RecordWriter {
     ghost use Rattle.format_traits.specs.declared.standing.Reach.{Reach as ReachValue};
     ghost use Rattle.format_traits.specs.Spellings.{Spelling};
 
-    /// How records are spelled.
+    /// The bytes of the format's records.
     ghost spelling: { Self → Spelling };
 
-    /// What can be written.
+    /// The limits of what the format can write.
     ghost reach: { Self → ReachValue };
 
-    /// What can be written.
+    /// Returns the limits of what the format can write.
     fn reach(&self) -> Reach
         ensures value { result ≡ reach self.now }
         ensures least { LEAST_LIMIT ≤ result.limit }
         ensures most { result.limit ≤ GREATEST_LIMIT };
 
-    /// Adds a stitch by a move.
+    /// Appends the record of a stitch by a move.
     fn put_stitch(&self, out: &mut Bytes, step: Point) -> Result<(), Memory>
         requires { IsTrue (is_within (reach self.now).limit step) }
         ensures { OnOk result (out.new ≡ out.old ++ (spelling self.now).stitch step) };
 
-    /// Adds a jump by a move.
+    /// Appends the record of a jump by a move.
     fn put_jump(&self, out: &mut Bytes, step: Point) -> Result<(), Memory>
         requires { IsTrue (is_within (reach self.now).limit step) }
         ensures { OnOk result (out.new ≡ out.old ++ (spelling self.now).jump step) };
 
-    /// Adds the records of a trim.
+    /// Appends the records of a trim.
     fn put_trim(&self, out: &mut Bytes) -> Result<(), Memory>
         ensures { OnOk result (out.new ≡ out.old ++ concat (spelling self.now).trim) };
 
-    /// Adds a stop that comes after so many others.
+    /// Appends the record of a stop after `before` others.
     fn put_stop(&self, out: &mut Bytes, before: u32) -> Result<(), Memory>
         ensures { OnOk result (out.new ≡ out.old ++ (spelling self.now).stop before) };
 }

@@ -1,14 +1,14 @@
 use crate::fault::ReadFault;
 
-/// Where a reader of records stands in its file.
+/// The stage of a reader of records in its file.
 #[derive(Clone, Copy, Debug, PartialEq, Eq)]
 pub enum Stage {
-    /// Before the end of the header. The file has come up to that offset.
+    /// Before the end of the header; the number is the offset of the end of the bytes that were read.
     Header(u64),
-    /// Between records. A file that stops here has an end, or has none.
+    /// Between records; true where a file that ends here has an end.
     Records(bool),
-    /// Behind the end.
+    /// After the end.
     Over,
-    /// Behind the first refusal.
+    /// After the first refusal.
     Refused(ReadFault),
 }

@@ -14,19 +14,19 @@ use crate::format_object::{GREATEST_LIMIT, LEAST_LIMIT};
 use crate::placing::{GREATEST_MOVE, hops, move_between, size_of};
 use design_model::{Act, MAX_COMMANDS, NEEDLE_LIMIT, Point};
 
-/// What a format can write.
+/// The limits of what a format can write.
 #[derive(Clone, Copy, Debug, PartialEq, Eq)]
 pub struct Reach {
     /// The greatest move of a stitch on each axis, in tenths of a millimetre.
     pub limit: u32,
-    /// The most jumps of a float, where there is a most.
+    /// The most hops of a float, if there is a maximum.
     pub float_hops: Option<u32>,
-    /// The most stops, where there is a most.
+    /// The most stops, if there is a maximum.
     pub stops: Option<u32>,
 }
 
-/// How it stands between two acts: whether the thread is loose, where the last needle was, and the
-/// stops and the room of the acts so far.
+/// The encoder's state between two acts: whether the thread is loose, the position of the last needle, and
+/// the stops and the room of the acts so far.
 #[derive(Clone, Copy, Debug, PartialEq, Eq)]
 pub struct Standing {
     pub loose: bool,
@@ -36,7 +36,7 @@ pub struct Standing {
 }
 
 impl Standing {
-    /// Before the first act the thread is loose, and nothing is written.
+    /// Returns the state before the first act: the thread is loose, and nothing is written.
     pub fn new() -> Self
         ensures { result ≡ beginning }
     {
@@ -48,7 +48,7 @@ impl Standing {
         }
     }
 
-    /// How it stands after an act.
+    /// Returns the state after an act.
     pub fn after(&self, limit: u32, act: Act) -> Standing
         requires least { LEAST_LIMIT ≤ limit }
         requires most { limit ≤ GREATEST_LIMIT }
@@ -68,7 +68,8 @@ impl Standing {
 }
 
 impl Reach {
-    /// Why the format cannot write an act, if it can't. `number` is that of the act's command.
+    /// Returns the refusal of an act, if the format cannot write it. `number` is the number of the act's
+    /// command.
     #[inline(always)]
     pub fn refusal(&self, before: &Standing, number: u32, act: Act) -> Option<WriteFault>
         requires least { LEAST_LIMIT ≤ self.now.limit }
@@ -147,7 +148,7 @@ fn needle_refusal(
     None
 }
 
-/// Says whether a number is above the most that is allowed.
+/// Returns whether a number is above the maximum, if there is one.
 fn passes(most: Option<u32>, number: u32) -> bool
     ensures { result ≡ passes_most most number }
 {
@@ -167,7 +168,7 @@ fn stop_count(act: Act) -> u32
     }
 }
 
-/// The room of an act: the most commands that it may read as.
+/// Returns the room of an act: the most commands that the written act may read as.
 fn act_room(limit: u32, loose: bool, place: Point, act: Act) -> u32
     requires least { LEAST_LIMIT ≤ limit }
     requires most { limit ≤ GREATEST_LIMIT }

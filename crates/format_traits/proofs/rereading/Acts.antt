@@ -30,7 +30,7 @@ use Rattle.format_traits.proofs.rereading.Runs.{Spares, trims_in, trims_over, tr
 use Rattle.format_traits.proofs.rereading.Steps.{GoesOn, goes_end, goes_stitch, goes_stop}
 use Rattle.format_traits.proofs.rereading.Trims.{goes_trimmed}
 
--- how a reader stands between acts: behind a needle no jump came, behind others the run is over or long
+-- how a reader stands between acts: after a needle no jump came, after others the run is over or long
 abbrev pub Between : Option ℕ → Bool → ℕ → Bool → Type 0
 Between most true run jumped = IsPast most run
 Between most false run jumped = (run ≡ 0) × (jumped ≡ false)

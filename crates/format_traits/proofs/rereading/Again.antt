@@ -12,7 +12,7 @@ use Rattle.format_traits.specs.Rereading.{SpelledActsReadAgain}
 use Rattle.format_traits.proofs.rereading.Acts.{goes_acts, broken}
 use Rattle.format_traits.proofs.rereading.Rooms.{told, acts_in_range, plain_passes, few_stops, small_room}
 
--- the records of acts that are not refused tell them again
+-- the records of acts that are not refused decode to these acts
 pub spelled_acts_read_again : SpelledActsReadAgain
 spelled_acts_read_again read spelling reach taken b d limits passed at rest ends =
     let goes = goes_acts read spelling reach taken b rest ends (acts_of d) beginning at 0 0 false
@@ -27,7 +27,7 @@ of_written : (reach : Reach) (d : DesignValue) (file : List ℕ) (P : List ℕ �
 of_written reach d file P None is holds = holds is
 of_written reach d file P (Some f) is holds = tt
 
--- a format whose files read again and move within the limit keeps the laws
+-- a format whose files read back and move within the limit keeps the laws
 pub codecs_keep_laws : CodecsKeepLaws
 codecs_keep_laws m reach file codec d limits = record {
   again = subst (λ result. IfOk result (λ bytes. ReadsAgain m d bytes)) (sym (codec.writes d))

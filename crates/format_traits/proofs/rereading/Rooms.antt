@@ -65,7 +65,7 @@ plain_needle reach false false m number plain =
     refused_not (nat_lt reach.limit (size_of m)) (fault.StitchTooLong number)
     (le-ltb reach.limit (size_of m) (omega (arith, near.0, near.1)))
 
--- so many stops may be written
+-- n stops may be written
 abbrev pub Allows : Reach → ℕ → Type 0
 Allows reach most = (count : ℕ) → count ≤ most → passes reach.stops count ≡ false
 

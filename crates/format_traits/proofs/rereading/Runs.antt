@@ -1,4 +1,4 @@
--- How reading goes on over a run of jumps that make up a move, and a stitch behind them.
+-- How reading goes on over a run of jumps that make up a move, and a stitch after them.
 use Rattle.std.proofs.Common.{◌≡◌, ◌≢◌, ℕ, zero, suc, ◌+◌, ◌-◌, ◌<◌, ◌≤◌, Bool, true, false, not, ◌&&◌, IsTrue, List, [], ◌∷◌, ◌++◌, length, map, Option, Some, None, ◌==◌, if◌then◌else◌, refl, ap, sym, ◌∙◌, subst, arith}
 use Rattle.std.proofs.lemmas.Bool.{eqb-true, ne_eqb}
 use Rattle.std.proofs.lemmas.List.{append-nil, append_assoc}
@@ -19,17 +19,17 @@ use Rattle.format_traits.proofs.PointLemmas.{within_from, moved-none}
 use Rattle.format_traits.proofs.rereading.Parts.{Lies, part_within, part_all, part_none, part_in_range, moved-on}
 use Rattle.format_traits.proofs.rereading.Steps.{GoesOn, goes_stitch, goes_jump, goes_trimmed_jump}
 
--- how many of so many jump records, after a run of them, are taken for trims too
+-- the number of trims that n jump records are decoded as, after a run of jump records
 abbrev pub trims_in : Option ℕ → ℕ → ℕ → ℕ
 trims_in most run zero = 0
 trims_in most run (suc more) = (if is_most most run then 1 else 0) + trims_in most (run + 1) more
 
--- a run of so many jump records holds none that is taken for a trim
+-- no jump record of a run of n is decoded as a trim
 abbrev pub Spares : Option ℕ → ℕ → Type 0
 Spares None run = Unit {0}
 Spares (Some most) run = run ≤ most
 
--- whether a jump came after so many more
+-- whether a jump came after n more
 abbrev pub jumped_after : Bool → ℕ → Bool
 jumped_after jumped zero = jumped
 jumped_after jumped (suc more) = true
@@ -174,7 +174,7 @@ goes_stitched read spelling reach taken b some at count run place m there step n
     (read 0 (at' + length (spelling.stitch step)) rest) loose true acts near to here (omega (arith, few, counted))
     (on (at' + length (spelling.stitch step)) (count' + 1) (omega (arith, counted))))))))
 
--- jumps that make up a move, and a stitch on the spot
+-- jumps that make up a move, and a stitch without a move
 pub goes_hops : (read : ℕ → ℕ → List ℕ → Records) (spelling : Spelling) (reach : Reach) (taken : Taken)
     (b : RereadsSpelling read spelling reach taken) (at count run : ℕ) (place m there : Point) (n : ℕ) (rest : List ℕ)
     (loose jumped : Bool) (acts : List Act) → Lies reach.limit place m n → moved place m ≡ there

@@ -142,7 +142,7 @@ goes_trim limit at count place rest jumped acts few goes = record {
   within = event_within limit at count place event.Trim rest refl (omega (arith, few)) refl goes.within;
 }
 
--- a stop on the spot
+-- a stop without a move
 pub goes_stop : (limit at count : ℕ) (place : Point) (e : Event) (rest : Records) (loose jumped : Bool) (acts : List Act)
     → IsTrue (is_stop e) → count < MAX_COMMANDS → GoesOn limit (count + 1) place rest true false acts
     → GoesOn limit count place (next at e rest) loose jumped (act.Stop ∷ acts)

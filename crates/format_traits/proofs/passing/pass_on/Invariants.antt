@@ -2,7 +2,7 @@ use Rattle.std.proofs.Common.{◌≡◌, ◌+◌, ◌≤◌, ◌++◌, length}
 use Rattle.format_traits.specs.Streams.{ComesOn}
 use Rattle.format_traits.proofs.passing.pass_on.Given as goal
 
--- what is pending and what is left of the piece come to what all of it came to
+-- the pending bytes and the rest of the chunk have the same result as all bytes
 abbrev pub invariant-loop-size : goal.invariant-loop-size
 invariant-loop-size g l = record {
   sum : (l.at + length l.pending.items) + length l.rest ≡ (l.start + length l.fn.pending.items) + length l.piece;

@@ -6,7 +6,7 @@ use Rattle.format_traits.specs.RecordStreams.{stream_at}
 use Rattle.format_traits.specs.Streams.{ComesOn}
 use Rattle.format_traits.proofs.record_loop.read_records.Given as goal
 
--- the design so far and the bytes that are left come to what the bytes from the start on come to
+-- the design so far and the remaining bytes have the same result as the bytes from the start on
 abbrev pub invariant-loop-event : goal.invariant-loop-event
 invariant-loop-event g l = record {
   at : l.at + length l.rest ≡ l.start + length l.bytes;
