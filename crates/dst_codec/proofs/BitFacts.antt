@@ -92,7 +92,7 @@ known_one_low_bit = refl
 pub known_no_low_bit : map kind_of (0x80 ∷ 0xC0 ∷ 0xF0 ∷ 0x40 ∷ []) ≡ kind.Stitch ∷ kind.Stitch ∷ kind.Stitch ∷ kind.Stitch ∷ []
 known_no_low_bit = refl
 
--- bytes with all moves to the left and upwards have one spelling
+-- bytes with all moves to the left and upwards have one encoding
 pub known_plain : IsPlainByte 0xAA
 known_plain = record {
   small = omega arith;

@@ -60,7 +60,7 @@ unended commands = Ok (record {
 pub known_cut_off : reads (file (0x00 ∷ 0x05 ∷ 0x03 ∷ 0x00 ∷ 0x05 ∷ [])) ≡ unended (Stitch (point (pos 30) (pos 0)) ∷ [])
 known_cut_off = refl
 
--- nor has one that is cut off behind a record, or behind its header
+-- nor has one that is cut off after a record, or after its header
 pub known_no_end : map (λ bytes. reads (file bytes)) ((0x00 ∷ 0x05 ∷ 0x03 ∷ []) ∷ [] ∷ [])
     ≡ unended (Stitch (point (pos 30) (pos 0)) ∷ []) ∷ unended [] ∷ []
 known_no_end = refl
@@ -72,7 +72,7 @@ known_sequin = refl
 pub known_short : reads (replicate 511 32) ≡ Err (fault.Short 511)
 known_short = refl
 
--- so many records of a stitch by 121 to the right
+-- n records of a stitch by 121 to the right
 abbrev pub join : ℕ → List ℕ
 join zero = []
 join (suc n) = 0x05 ∷ 0x05 ∷ 0x07 ∷ join n

@@ -1,4 +1,4 @@
--- A file behind its header, and what was loaded of it.
+-- A file after its header, and what was loaded of it.
 use Rattle.std.proofs.Common.{◌≡◌, ℕ, ◌≤◌, List, [], ◌++◌, length, drop, refl, ap, ◌∙◌, subst, arith, length-append}
 use Rattle.std.proofs.Math.Seq.{drop-append_seam}
 use Rattle.std.proofs.lemmas.Bool.{le-ltb}
@@ -15,7 +15,7 @@ reads-long bytes long = rw (le-ltb (length bytes) HEADER_LENGTH long) refl
 drop-header : (head body : List ℕ) → length head ≡ HEADER_LENGTH → drop HEADER_LENGTH (head ++ body) ≡ body
 drop-header head body is = subst (λ n. drop n (head ++ body) ≡ body) is (drop-append_seam head body)
 
--- the records of a file are those behind its header
+-- the records of a file are those after its header
 pub records_in-file : (head body : List ℕ) → length head ≡ HEADER_LENGTH
     → records_in (head ++ body) ≡ records_from 0 HEADER_LENGTH body
 records_in-file head body is = ap (records_from 0 HEADER_LENGTH) (drop-header head body is)

@@ -48,7 +48,7 @@ known_first_x = refl
 pub known_moves : move_of 0x82 0x82 0x83 ≡ point (negsuc 3) (negsuc 3)
 known_moves = refl
 
--- flags without both low bits say nothing
+-- flags without both low bits have no meaning
 pub known_bare_flags : kind_of 0x80 ≡ kind.Stitch
 known_bare_flags = refl
 

@@ -93,7 +93,7 @@ pub known_second_block : concat (records_of (acts_along (Stitch (point (pos 0) (
     ∷ 0x00 ∷ 0x00 ∷ 0x03 ∷ []
 known_second_block = refl
 
--- a float of three hops is two jumps and a stitch; a float of no length is a jump on the spot
+-- a float of three hops is two jumps and a stitch; a float of no length is a jump without a move
 pub known_floats : concat (records_of (acts_along (Stitch (point (pos 0) (pos 0)) ∷ Jump (point (pos 300) (pos 0))
     ∷ Stitch (point (pos 300) (pos 0)) ∷ Jump (point (pos 300) (pos 0)) ∷ Stitch (point (pos 300) (pos 0)) ∷ [])))
     ≡ 0x00 ∷ 0x00 ∷ 0x03 ∷ 0x09 ∷ 0x04 ∷ 0x87 ∷ 0x09 ∷ 0x04 ∷ 0x87 ∷ 0x09 ∷ 0x04 ∷ 0x07

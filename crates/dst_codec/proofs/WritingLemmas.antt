@@ -1,4 +1,4 @@
--- What stands behind the room of a header, and the numbers that the header has of it.
+-- What stands after the room of a header, and the numbers that the header has of it.
 use Rattle.std.proofs.Common.{◌≡◌, ℕ, ◌+◌, ◌-◌, ◌*◌, ◌/◌, ◌^◌, ◌<◌, List, [], ◌∷◌, length, None, refl, ap, ◌∙◌, arith, length-append, lit<}
 use Rattle.std.proofs.lemmas.Nat.{div-mul-add}
 use Rattle.std.specs.List.{concat}
@@ -43,7 +43,7 @@ accepted_fit small d limits passed =
     numbers_fit (acts_of d) (length (records_of (acts_of d)) + 1) few.in_range
     (omega (arith, records, few.room)) (omega (arith, stops))
 
--- the bytes behind the room, three for each record
+-- the bytes after the room, three for each record
 length-body_of : (d : DesignValue) → length (body_of d) ≡ 3 * (length (records_of (acts_of d)) + 1)
 length-body_of d = omega (
   arith,
@@ -51,7 +51,7 @@ length-body_of d = omega (
   records_triples beginning (acts_of d),
 )
 
--- they tell how many records there are
+-- the length of the records is three times their number
 counted : (d : DesignValue) (standing : Standing) (count : ℕ) → IsWritten d standing count
     → (count - HEADER_LENGTH) / 3 ≡ length (records_of (acts_of d)) + 1
 counted d standing count is =

@@ -1,4 +1,4 @@
--- What it means to cut off a record of three bytes, once its kind and its move are known.
+-- Decoding of a record of three bytes, once its kind and its move are known.
 use Rattle.std.specs.Prelude.{◌≡◌, ℕ, Bool, true, false, IsTrue}
 use Rattle.std.specs.List.{list_all}
 use Rattle.design_model.specs.declared.point.Point.{Point}
@@ -11,7 +11,7 @@ use Rattle.dst_codec.specs.declared.record_kind.RecordKind.{RecordKind}
 use Rattle.dst_codec.specs.declared.record_kind.RecordKind.TheVariants as kind
 use Rattle.dst_codec.specs.Reading.{record_as}
 
--- the record neither stitches nor jumps
+-- True for a record that is neither a stitch nor a jump.
 abbrev pub is_other : RecordKind → Bool
 is_other kind.Stitch = false
 is_other kind.Jump = false
@@ -19,7 +19,7 @@ is_other kind.Stop = true
 is_other kind.Sequin = true
 is_other kind.End = true
 
--- what the cut of a record of that kind means, whatever stands behind it
+-- Meaning of an answer about a record of that kind and move, whatever records follow.
 abbrev pub CutsAs : RecordKind → ℕ → ℕ → Point → NextRecord → Type 0
 CutsAs k at run m cut.End = (rest : Records) → record_as k at run m rest ≡ over true
 CutsAs k at run m (cut.Wants ended) = ⊥

@@ -1,5 +1,5 @@
--- The header of a file: 124 bytes of fields, the byte 1A, and spaces up to 512 bytes. The numbers
--- are those of the needles, in tenths of a millimetre; the file's y points upwards.
+-- The header of a DST file: 124 bytes of fields, the byte 1A, and spaces up to 512 bytes. Lengths
+-- are in tenths of a millimetre, measured over the needles. The file's y points upwards.
 use Rattle.std.specs.Prelude.{ℕ, ◌<◌, ◌^◌, suc, max, ℤ, pos, negsuc, neg_ℤ, unsigned_abs, List, [], ◌∷◌, ◌++◌, decimal, codes}
 use Rattle.design_model.specs.declared.act.Act.{Act}
 use Rattle.design_model.specs.declared.act.Act.TheVariants.{Needle, Trim, Stop}
@@ -13,45 +13,45 @@ use Rattle.dst_codec.specs.declared.header.Extents.{Extents}
 use Rattle.dst_codec.specs.declared.header.HeaderNumbers.{HeaderNumbers}
 use Rattle.dst_codec.specs.declared.header.TheConstants.{HEADER_LENGTH}
 
--- a number above 0, or 0
+-- A number that is above 0; else 0.
 abbrev pub above : ℤ → ℕ
 above (pos n) = n
 above (negsuc n) = 0
 
--- the size of a number below 0, or 0
+-- The size of a number that is below 0; else 0.
 abbrev pub below : ℤ → ℕ
 below (pos n) = 0
 below (negsuc n) = suc n
 
--- a measure of a needle; other acts have none
+-- A measure of a needle; 0 for any other act.
 abbrev pub measured : (Point → ℕ) → Act → ℕ
 measured measure (Needle p float) = measure p
 measured measure Trim = 0
 measured measure Stop = 0
 
--- the greatest measure of a needle, 0 without one
+-- The greatest measure of a needle among acts; 0 without a needle.
 abbrev pub greatest : (Point → ℕ) → List NumberedAct → ℕ
 greatest measure [] = 0
 greatest measure (a ∷ rest) = max (measured measure a.act) (greatest measure rest)
 
--- a field: its name, its contents, and a carriage return
+-- A field of the header: its name, its contents and a carriage return.
 abbrev pub field : List ℕ → List ℕ → List ℕ
 field name contents = name ++ contents ++ 13 ∷ []
 
--- a field of a number in so many places
+-- A field of a number, padded with spaces at its left to `places` bytes.
 abbrev pub number_field : List ℕ → ℕ → ℕ → List ℕ
 number_field name places n = field name (filled_left places (decimal n))
 
--- the sign of a number, as its code
+-- The code of the sign of a number: + or -.
 abbrev pub sign_of : ℤ → ℕ
 sign_of (pos n) = 43
 sign_of (negsuc n) = 45
 
--- a field of a sign and a number in five places
+-- A field of a sign and of a number, padded to five bytes.
 abbrev pub signed_field : List ℕ → ℤ → List ℕ
 signed_field name z = field name (sign_of z ∷ filled_left 5 (decimal (unsigned_abs z)))
 
--- how far needles reach from the origin
+-- The greatest distances of needles from the origin, in four directions.
 abbrev pub extents_of : List NumberedAct → Extents
 extents_of acts = record {
   right = greatest (λ p. above p.x) acts;
@@ -60,7 +60,7 @@ extents_of acts = record {
   down = greatest (λ p. above p.y) acts;
 }
 
--- the numbers of a header: that of the records, and those of the acts
+-- The numbers of a header: the number of records, and those that are computed from the acts.
 abbrev pub numbers_of : List NumberedAct → ℕ → HeaderNumbers
 numbers_of acts count = record {
   records = count;
@@ -69,7 +69,7 @@ numbers_of acts count = record {
   last = place_along origin acts;
 }
 
--- each number fits the places of its field
+-- Each number of a header fits its field.
 pub record FitsPlaces (numbers : HeaderNumbers) : Type 0 where
   pub records : numbers.records < 10 ^ 7
   pub stops : numbers.stops < 10 ^ 3
@@ -80,7 +80,7 @@ pub record FitsPlaces (numbers : HeaderNumbers) : Type 0 where
   pub x : unsigned_abs numbers.last.x < 10 ^ 5
   pub y : unsigned_abs numbers.last.y < 10 ^ 5
 
--- the fields of a label and numbers
+-- The fields of a header, by a label and numbers.
 abbrev pub fields_of : List ℕ → HeaderNumbers → List ℕ
 fields_of label numbers = field (codes "LA:") (label_field label)
     ++ number_field (codes "ST:") 7 numbers.records
@@ -95,14 +95,14 @@ fields_of label numbers = field (codes "LA:") (label_field label)
     ++ signed_field (codes "MY:") (pos 0)
     ++ field (codes "PD:") (codes "******")
 
--- the fields of a label, acts and a number of records
+-- The fields of a header, by a label, acts and the number of records.
 abbrev pub header_fields : List ℕ → List NumberedAct → ℕ → List ℕ
 header_fields label acts count = fields_of label (numbers_of acts count)
 
--- the header of a label and numbers
+-- The header of 512 bytes, by a label and numbers.
 abbrev pub header_of : List ℕ → HeaderNumbers → List ℕ
 header_of label numbers = filled_right HEADER_LENGTH (fields_of label numbers ++ 26 ∷ [])
 
--- the header of a label, acts and a number of records
+-- The header of 512 bytes, by a label, acts and the number of records.
 abbrev pub header : List ℕ → List NumberedAct → ℕ → List ℕ
 header label acts count = header_of label (numbers_of acts count)

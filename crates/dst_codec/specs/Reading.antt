@@ -1,5 +1,5 @@
--- What a file reads as: its records behind the header. A fold over them keeps the number of jump
--- records in the unbroken run that came just before, counted up to three.
+-- The result of reading a DST file: the records after its header. A fold over the records counts
+-- the jump records in the unbroken run before each, up to three.
 use Rattle.std.specs.Prelude.{ℕ, ◌+◌, min, true, false, nat_eq, List, [], ◌∷◌, take, drop, Result, ◌==◌, codes, if◌then◌else◌}
 use Rattle.std.specs.List.{starts_with}
 use Rattle.design_model.specs.declared.command.Command.{Command}
@@ -18,11 +18,12 @@ use Rattle.dst_codec.specs.declared.record_kind.RecordKind.{RecordKind}
 use Rattle.dst_codec.specs.declared.record_kind.RecordKind.TheVariants as kind
 use Rattle.dst_codec.specs.Bits.{move_of, kind_of}
 
--- the third jump record of a run reads as a trim and the jump
+-- The event of a jump record after `run` others in an unbroken run: the third is read as a trim and
+-- the jump.
 abbrev pub jump_after : ℕ → Point → Event
 jump_after run m = if run == 2 then event.TrimmedJump m else event.Jump m
 
--- a record of that kind at that offset, after that run, with its move, and what stands behind it
+-- A record of a kind, with its offset, the run before it, its move and the records after it.
 abbrev pub record_as : RecordKind → ℕ → ℕ → Point → Records → Records
 record_as kind.Stitch at run m rest = next at (event.Stitch m) rest
 record_as kind.Jump at run m rest = next at (jump_after run m) rest
@@ -30,7 +31,7 @@ record_as kind.Stop at run m rest = next at (event.StopBy m) rest
 record_as kind.Sequin at run m rest = refused (fault.Sequin at)
 record_as kind.End at run m rest = over true
 
--- the run after a record
+-- The run of jump records after a record of that kind.
 abbrev pub run_after : RecordKind → ℕ → ℕ
 run_after kind.Stitch run = 0
 run_after kind.Jump run = min (run + 1) 3
@@ -38,24 +39,24 @@ run_after kind.Stop run = 0
 run_after kind.Sequin run = 0
 run_after kind.End run = 0
 
--- the records from that offset on, after that run; one or two bytes that are
--- left over are no record
+-- The records from an offset on, after a run of jump records. One or two bytes at the end are no
+-- record.
 abbrev pub records_from : ℕ → ℕ → List ℕ → Records
 records_from run at (a ∷ b ∷ c ∷ rest) =
     record_as (kind_of c) at run (move_of a b c)
     (records_from (run_after (kind_of c) run) (at + 3) rest)
 records_from run at _ = over false
 
--- the records behind a file's header
+-- The records after a file's header.
 abbrev pub records_in : List ℕ → Records
 records_in bytes = records_from 0 HEADER_LENGTH (drop HEADER_LENGTH bytes)
 
--- the label, where the file begins with `LA:`
+-- The label of a header that begins with `LA:`; else no label.
 abbrev pub label_of : List ℕ → List ℕ
 label_of bytes =
     if starts_with nat_eq bytes (codes "LA:") then label_in (take MAX_LABEL (drop 3 bytes)) else []
 
--- the header has the label, and the records stand behind it
+-- The layout of a DST file: a header with the label, and the records after it.
 abbrev pub layout : Layout
 layout = record {
   header = HEADER_LENGTH;
@@ -64,14 +65,14 @@ layout = record {
   records = records_from 0;
 }
 
--- what a file reads as
+-- The result of reading a DST file.
 abbrev pub reads : List ℕ → Result Loaded ReadFault
 reads bytes = reads_by layout 0 bytes
 
--- the commands of its records that are whole
+-- The commands of the records that are complete in the bytes of a DST file.
 abbrev pub shown : List ℕ → List Command
 shown bytes = given_by layout 0 bytes
 
--- the moves of a file's records, before its end or its first refusal
+-- The moves of a DST file's records, before its end or its first refusal.
 abbrev pub moves : List ℕ → List Point
 moves bytes = moves_of (records_in bytes)

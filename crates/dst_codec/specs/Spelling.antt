@@ -1,56 +1,61 @@
--- How a move is spelled in a record: a number from -121 to 121 is in one way a sum of 1, 3, 9, 27
--- and 81, each of them taken plus, minus or not at all.
+-- The encoding of a move in a DST record. A number from -121 to 121 has one balanced ternary
+-- expansion: a sum of 1, 3, 9, 27 and 81, each taken plus, minus or not at all.
 use Rattle.std.specs.Prelude.{ℕ, ◌+◌, ◌-◌, ◌*◌, ◌/◌, ◌%◌, ℤ, pos, negsuc, List, [], ◌∷◌}
 use Rattle.design_model.specs.declared.point.Point.{Point}
 use Rattle.design_model.specs.Points.{origin}
 
--- a number from -121 to 121, counted from 0 to 242
+-- A number from -121 to 121, counted from 0 to 242.
 abbrev pub shifted : ℤ → ℕ
 shifted (pos n) = 121 + n
 shifted (negsuc n) = 120 - n
 
--- whether 1, 3, 9, 27 or 81 is taken: 0 minus, 1 not at all, 2 plus
+-- The balanced ternary digit of a number at a power of three: 0 for minus, 1 for none, 2 for plus.
 abbrev pub taken : ℕ → ℤ → ℕ
 taken part z = shifted z / part % 3
 
--- 1 where it is taken plus, else 0
+-- 1 where the power of three is taken plus; else 0.
 abbrev pub plus : ℕ → ℤ → ℕ
 plus part z = taken part z / 2
 
--- 1 where it is taken minus, else 0
+-- 1 where the power of three is taken minus; else 0.
 abbrev pub minus : ℕ → ℤ → ℕ
 minus part z = (2 - taken part z) / 2
 
--- the half byte of four signs: of the greater part and of the lesser part of one axis
+-- The low half of a byte: the four bits of a lesser and a greater power of three in x.
 abbrev pub x_signs : ℕ → ℕ → ℤ → ℕ
 x_signs lesser greater x = plus lesser x + 2 * minus lesser x + 4 * plus greater x
     + 8 * minus greater x
 
--- the same of the other axis, whose bits stand in the other order
+-- The high half of a byte, as a number below 16: the four bits of the two powers in y, in the
+-- opposite order.
 abbrev pub y_signs : ℕ → ℕ → ℤ → ℕ
 y_signs lesser greater y = plus greater y + 2 * minus greater y + 4 * plus lesser y
     + 8 * minus lesser y
 
--- the record of a move with those flags: 0 for a stitch, 128 for a jump
+-- The record of a move, with its flags: 0 for a stitch, 128 for a jump.
 abbrev pub record_of : ℕ → Point → List ℕ
 record_of flags m = (x_signs 1 9 m.x + 16 * y_signs 1 9 m.y)
     ∷ (x_signs 3 27 m.x + 16 * y_signs 3 27 m.y)
     ∷ (3 + 4 * plus 81 m.x + 8 * minus 81 m.x + 16 * plus 81 m.y + 32 * minus 81 m.y + flags) ∷ []
 
+-- The record of a stitch.
 abbrev pub stitch_record : Point → List ℕ
 stitch_record m = record_of 0 m
 
+-- The record of a jump.
 abbrev pub jump_record : Point → List ℕ
 jump_record m = record_of 128 m
 
--- a trim is three jumps that come back to where they began
+-- The records of a trim: three jumps that lead back to where they began.
 abbrev pub trim_records : List (List ℕ)
 trim_records = jump_record (record { x = pos 2; y = pos 2 })
     ∷ jump_record (record { x = negsuc 3; y = negsuc 3 })
     ∷ jump_record (record { x = pos 2; y = pos 2 }) ∷ []
 
+-- The record of a stop.
 abbrev pub stop_record : List ℕ
 stop_record = record_of 192 origin
 
+-- The record at the end of a file.
 abbrev pub end_record : List ℕ
 end_record = record_of 240 origin

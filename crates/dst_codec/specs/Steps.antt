@@ -1,4 +1,4 @@
--- What the answers of inner calls mean; no public clause cites these definitions.
+-- Meanings of the answers of private functions. No public clause uses these definitions.
 use Rattle.std.specs.Prelude.{◌≡◌, ◌+◌, List, ◌++◌, ℕ, length, Option, Some, None}
 use Rattle.std.specs.List.{concat}
 use Rattle.design_model.specs.declared.bounds.Extent.{Extent}
@@ -15,15 +15,15 @@ use Rattle.dst_codec.specs.Header.{above, below, numbers_of}
 use Rattle.dst_codec.specs.Spelling.{end_record}
 use Rattle.dst_codec.specs.Writing.{reach, records_of}
 
--- the records of a design's acts, and the end
+-- The records of a design's acts, and the end record.
 abbrev pub body_of : DesignValue → List ℕ
 body_of d = concat (records_of (acts_of d)) ++ end_record
 
--- the numbers of a design's header, which counts the end record too
+-- The numbers of a design's header, whose number of records includes the end record.
 abbrev pub header_numbers : DesignValue → HeaderNumbers
 header_numbers d = numbers_of (acts_of d) (length (records_of (acts_of d)) + 1)
 
--- how far the points of an extent reach from the origin; without one it is 0
+-- The distances of an extent from the origin, in four directions; all are 0 without an extent.
 abbrev pub reached : Option Extent → Extents
 reached None = record { right = 0; left = 0; up = 0; down = 0 }
 reached (Some extent) = record {
@@ -33,7 +33,8 @@ reached (Some extent) = record {
   down = above extent.max.y;
 }
 
--- the design isn't refused, it stands so after its acts, and its file is so long
+-- The design was not refused, `state` is the encoder's state after its acts, and `count` is the
+-- length of its file.
 pub record IsWritten (d : DesignValue) (standing : Standing) (count : ℕ) : Type 0 where
   pub passed : first_refusal reach (acts_of d) ≡ None
   pub stands : standing ≡ standing_along LIMIT beginning (acts_of d)

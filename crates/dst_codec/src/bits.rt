@@ -9,7 +9,7 @@ use crate::reading_tables::{
 use crate::record_kind::RecordKind;
 use design_model::Point;
 
-/// The move of a record in tenths of a millimetre; `y` counts downwards.
+/// Returns the move of a record in tenths of a millimetre; `y` counts downwards.
 pub fn decode_move(bytes: [u8; 3]) -> Point
     ensures value { result ≡ move_in bytes }
     ensures within { IsTrue (is_within LIMIT result) }
@@ -21,7 +21,7 @@ pub fn decode_move(bytes: [u8; 3]) -> Point
     }
 }
 
-/// The x of a record's move, counted from -121.
+/// Returns the x of a record's move, plus 121.
 fn counted_x(first: u8, second: u8, third: u8) -> u8
     ensures value { result + leftwards first second third ≡ 121 + rightwards first second third }
     ensures most { result ≤ 242 }
@@ -29,7 +29,7 @@ fn counted_x(first: u8, second: u8, third: u8) -> u8
     X_OF_FIRST[first as usize] + X_OF_SECOND[second as usize] + X_OF_THIRD[third as usize]
 }
 
-/// The y of a record's move, counted from -121.
+/// Returns the y of a record's move, plus 121.
 fn counted_y(first: u8, second: u8, third: u8) -> u8
     ensures value { result + upwards first second third ≡ 121 + downwards first second third }
     ensures most { result ≤ 242 }
@@ -37,7 +37,7 @@ fn counted_y(first: u8, second: u8, third: u8) -> u8
     Y_OF_FIRST[first as usize] + Y_OF_SECOND[second as usize] + Y_OF_THIRD[third as usize]
 }
 
-/// A number that is counted from -121.
+/// Returns a number that was counted from -121.
 fn number(counted: u8) -> i32
     requires { counted ≤ 242 }
     ensures value { (forth back : ℕ) → counted + back ≡ 121 + forth
@@ -47,7 +47,7 @@ fn number(counted: u8) -> i32
     counted as i32 - 121
 }
 
-/// The kind of a record by its third byte. Nearly all records are stitches, and have no flags.
+/// Returns the kind of a record by its third byte. Nearly all records are stitches, and have no flags.
 #[inline(always)]
 pub fn record_kind(third: u8) -> RecordKind
     ensures { result ≡ kind_of third }
@@ -58,7 +58,7 @@ pub fn record_kind(third: u8) -> RecordKind
     flagged_kind(third)
 }
 
-/// The same where a flag and the low bits are set.
+/// Returns the kind of a record with a flag and with both low bits set.
 #[cold]
 #[inline(never)]
 fn flagged_kind(third: u8) -> RecordKind

@@ -9,13 +9,13 @@ use std::alloc::Global;
 /// The greatest move of a record on each axis, in tenths of a millimetre.
 pub const LIMIT: u32 = 121;
 
-/// The most jumps of a float: four would read as a trim.
+/// The most hops of a float: four would read as a trim.
 pub const MAX_FLOAT_HOPS: u32 = 3;
 
 /// The most stops of a file.
 pub const MAX_STOPS: u32 = 999;
 
-/// What the format can write.
+/// The limits of what a file can contain.
 pub const REACH: Reach = Reach {
     limit: LIMIT,
     float_hops: Some(MAX_FLOAT_HOPS),
@@ -32,7 +32,7 @@ impl Dst {
     ghost use Rattle.dst_codec.specs.Reading.{reads, shown};
     ghost use Rattle.format_traits.specs.Feeding.{IsFresh};
 
-    /// The format object, to which nothing was fed. It takes no memory.
+    /// Returns a format object to which nothing was fed. Allocates nothing.
     pub fn new(alloc: Global) -> Dst
         ensures { IsFresh reads shown (⟦<Dst as Format>⟧.feeding result) }
     {

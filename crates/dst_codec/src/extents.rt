@@ -6,7 +6,7 @@ ghost use Rattle.dst_codec.specs.Steps.{reached};
 use crate::header::Extents;
 use design_model::{Design, Extent, extent};
 
-/// How far the needles of a design reach from the origin.
+/// Returns the greatest distances of a design's needles from the origin, in four directions.
 pub fn needle_extents(design: &Design) -> Extents
     ensures { result ≡ extents_of (acts_of design.now) }
 {
@@ -32,14 +32,14 @@ fn extents_within(extent: Option<Extent>) -> Extents
     }
 }
 
-/// A number above 0, or 0.
+/// Returns a number that is above 0; else 0.
 fn above(number: i32) -> u32
     ensures { result ≡ above_of number }
 {
     if number < 0 { 0 } else { number.unsigned_abs() }
 }
 
-/// The size of a number below 0, or 0.
+/// Returns the size of a number that is below 0; else 0.
 fn below(number: i32) -> u32
     ensures { result ≡ below_of number }
 {

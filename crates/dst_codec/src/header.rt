@@ -8,10 +8,10 @@ use design_model::{Bytes, MAX_LABEL, Memory, Point};
 use format_traits::{put_label, put_spaces};
 use std::alloc::Global;
 
-/// The bytes of a header.
+/// The number of bytes of a header.
 pub const HEADER_LENGTH: usize = 512;
 
-/// How far the needles of a design reach from the origin, in tenths of a millimetre.
+/// The greatest distances of a design's needles from the origin, in tenths of a millimetre.
 #[derive(Clone, Copy, Debug, PartialEq, Eq)]
 pub struct Extents {
     pub right: u32,
@@ -20,10 +20,10 @@ pub struct Extents {
     pub down: u32,
 }
 
-/// What a header tells of the records behind it.
+/// The numbers in a header.
 #[derive(Clone, Copy, Debug, PartialEq, Eq)]
 pub struct HeaderNumbers {
-    /// The number of records, the end record among them.
+    /// The number of records, including the end record.
     pub records: u32,
     pub stops: u32,
     pub extents: Extents,
@@ -31,7 +31,7 @@ pub struct HeaderNumbers {
     pub last: Point,
 }
 
-/// The header of a file.
+/// Returns the header of a file.
 pub fn new_header(alloc: Global, label: &[u8], numbers: &HeaderNumbers) -> Result<Bytes, Memory>
     requires label { length label.now ≤ MAX_LABEL }
     requires fits { FitsPlaces numbers.now }
@@ -102,7 +102,7 @@ fn put_field(out: &mut Bytes, name: &[u8], contents: &[u8]) -> Result<(), Memory
     Ok(())
 }
 
-/// A field of a number that stands to the right of so many places.
+/// Appends a field of a number, padded with spaces at its left to `places` bytes.
 fn put_number(
     alloc: Global,
     out: &mut Bytes,
@@ -127,7 +127,7 @@ fn put_digits(alloc: Global, out: &mut Bytes, places: usize, number: u32) -> Res
     Ok(())
 }
 
-/// A field of a sign and a number in five places.
+/// Appends a field of a sign and of a number, padded to five bytes.
 fn put_signed(alloc: Global, out: &mut Bytes, name: &[u8], number: i32) -> Result<(), Memory>
     ensures { OnOk result (out.new ≡ out.old ++ signed_field name.now number) }
 {

@@ -1,5 +1,5 @@
-//! The DST format: records of three bytes behind a header of 512 bytes. The file's y points
-//! upwards, a design's downwards.
+//! The DST format: records of three bytes after a header of 512 bytes. The file's y points upwards, a
+//! design's downwards.
 #![tactic(auto)]
 
 mod bits;

@@ -8,8 +8,8 @@ use format_traits::{
     spelled_acts_read_again,
 };
 
-/// What any design is written as reads as the same acts, to its end, and moves within the limit, and
-/// any plain design is written.
+/// Theorem: a written design reads back as the same acts, to its end, and moves within the limit; any plain
+/// design is written.
 pub fn written_reads_again()
     ensures { KeepsAllLaws dst }
 {
@@ -18,7 +18,7 @@ pub fn written_reads_again()
     codecs_keep_the_laws();
 }
 
-/// The label of any design that is written is read again.
+/// Theorem: the label of a written design is read back.
 pub fn label_reads_again()
     ensures { LabelReadsAgain }
 {
@@ -27,12 +27,12 @@ pub fn label_reads_again()
     label_fields_read_back();
 }
 
-/// No stitch and no float of a design that was read is too long to be written.
+/// Theorem: a design that was read has no stitch and no float that is too long to be written.
 pub fn read_is_within_reach()
     ensures { ReadIsWithinReach }
 {}
 
-/// A stitch record with no part both plus and minus is the one that its move is written as.
+/// Theorem: a stitch record with no part both plus and minus is the encoding of its move.
 pub fn moves_have_one_spelling()
     ensures { MovesHaveOneSpelling }
 {}

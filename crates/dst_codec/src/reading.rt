@@ -6,7 +6,7 @@ ghost use Rattle.dst_codec.specs.Reading.{label_of};
 use design_model::{Design, MAX_LABEL};
 use format_traits::read_label;
 
-/// Sets the label that a header has.
+/// Sets a design's label to that of a header.
 pub fn read_header(design: &mut Design, header: &[u8])
     requires length { length header.now ≡ HEADER_LENGTH }
     requires empty { design.old ≡ empty_design }

@@ -1,7 +1,7 @@
-//! What each byte of a record moves. That each table is the one of the format is proved where a move
-//! is read: a constant calls no function.
+//! The moves of the bytes of a record. Each table is proved where a move is decoded: a constant cannot call a
+//! function.
 
-/// What the first byte of a record adds to its x, counted from -10.
+/// The share of each first byte of a record in its x, plus 10.
 pub static X_OF_FIRST: [u8; 256] = [
     10, 11, 9, 10, 19, 20, 18, 19, 1, 2, 0, 1, 10, 11, 9, 10, 10, 11, 9, 10, 19, 20, 18, 19, 1, 2,
     0, 1, 10, 11, 9, 10, 10, 11, 9, 10, 19, 20, 18, 19, 1, 2, 0, 1, 10, 11, 9, 10, 10, 11, 9, 10,
@@ -15,7 +15,7 @@ pub static X_OF_FIRST: [u8; 256] = [
     1, 10, 11, 9, 10, 10, 11, 9, 10, 19, 20, 18, 19, 1, 2, 0, 1, 10, 11, 9, 10,
 ];
 
-/// What the second byte adds to x, counted from -30.
+/// The share of each second byte in x, plus 30.
 pub static X_OF_SECOND: [u8; 256] = [
     30, 33, 27, 30, 57, 60, 54, 57, 3, 6, 0, 3, 30, 33, 27, 30, 30, 33, 27, 30, 57, 60, 54, 57, 3,
     6, 0, 3, 30, 33, 27, 30, 30, 33, 27, 30, 57, 60, 54, 57, 3, 6, 0, 3, 30, 33, 27, 30, 30, 33,
@@ -30,7 +30,7 @@ pub static X_OF_SECOND: [u8; 256] = [
     30,
 ];
 
-/// What the third byte adds to x, counted from -81.
+/// The share of each third byte in x, plus 81.
 pub static X_OF_THIRD: [u8; 256] = [
     81, 81, 81, 81, 162, 162, 162, 162, 0, 0, 0, 0, 81, 81, 81, 81, 81, 81, 81, 81, 162, 162, 162,
     162, 0, 0, 0, 0, 81, 81, 81, 81, 81, 81, 81, 81, 162, 162, 162, 162, 0, 0, 0, 0, 81, 81, 81,
@@ -45,7 +45,7 @@ pub static X_OF_THIRD: [u8; 256] = [
     81, 81, 81, 81, 81, 81, 81, 81, 162, 162, 162, 162, 0, 0, 0, 0, 81, 81, 81, 81,
 ];
 
-/// What the first byte adds to y, counted from -10.
+/// The share of each first byte in y, plus 10.
 pub static Y_OF_FIRST: [u8; 256] = [
     10, 10, 10, 10, 10, 10, 10, 10, 10, 10, 10, 10, 10, 10, 10, 10, 19, 19, 19, 19, 19, 19, 19, 19,
     19, 19, 19, 19, 19, 19, 19, 19, 1, 1, 1, 1, 1, 1, 1, 1, 1, 1, 1, 1, 1, 1, 1, 1, 10, 10, 10, 10,
@@ -59,7 +59,7 @@ pub static Y_OF_FIRST: [u8; 256] = [
     1, 1, 1, 10, 10, 10, 10, 10, 10, 10, 10, 10, 10, 10, 10, 10, 10, 10, 10,
 ];
 
-/// What the second byte adds to y, counted from -30.
+/// The share of each second byte in y, plus 30.
 pub static Y_OF_SECOND: [u8; 256] = [
     30, 30, 30, 30, 30, 30, 30, 30, 30, 30, 30, 30, 30, 30, 30, 30, 57, 57, 57, 57, 57, 57, 57, 57,
     57, 57, 57, 57, 57, 57, 57, 57, 3, 3, 3, 3, 3, 3, 3, 3, 3, 3, 3, 3, 3, 3, 3, 3, 30, 30, 30, 30,
@@ -74,7 +74,7 @@ pub static Y_OF_SECOND: [u8; 256] = [
     30,
 ];
 
-/// What the third byte adds to y, counted from -81.
+/// The share of each third byte in y, plus 81.
 pub static Y_OF_THIRD: [u8; 256] = [
     81, 81, 81, 81, 81, 81, 81, 81, 81, 81, 81, 81, 81, 81, 81, 81, 162, 162, 162, 162, 162, 162,
     162, 162, 162, 162, 162, 162, 162, 162, 162, 162, 0, 0, 0, 0, 0, 0, 0, 0, 0, 0, 0, 0, 0, 0, 0,

@@ -1,4 +1,4 @@
-/// What a record of three bytes is, by the flags of its third byte.
+/// The kind of a record of three bytes, by the flags of its third byte.
 #[derive(Clone, Copy, Debug, PartialEq, Eq)]
 pub enum RecordKind {
     /// The needle goes down after the move.

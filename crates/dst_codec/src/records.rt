@@ -8,13 +8,13 @@ use crate::spelling::{JUMP, spell};
 use design_model::{Bytes, Memory, Point};
 use format_traits::{Reach, RecordWriter};
 
-/// Three jumps that come back to where they began.
+/// The records of a trim: three jumps that lead back to where they began.
 const TRIM: [u8; 9] = [0x82, 0x41, 0x83, 0x82, 0x82, 0x83, 0x82, 0x41, 0x83];
 
 /// The record of a stop.
 const STOP: [u8; 3] = [0, 0, 0xC3];
 
-/// Writes the records of a file.
+/// The writer of the records of a file.
 #[derive(Clone, Copy, Debug, PartialEq, Eq)]
 pub struct DstWriter;
 
@@ -46,7 +46,7 @@ impl RecordWriter for DstWriter {
     }
 }
 
-/// Adds the record of a move with those flags.
+/// Appends the record of a move with its flags.
 fn put_step(out: &mut Bytes, step: Point, flags: u8) -> Result<(), Memory>
     requires step { IsTrue (is_within LIMIT step) }
     requires flags { flags ≤ 192 }

@@ -11,7 +11,7 @@ use crate::record_kind::RecordKind;
 use design_model::{Design, Point};
 use format_traits::{Event, NextRecord, ReadFault, RecordReader};
 
-/// The jump records in the unbroken run before the next record, counted up to three.
+/// The number of jump records in the unbroken run before the next record, counted up to three.
 #[derive(Clone, Copy, Debug, PartialEq, Eq)]
 pub struct Run {
     pub jumps: u8,
@@ -49,7 +49,7 @@ impl RecordReader for Run {
     }
 }
 
-/// The cut of a record of that kind, after a run of so many jump records, with its move.
+/// Decodes a record of a kind by its move, after a run of `jumps` jump records.
 fn cut_record(kind: RecordKind, at: u64, jumps: u8, step: Point) -> NextRecord
     requires { IsTrue (is_within LIMIT step) }
     ensures { CutsAs kind at jumps step result }
@@ -77,7 +77,7 @@ fn jump_after(jumps: u8, step: Point) -> Event
     }
 }
 
-/// The same for a record that neither stitches nor jumps. These are few, and so apart from the
+/// Decodes a record that is neither a stitch nor a jump. Such records are rare, and therefore outside the
 /// reader's loop.
 #[cold]
 #[inline(never)]

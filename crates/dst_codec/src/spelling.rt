@@ -13,7 +13,7 @@ use design_model::Point;
 /// The flags of a jump record.
 pub const JUMP: u8 = 0x80;
 
-/// The record of a stitch by a move in tenths of a millimetre; `dy` counts downwards.
+/// Returns the record of a stitch by a move in tenths of a millimetre; `dy` counts downwards.
 pub fn encode_move(dx: i32, dy: i32) -> [u8; 3]
     requires x { unsigned_abs dx ≤ LIMIT }
     requires y { unsigned_abs dy ≤ LIMIT }
@@ -23,7 +23,7 @@ pub fn encode_move(dx: i32, dy: i32) -> [u8; 3]
     spell(Point { x: dx, y: dy }, 0)
 }
 
-/// The record of a move with those flags.
+/// Returns the record of a move with its flags.
 pub fn spell(step: Point, flags: u8) -> [u8; 3]
     requires step { IsTrue (is_within LIMIT step) }
     requires flags { flags ≤ 192 }
@@ -55,7 +55,7 @@ fn third_byte(step: Point, flags: u8) -> u8
     THIRD_OF_X[shifted(step.x)] + THIRD_OF_Y[shifted(step.y)] + flags
 }
 
-/// A number from -121 to 121, counted from 0 to 242.
+/// Returns a number from -121 to 121, counted from 0 to 242.
 fn shifted(number: i32) -> usize
     requires { unsigned_abs number ≤ LIMIT }
     ensures value { result ≡ shifted_by number }

@@ -19,7 +19,7 @@ use std::alloc::Global;
 /// The record of the end.
 const END: [u8; 3] = [0, 0, 0xF3];
 
-/// The file of a design. The place of the header is filled last, since it tells of the records.
+/// Writes a design as a file. The header is filled last, since its numbers depend on the records.
 pub fn write_file(alloc: Global, design: &Design) -> Result<Bytes, WriteFault>
     ensures value { Writes (writes design.now) result }
     ensures laws { KeepsLaws dst design.now }
@@ -35,7 +35,8 @@ pub fn write_file(alloc: Global, design: &Design) -> Result<Bytes, WriteFault>
     Ok(with_front(file, header.as_slice()))
 }
 
-/// The numbers of a design's header, from how it stands after its acts and the length of its file.
+/// Returns the numbers of a design's header, from the encoder's state after its acts and the length of its
+/// file.
 fn header_numbers(design: &Design, standing: &Standing, length: usize) -> HeaderNumbers
     requires limits { KeepsLimits design.now }
     requires written { IsWritten design.now standing.now length }

@@ -1,7 +1,7 @@
-//! What each number of a move puts into the bytes of its record. That each table is the one of the
-//! format is proved where a move is written: a constant calls no function.
+//! The shares of a move's numbers in the bytes of its record. Each table is proved where a move is encoded: a
+//! constant cannot call a function.
 
-/// The share of an x, counted from -121, in the first byte of a record.
+/// The share of x in the first byte of a record. The index is x plus 121.
 pub static FIRST_OF_X: [u8; 243] = [
     10, 8, 9, 10, 8, 9, 10, 8, 9, 2, 0, 1, 2, 0, 1, 2, 0, 1, 6, 4, 5, 6, 4, 5, 6, 4, 5, 10, 8, 9,
     10, 8, 9, 10, 8, 9, 2, 0, 1, 2, 0, 1, 2, 0, 1, 6, 4, 5, 6, 4, 5, 6, 4, 5, 10, 8, 9, 10, 8, 9,
@@ -13,7 +13,7 @@ pub static FIRST_OF_X: [u8; 243] = [
     4, 5, 10, 8, 9, 10, 8, 9, 10, 8, 9, 2, 0, 1, 2, 0, 1, 2, 0, 1, 6, 4, 5, 6, 4, 5, 6, 4, 5,
 ];
 
-/// The share of an x in the second byte.
+/// The share of x in the second byte.
 pub static SECOND_OF_X: [u8; 243] = [
     10, 10, 10, 8, 8, 8, 9, 9, 9, 10, 10, 10, 8, 8, 8, 9, 9, 9, 10, 10, 10, 8, 8, 8, 9, 9, 9, 2, 2,
     2, 0, 0, 0, 1, 1, 1, 2, 2, 2, 0, 0, 0, 1, 1, 1, 2, 2, 2, 0, 0, 0, 1, 1, 1, 6, 6, 6, 4, 4, 4, 5,
@@ -25,7 +25,7 @@ pub static SECOND_OF_X: [u8; 243] = [
     1, 1, 1, 6, 6, 6, 4, 4, 4, 5, 5, 5, 6, 6, 6, 4, 4, 4, 5, 5, 5, 6, 6, 6, 4, 4, 4, 5, 5, 5,
 ];
 
-/// The share of an x in the third byte, with the two low bits that every record has.
+/// The share of x in the third byte, with the two low bits that every record has.
 pub static THIRD_OF_X: [u8; 243] = [
     11, 11, 11, 11, 11, 11, 11, 11, 11, 11, 11, 11, 11, 11, 11, 11, 11, 11, 11, 11, 11, 11, 11, 11,
     11, 11, 11, 11, 11, 11, 11, 11, 11, 11, 11, 11, 11, 11, 11, 11, 11, 11, 11, 11, 11, 11, 11, 11,
@@ -38,7 +38,7 @@ pub static THIRD_OF_X: [u8; 243] = [
     7, 7, 7, 7, 7, 7, 7, 7, 7, 7, 7, 7, 7, 7,
 ];
 
-/// The share of a y, counted from -121, in the first byte of a record.
+/// The share of y in the first byte of a record. The index is y plus 121.
 pub static FIRST_OF_Y: [u8; 243] = [
     160, 32, 96, 160, 32, 96, 160, 32, 96, 128, 0, 64, 128, 0, 64, 128, 0, 64, 144, 16, 80, 144,
     16, 80, 144, 16, 80, 160, 32, 96, 160, 32, 96, 160, 32, 96, 128, 0, 64, 128, 0, 64, 128, 0, 64,
@@ -53,7 +53,7 @@ pub static FIRST_OF_Y: [u8; 243] = [
     160, 32, 96, 128, 0, 64, 128, 0, 64, 128, 0, 64, 144, 16, 80, 144, 16, 80, 144, 16, 80,
 ];
 
-/// The share of a y in the second byte.
+/// The share of y in the second byte.
 pub static SECOND_OF_Y: [u8; 243] = [
     160, 160, 160, 32, 32, 32, 96, 96, 96, 160, 160, 160, 32, 32, 32, 96, 96, 96, 160, 160, 160,
     32, 32, 32, 96, 96, 96, 128, 128, 128, 0, 0, 0, 64, 64, 64, 128, 128, 128, 0, 0, 0, 64, 64, 64,
@@ -68,7 +68,7 @@ pub static SECOND_OF_Y: [u8; 243] = [
     80, 80, 80, 144, 144, 144, 16, 16, 16, 80, 80, 80, 144, 144, 144, 16, 16, 16, 80, 80, 80,
 ];
 
-/// The share of a y in the third byte.
+/// The share of y in the third byte.
 pub static THIRD_OF_Y: [u8; 243] = [
     32, 32, 32, 32, 32, 32, 32, 32, 32, 32, 32, 32, 32, 32, 32, 32, 32, 32, 32, 32, 32, 32, 32, 32,
     32, 32, 32, 32, 32, 32, 32, 32, 32, 32, 32, 32, 32, 32, 32, 32, 32, 32, 32, 32, 32, 32, 32, 32,

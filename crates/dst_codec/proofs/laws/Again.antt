@@ -1,4 +1,4 @@
--- What is written reads again, with each move within the limit; and a plain design is written.
+-- A written design reads back, with each move within the limit, and a plain design is written.
 use Rattle.std.proofs.Common.{◌≡◌, ℕ, true, IsTrue, List, [], ◌++◌, length, Option, Some, None, Ok, IfOk, IsOkAnd, refl, ap, sym, ◌∙◌, subst, arith}
 use Rattle.std.proofs.lemmas.Bool.{le-ltb}
 use Rattle.std.proofs.lemmas.List.{append_assoc}
@@ -78,7 +78,7 @@ dst_is_codec small law = record {
   within = λ d limits passed. (written small law d limits passed).within;
 }
 
--- what holds of the file of a design that is not refused, holds of what is written
+-- a property of the file of each design that is not refused holds for the result of writing
 pub of_written : (d : DesignValue) (P : List ℕ → Type 0) → (r : Option WriteFault) → first_refusal reach (acts_of d) ≡ r
     → (first_refusal reach (acts_of d) ≡ None → P (file_of d.label (acts_of d)))
     → IfOk (unless_refused r (file_of d.label (acts_of d))) P

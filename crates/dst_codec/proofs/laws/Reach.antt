@@ -179,12 +179,12 @@ tried_ok at count command rest P ok = by_tests (not (is_in_range command)) (nat_
     by_tests false false (Ok course) ok = ok
     by_tests false false (Err f) ok = tt
 
--- what comes of a rest, whatever stands before it
+-- the result of the rest, whatever is before it
 abbrev RestIsWithin : ℕ → Point → Result Course ReadFault → Type 0
 RestIsWithin run place rest = (s : Standing) (jumped : Bool) → (s.loose ≡ false → IsNear s.place run place jumped)
     → IfOk rest (λ course. IsWithin jumped s course.commands)
 
--- a loose thread asks for nothing
+-- a loose thread has no condition
 loose_free : (P : Type 0) (s : Standing) → s.loose ≡ true → s.loose ≡ false → P
 loose_free P s loose tied = absurd (let no : ⊥ = cc in no)
 
@@ -234,7 +234,7 @@ stop_jump_ok s jumped there (Ok course) on = within-stop s jumped (Jump there �
     (λ s' loose. within-jump s' false there course.commands
     (on s' true (loose_free (IsNear s'.place 0 there true) s' loose)))
 
--- what comes of records, whatever stands before them
+-- the result of records, whatever is before them
 abbrev RecordsAreWithin : ℕ → Point → Records → Type 0
 RecordsAreWithin run place records = (count : ℕ) → RestIsWithin run place (reads_from count place records)
 

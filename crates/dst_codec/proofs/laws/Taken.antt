@@ -1,4 +1,4 @@
--- What the records that are written are taken for.
+-- The events that written records are decoded as.
 use Rattle.std.proofs.Common.{◌≡◌, ◌≢◌, ℕ, ◌+◌, min, pos, negsuc, Bool, true, false, IsTrue, List, [], ◌∷◌, ◌++◌, Some, inr, ◌==◌, if◌then◌else◌, refl, ap, ◌∙◌, arith}
 use Rattle.std.proofs.lemmas.Bool.{eq-eqb, ne_eqb, eqb-true, eqb-false}
 use Rattle.design_model.specs.declared.point.Point.{Point}
@@ -14,7 +14,7 @@ use Rattle.dst_codec.specs.Writing.{spelling, reach}
 use Rattle.dst_codec.proofs.RunLemmas.{record_reads}
 use Rattle.dst_codec.proofs.SpellingLemmas.{byte_of, third_of, move_of-record, kind_of-stitch, kind_of-jump}
 
--- the records of a reader after so many jump records
+-- the records of a reader after n jump records
 abbrev pub read_after : ℕ → ℕ → List ℕ → Records
 read_after run = records_from (min run 3)
 
@@ -54,7 +54,7 @@ forth = record { x = pos 2; y = pos 2 }
 abbrev back : Point
 back = record { x = negsuc 3; y = negsuc 3 }
 
--- the third jump record of a run is taken for a trim too; a written trim is such a run
+-- the third jump record of a run is decoded as a trim too, and a written trim is such a run
 abbrev pub taken : Taken
 taken = record {
   most_jumps = Some 2;
