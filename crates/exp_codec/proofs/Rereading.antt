@@ -1,4 +1,4 @@
--- What is written reads again.
+-- What is written reads back.
 use Rattle.std.proofs.Common.{◌≡◌, ℕ, suc, ◌+◌, ◌-◌, ◌<◌, ◌≤◌, ◌≢◌, ℤ, pos, negsuc, neg_ℤ, unsigned_abs, nat_le, true, IsTrue, IsOkAnd, List, [], ◌∷◌, ◌++◌, None, refl, ap, sym, ◌∙◌, subst, arith}
 use Rattle.std.proofs.lemmas.Bool.{and_parts, leb-true, lt-ltb, le-ltb, ne_eqb}
 use Rattle.std.proofs.lemmas.Int.{ints}
@@ -20,7 +20,7 @@ use Rattle.exp_codec.specs.Format.{exp}
 use Rattle.exp_codec.specs.Units.{signed, move_of, units_from}
 use Rattle.exp_codec.specs.Writing.{byte_of, step_bytes, spelling, reach, file_of}
 
--- a number is read as it was spelled, and no spelled number is 80
+-- a number is decoded as it was encoded, and no encoded number is 80
 signed-byte_of : (z : ℤ) → unsigned_abs z ≤ LIMIT → (signed (byte_of z) ≡ z) × (byte_of z ≢ 0x80)
 signed-byte_of (pos n) small =
     let low : n < 128 = omega (arith, small) in
@@ -49,7 +49,7 @@ move_of-step m near =
     let y = signed-byte_of (neg_ℤ m.y) (opposite_small m.y (leb-true _ _ parts.1)) in
     (same_point x.0 (ap neg_ℤ y.0 ∙ opposite_twice m.y), x.1)
 
--- a stitch and what stands behind it
+-- a stitch and what stands after it
 stitch_reads : (at : ℕ) (m : Point) (rest : List ℕ) → IsTrue (is_within LIMIT m)
     → units_from at (step_bytes m ++ rest) ≡ next at (event.Stitch m) (units_from (at + 2) rest)
 stitch_reads at m rest near =
@@ -81,7 +81,7 @@ rereads = record {
   limit = omega arith;
 }
 
--- the file of a design tells its acts
+-- the file of a design decodes to its acts
 tells : SpelledActsReadAgain → (d : DesignValue) → KeepsLimits d → first_refusal reach (acts_of d) ≡ None
     → TellActs (units_from 0 (file_of d)) (acts_of d) LIMIT
 tells law d limits passed = subst (λ bytes. TellActs (units_from 0 bytes) (acts_of d) LIMIT) (append-nil (file_of d))

@@ -8,7 +8,7 @@ use Rattle.format_traits.specs.Records.{course_of, next}
 use Rattle.exp_codec.specs.Reading.{reads}
 use Rattle.exp_codec.specs.Units.{units_from, asked, control_event, move_of}
 
--- a unit of two bytes, whatever stands behind it
+-- a unit of two bytes, whatever stands after it
 two_at : (at a b : ℕ) (behind : List ℕ) → a ≢ 0x80
     → units_from at (a ∷ b ∷ behind) ≡ next at (event.Stitch (move_of a b)) (units_from (at + 2) behind)
 two_at at a b [] other = rw (ne_eqb a 0x80 other) refl
@@ -22,7 +22,7 @@ two_bytes at [] more some other = absurd (let no : ⊥ = omega (arith, some) in 
 two_bytes at (a ∷ []) more some other = absurd (let no : ⊥ = omega (arith, some) in no)
 two_bytes at (a ∷ b ∷ rest) more some other = two_at at a b (rest ++ more) other
 
--- all bytes behind the first two
+-- all bytes after the first two
 pub behind_two : (bytes : List ℕ) → take (length bytes - 2) (drop 2 bytes) ≡ drop 2 bytes
 behind_two bytes = let left = length-drop 2 bytes in take_all (length bytes - 2) (drop 2 bytes) (omega (arith, left))
 

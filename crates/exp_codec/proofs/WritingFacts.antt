@@ -27,7 +27,7 @@ known_ending = refl
 pub known_limit : LIMIT ≡ 127
 known_limit = refl
 
--- a jump downwards and to the left, as a stitch, is told upwards
+-- a jump downwards and to the left, as a stitch: y is written upwards
 pub known_jump_down : writes (sewn (Stitch (point (negsuc 99) (pos 100)) ∷ []))
     ≡ Ok (0x80 ∷ 0x04 ∷ 0x9C ∷ 0x9C ∷ 0x00 ∷ 0x00 ∷ [])
 known_jump_down = refl
@@ -48,7 +48,7 @@ pub known_left : writes (sewn (Stitch (point (pos 0) (pos 0)) ∷ Stitch (point 
     ≡ Ok (0x00 ∷ 0x00 ∷ 0x81 ∷ 0x00 ∷ [])
 known_left = refl
 
--- a float of 400 takes four jumps and a stitch on the spot, and a stop has its unit
+-- a float of 400 takes four jumps and a stitch without a move, and a stop has its unit
 pub known_float : writes (sewn (Stitch (point (pos 0) (pos 0)) ∷ Jump (point (pos 400) (pos 0))
     ∷ Stitch (point (pos 400) (pos 0)) ∷ Stop ∷ []))
     ≡ Ok (0x00 ∷ 0x00 ∷ 0x80 ∷ 0x04 ∷ 0x64 ∷ 0x00 ∷ 0x80 ∷ 0x04 ∷ 0x64 ∷ 0x00 ∷ 0x80 ∷ 0x04 ∷ 0x64 ∷ 0x00

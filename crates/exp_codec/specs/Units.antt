@@ -1,5 +1,6 @@
--- The units of a file, as the Melco EXP format has them: two bytes for a stitch, and four where the
--- first is 80. Bytes of moves are signed; the file's y points upwards and a design's downwards.
+-- The units of an EXP file, as the Melco EXP format has them: two bytes for a stitch, and four
+-- where the first is 80. The bytes of moves are signed. The file's y points upwards and a design's
+-- downwards.
 use Rattle.std.specs.Prelude.{ℕ, ◌+◌, ◌-◌, ℤ, pos, neg_ℤ, true, false, List, [], ◌∷◌, Option, Some, None, nat_lt, ◌==◌, if◌then◌else◌}
 use Rattle.design_model.specs.declared.point.Point.{Point}
 use Rattle.format_traits.specs.declared.event.Event.{Event}
@@ -7,15 +8,16 @@ use Rattle.format_traits.specs.declared.event.Event.TheVariants as event
 use Rattle.format_traits.specs.declared.fault.ReadFault.TheVariants as fault
 use Rattle.format_traits.specs.Records.{Records, over, refused, next}
 
--- a byte as a signed number, from -128 to 127
+-- A byte as a signed number, from -128 to 127.
 abbrev pub signed : ℕ → ℤ
 signed byte = if nat_lt byte 128 then pos byte else neg_ℤ (pos (256 - byte))
 
--- the move of two bytes
+-- The move of two bytes, in a design's axes.
 abbrev pub move_of : ℕ → ℕ → Point
 move_of a b = record { x = signed a; y = neg_ℤ (signed b) }
 
--- what a unit of four bytes asks for, by its control byte and its move
+-- The event of a unit of four bytes, by its control byte and its move; none for an unknown control
+-- byte.
 abbrev pub control_event : ℕ → Point → Option Event
 control_event control m =
     if control == 0x01 then Some (event.StopBy m)
@@ -24,24 +26,23 @@ control_event control m =
     else (if control == 0x80 then Some event.Trim
     else None)))
 
--- a unit of four bytes and what stands behind it; it is refused where it asks for nothing
+-- A unit of four bytes and the records after it; a unit without an event is refused.
 abbrev pub asked : ℕ → Option Event → (behind : Records) → Records
 asked at (Some event) behind = next at event behind
 asked at None behind = refused (fault.Control at)
 
--- a unit of four bytes where the first is 80, else one of two
+-- The records from a unit on: the unit has four bytes where the first is 80, else two.
 abbrev pub unit : ℕ → (a b c d : ℕ) → (behind_four behind_two : Records) → Records
 unit at a b c d behind_four behind_two =
     if a == 0x80 then asked at (control_event b (move_of c d)) behind_four
     else next at (event.Stitch (move_of a b)) behind_two
 
--- the same where there are no four bytes
+-- The records from a unit on, where fewer than four bytes are left.
 abbrev pub short_unit : ℕ → (a b : ℕ) → (behind_two : Records) → Records
 short_unit at a b behind_two =
     if a == 0x80 then over false else next at (event.Stitch (move_of a b)) behind_two
 
--- the units from that offset on; the file has ended where no byte of an
--- incomplete unit is left over
+-- The units from an offset on. The file has an end where no byte of an incomplete unit is left.
 abbrev pub units_from : ℕ → List ℕ → Records
 units_from at [] = over true
 units_from at (a ∷ []) = over false

@@ -6,7 +6,7 @@ use format_traits::{
 };
 use std::alloc::Global;
 
-/// The greatest move of a unit that is written on each axis, in tenths of a millimetre.
+/// The greatest move of a written unit on each axis, in tenths of a millimetre.
 pub const LIMIT: u32 = 127;
 
 /// The EXP format.
@@ -19,7 +19,7 @@ impl Exp {
     ghost use Rattle.exp_codec.specs.Reading.{reads, shown};
     ghost use Rattle.format_traits.specs.Feeding.{IsFresh};
 
-    /// The format object, to which nothing was fed. It takes no memory.
+    /// Returns a format object to which nothing was fed. Allocates nothing.
     pub fn new(alloc: Global) -> Exp
         ensures { IsFresh reads shown (⟦<Exp as Format>⟧.feeding result) }
     {

@@ -3,8 +3,8 @@ ghost use Rattle.exp_codec.specs.Format.{exp};
 
 use format_traits::{codecs_keep_the_laws, spelled_acts_read_again};
 
-/// What any design is written as reads as the same acts, to its end, and moves within the limit, and
-/// any plain design is written.
+/// Theorem: a written design reads back as the same acts, to its end, and moves within the limit; any plain
+/// design is written.
 pub fn written_reads_again()
     ensures { KeepsAllLaws exp }
 {

@@ -8,7 +8,7 @@ use crate::units::{CONTROL, JUMP, STOP, TRIM, opposite};
 use design_model::{Bytes, Memory, Point};
 use format_traits::{Reach, RecordWriter};
 
-/// Writes the units of a file.
+/// The writer of the units of a file.
 #[derive(Clone, Copy, Debug, PartialEq, Eq)]
 pub struct UnitWriter;
 
@@ -45,7 +45,7 @@ impl RecordWriter for UnitWriter {
     }
 }
 
-/// The two bytes of a move.
+/// Returns the two bytes of a move.
 fn step_bytes(step: Point) -> [u8; 2]
     requires { IsTrue (is_within LIMIT step) }
     ensures { result ≡ bytes_of_step step }
@@ -53,7 +53,7 @@ fn step_bytes(step: Point) -> [u8; 2]
     [byte_of(step.x), byte_of(opposite(step.y))]
 }
 
-/// A number as a byte, modulo 256.
+/// Returns a number as a byte, modulo 256.
 fn byte_of(number: i32) -> u8
     requires { unsigned_abs number ≤ LIMIT }
     ensures { result ≡ byte_of_number number }

@@ -7,10 +7,10 @@ use std::alloc::Global;
 use std::process::Abort;
 use std::test::Fail;
 
-/// The sizes of the pieces that files are fed in, in bytes; no file has as many as the last.
+/// The sizes in bytes of the chunks that files are fed in; each file has fewer bytes than the last.
 const SIZES: [usize; 9] = [1, 2, 3, 5, 511, 512, 513, 4_096, 1_000_000];
 
-/// Feeds a piece.
+/// Feeds a chunk.
 fn feed(rt: &impl Abort, format: &mut Exp, piece: &[u8]) -> Result<(), Memory>
     ensures { IsOk result → (⟦<Exp as Format>⟧.feeding format.new).spoiled ≡ false }
 {
@@ -18,7 +18,7 @@ fn feed(rt: &impl Abort, format: &mut Exp, piece: &[u8]) -> Result<(), Memory>
     format.feed(piece)
 }
 
-/// What stands in a file.
+/// Returns the label, the threads, the commands and the end of a loaded design.
 fn parts(loaded: &Loaded) -> (&[u8], &[u8], &[Command], bool) {
     let design = &loaded.design;
     (
@@ -29,7 +29,7 @@ fn parts(loaded: &Loaded) -> (&[u8], &[u8], &[Command], bool) {
     )
 }
 
-/// What a file reads as: one object reads it whole, and then in pieces of each size.
+/// Reads a file by one object: at once, and then in chunks of each size.
 fn read(rt: &impl Abort, alloc: Global, bytes: &[u8]) -> Result<Loaded, ReadFault> {
     let mut format = Exp::new(alloc);
     let whole = format.decode(alloc, bytes);

@@ -23,7 +23,7 @@ pub const JUMP: u8 = 0x04;
 /// The second byte of a trim.
 pub const TRIM: u8 = 0x80;
 
-/// The units of a file.
+/// The reader of the units of a file.
 #[derive(Clone, Copy, Debug, PartialEq, Eq)]
 pub struct Units;
 
@@ -67,7 +67,7 @@ impl RecordReader for Units {
     }
 }
 
-/// What a unit of four bytes asks for, by its control byte and its move.
+/// Returns the event of a unit of four bytes, by its control byte and its move.
 fn control_event(control: u8, step: Point) -> Option<Event>
     requires { IsTrue (is_within GREATEST_STEP step) }
     ensures value { result ≡ event_of_control control step }
@@ -83,7 +83,7 @@ fn control_event(control: u8, step: Point) -> Option<Event>
     }
 }
 
-/// The move of two bytes; `y` counts downwards.
+/// Returns the move of two bytes; `y` counts downwards.
 fn move_of(x: u8, y: u8) -> Point
     ensures value { result ≡ move_of_bytes x y }
     ensures small { IsTrue (is_within GREATEST_STEP result) }
@@ -94,7 +94,7 @@ fn move_of(x: u8, y: u8) -> Point
     }
 }
 
-/// A byte as a signed number.
+/// Returns a byte as a signed number.
 fn signed(byte: u8) -> i32
     ensures value { result ≡ signed_of byte }
     ensures small { unsigned_abs result ≤ 128 }
@@ -106,7 +106,7 @@ fn signed(byte: u8) -> i32
     }
 }
 
-/// A number with the other sign.
+/// Returns a number with the opposite sign.
 pub fn opposite(number: i32) -> i32
     requires { unsigned_abs number ≤ 128 }
     ensures value { result ≡ neg_ℤ number }

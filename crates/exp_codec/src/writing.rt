@@ -8,7 +8,7 @@ use design_model::{Bytes, Design};
 use format_traits::{WriteFault, put_acts};
 use std::alloc::Global;
 
-/// The file of a design.
+/// Writes a design as a file.
 pub fn write_file(alloc: Global, design: &Design) -> Result<Bytes, WriteFault>
     ensures value { Writes (writes design.now) result }
     ensures laws { KeepsLaws exp design.now }
