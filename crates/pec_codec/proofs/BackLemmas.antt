@@ -33,12 +33,12 @@ use Rattle.pec_codec.proofs.RereadingLemmas.{rereads, taken}
 abbrev tail_of : DesignValue → List ℕ
 tail_of d = 255 ∷ thumbnails_of (stops_of (acts_of d))
 
--- what stands behind a header
+-- what stands after a header
 block_body : (d : DesignValue) → body_of d ++ thumbnails_of (stops_of (acts_of d))
     ≡ concat (records_of spelling reach (acts_of d)) ++ tail_of d
 block_body d = append_assoc (concat (records_of spelling reach (acts_of d))) (255 ∷ []) (thumbnails_of (stops_of (acts_of d)))
 
--- the records of a block that stands behind other bytes
+-- the records of a block that stands after other bytes
 records_at-block : (d : DesignValue) (before : List ℕ)
     → length (header_of d (stops_of (acts_of d)) (distance_over (body_of d))) ≡ HEADER_LENGTH
     → records_at (length before) (before ++ block_of d)
@@ -144,7 +144,7 @@ is_codec spelled accepted fields = record {
   within = λ d limits passed. (block_back spelled accepted fields d limits passed []).within;
 }
 
--- all blocks keep the laws
+-- all blocks keep the laws of blocks
 pub blocks_keep_laws : SpelledActsReadAgain → AcceptedIsSmall → CodecsKeepLaws → LabelFieldsReadBack → BlocksKeepLaws
 blocks_keep_laws spelled accepted codecs fields d limits = record {
   back = of_written d (λ block. (before : List ℕ) → ReadsBack d block before) (first_refusal reach (acts_of d)) refl

@@ -1,4 +1,4 @@
--- Worked values of coordinates: the ends of their ranges, their marks, and their spelling.
+-- Worked values of coordinates: the ends of their ranges, their marks, and their encoding.
 use Rattle.std.proofs.Common.{◌≡◌, pos, negsuc, true, false, [], ◌∷◌, map, Some, None, refl}
 use Rattle.pec_codec.specs.Coordinates.{coordinate_in, is_short, long_bytes, short_bytes}
 use Rattle.pec_codec.specs.Spelling.{jump_record, stitch_record, stop_record, trim_record}
@@ -15,7 +15,7 @@ pub known_long : map coordinate_in ((0x81 ∷ 0xF4 ∷ []) ∷ (0x87 ∷ 0xFF �
     ∷ Some (coordinate_at 2 (negsuc 2047) false false) ∷ Some (coordinate_at 2 (negsuc 0) false false) ∷ []
 known_long = refl
 
--- bit 5 of the first byte is a trim mark and bit 4 a jump mark; bit 6 tells nothing
+-- bit 5 of the first byte is a trim mark and bit 4 a jump mark; bit 6 has no meaning
 pub known_marks : map coordinate_in ((0xA0 ∷ 0x00 ∷ []) ∷ (0x90 ∷ 0x00 ∷ []) ∷ (0xB0 ∷ 0x00 ∷ []) ∷ (0xC0 ∷ 0x00 ∷ []) ∷ [])
     ≡ Some (coordinate_at 2 (pos 0) true false) ∷ Some (coordinate_at 2 (pos 0) false true)
     ∷ Some (coordinate_at 2 (pos 0) true true) ∷ Some (coordinate_at 2 (pos 0) false false) ∷ []

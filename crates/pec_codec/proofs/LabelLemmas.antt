@@ -19,7 +19,7 @@ use Rattle.pec_codec.proofs.HeaderLemmas.{length-filled_right}
 abbrev between : List ℕ
 between = 13 ∷ replicate 12 32 ++ 255 ∷ 0 ∷ 6 ∷ 38 ∷ replicate 12 32
 
--- what stands behind the threads
+-- what stands after the threads
 abbrev behind : DesignValue → List ℕ
 behind d = let stops = stops_of (acts_of d) in
     replicate (LABELS_LENGTH - length (labels_of d stops)) 32
@@ -85,7 +85,7 @@ threads_in-block d short few =
     ∙ threads_in-parts front (threads_of d (stops + 1)) (behind d) stops long few
     (length-map-range_with_len (thread_of d) 0 (stops + 1))
 
--- the thread of a block is that which was told
+-- the thread of a block is the one in the header
 slice_get-threads : (f : ℕ → ℕ) (a n k : ℕ) → k < n → slice_get (map f (range_with_len a n)) k ≡ Some (f (a + k))
 slice_get-threads f a zero k few = absurd (omega arith)
 slice_get-threads f a (suc n) zero few = let same : a ≡ a + 0 = omega arith in ap (λ b. Some (f b)) same

@@ -36,7 +36,7 @@ pub known_stop : pec_records 0 (0xFE ∷ 0xB0 ∷ 0xFF ∷ 0x05 ∷ 0x06 ∷ 0xF
     ≡ next 0 Stop (next 3 (Stitch (point (pos 5) (pos 6))) (over true))
 known_stop = refl
 
--- without B0 behind it FE is a coordinate, with both marks
+-- without B0 after it FE is a coordinate, with both marks
 pub known_no_stop : pec_records 0 (0xFE ∷ 0x01 ∷ 0x00 ∷ []) ≡ next 0 (Jump (point (negsuc 510) (pos 0))) (over false)
 known_no_stop = refl
 
@@ -55,7 +55,7 @@ pub known_short : (reads_at 4 (7 ∷ 7 ∷ []) ≡ Err (fault.Short 2)) × (read
     × (reads_at 2 (7 ∷ 7 ∷ 7 ∷ []) ≡ Err (fault.Short 3)) × (shown_at 4 (7 ∷ 7 ∷ []) ≡ [])
 known_short = (refl, refl, refl, refl)
 
--- a block behind one byte
+-- a block after one byte
 abbrev behind_one : List ℕ
 behind_one = 7 ∷ (replicate 528 32 ++ 0x05 ∷ 0x07 ∷ 0xFF ∷ [])
 

@@ -1,4 +1,4 @@
--- The record that is cut, and those behind it, are all records.
+-- The record that is cut, and those after it, are all records.
 use Rattle.std.proofs.Common.{◌≡◌, ℕ, zero, suc, ◌+◌, ◌-◌, ◌<◌, ◌≤◌, Bool, true, false, ◌&&◌, ◌==◌, nat_lt, List, [], ◌∷◌, ◌++◌, length, drop, Option, Some, None, if◌then◌else◌, refl, ap, sym, subst, ◌∙◌, arith, length-append}
 use Rattle.std.proofs.lemmas.Bool.{false≢true}
 use Rattle.std.proofs.lemmas.List.{drop-append-le}
@@ -12,7 +12,7 @@ use Rattle.pec_codec.specs.declared.coordinate.Coordinate.{Coordinate}
 use Rattle.pec_codec.specs.Coordinates.{coordinate_in, long_coordinate_in, short_coordinate}
 use Rattle.pec_codec.specs.Records.{begins_stop, cut_before, cut_move, cut_pair, cut_stop, cut_of, length_behind, pec_records, records_behind}
 
--- the records behind the bytes of the record before
+-- the records after the bytes of the record before
 skipped : (behind at : ℕ) (bytes : List ℕ) → behind ≤ length bytes
     → records_behind behind at bytes ≡ pec_records (at + behind) (drop behind bytes)
 skipped zero at bytes there = ap (λ n. pec_records n bytes) (omega arith)
@@ -25,7 +25,7 @@ cut_first : (at : ℕ) (byte : ℕ) (rest : List ℕ) (c : NextRecord) → c ≡
     → pec_records at (byte ∷ rest) ≡ cut_before c at (records_behind (length_behind c) (at + 1) rest)
 cut_first at byte rest c is = ap (λ c. cut_before c at (records_behind (length_behind c) (at + 1) rest)) (sym is)
 
--- a record of so many bytes and those behind it
+-- a record of n bytes and the bytes after it
 pub record_first : (at size : ℕ) (event : Event) (bytes : List ℕ) → cut.Record event size ≡ cut_of bytes
     → 0 < size → size ≤ length bytes → pec_records at bytes ≡ next at event (pec_records (at + size) (drop size bytes))
 record_first at zero event bytes is some there = absurd (omega arith)
@@ -65,7 +65,7 @@ coordinate_stays : (bytes more : List ℕ) (x : Coordinate) → coordinate_in by
 coordinate_stays [] more x is = absurd (let gone : None ≡ Some x = is in let no : ⊥ = cc in no)
 coordinate_stays (first ∷ rest) more x is = first_stays (nat_lt first 128) first rest more x is
 
--- a cut that tells something
+-- a record that is complete
 abbrev is_whole : NextRecord → Bool
 is_whole cut.End = true
 is_whole (cut.Wants ended) = false
@@ -118,7 +118,7 @@ cut_stays (first ∷ []) more c is whole = one_stays (first == 255) first c
 cut_stays (first ∷ second ∷ rest) more c is whole =
     two_stay (first == 255) (first == 254 && second == 176) first second rest more c is whole
 
--- what is cut is told of no bytes
+-- no bytes decode to an incomplete record
 none_cut : (c : NextRecord) → c ≡ cut_of [] → is_whole c ≡ true → ⊥
 none_cut c is whole = false≢true (sym (ap is_whole is) ∙ whole)
 

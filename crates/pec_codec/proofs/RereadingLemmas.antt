@@ -1,4 +1,4 @@
--- Each record is read as it was spelled, whatever bytes follow.
+-- Each record is decoded as it was encoded, whatever bytes follow.
 use Rattle.std.proofs.Common.{◌≡◌, ℕ, ◌+◌, ◌*◌, ◌/◌, ◌%◌, ◌<◌, ◌≤◌, ℤ, unsigned_abs, Bool, true, false, ◌&&◌, IsTrue, List, [], ◌∷◌, ◌++◌, length, drop, Some, None, ◌==◌, nat_le, if◌then◌else◌, refl, ap, sym, ◌∙◌, arith}
 use Rattle.std.proofs.lemmas.Bool.{and_parts, leb-true, ne_eqb}
 use Rattle.design_model.specs.declared.point.Point.{Point}
@@ -78,11 +78,11 @@ stitch_reads : (short : Bool) (at : ℕ) (m : Point) (rest : List ℕ) → (is_s
 stitch_reads true at m rest is within = short_reads at m rest is
 stitch_reads false at m rest is within = long_reads 0 at m rest (omega arith) within
 
--- what spelled records are taken for: a trim is a trim and a jump of nothing
+-- the events of encoded records: a trim is a trim and a jump without a move
 abbrev pub taken : Taken
 taken = record { most_jumps = None; trim = event.TrimmedJump origin ∷ []; run = 0; stop = event.Stop }
 
--- each spelled record is taken for what it was spelled for
+-- each encoded record is decoded as the writer meant it
 pub rereads : RereadsSpelling (λ run. pec_records) spelling reach taken
 rereads = record {
   stitch = λ run at m rest within. stitch_reads (is_short m.x && is_short m.y) at m rest refl within;

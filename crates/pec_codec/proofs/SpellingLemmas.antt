@@ -1,4 +1,4 @@
--- What is spelled is read as it was meant.
+-- Encoded coordinates are decoded as they were meant.
 use Rattle.std.proofs.Common.{◌≡◌, ℕ, ◌+◌, ◌-◌, ◌*◌, ◌/◌, ◌%◌, ◌<◌, ◌≤◌, ℤ, pos, negsuc, unsigned_abs, Bool, false, IsTrue, List, ◌∷◌, Some, ◌==◌, if◌then◌else◌, refl, ap, ◌∙◌, arith}
 use Rattle.std.proofs.lemmas.Bool.{leb-true, lt-ltb, le-ltb}
 use Rattle.std.proofs.lemmas.Int.{ints}

@@ -97,7 +97,7 @@ pub known_long_stitch : writes (sewn (Stitch (point (pos 0) (pos 0)) ∷ Stitch 
     ≡ Err (fault.StitchTooLong 2)
 known_long_stitch = refl
 
--- a float of 4000 is two jumps and a stitch on the spot
+-- a float of 4000 is two jumps and a stitch without a move
 pub known_float : body_of (sewn (Stitch (point (pos 0) (pos 0)) ∷ Jump (point (pos 0) (pos 4000))
     ∷ Stitch (point (pos 0) (pos 4000)) ∷ []))
     ≡ 0x00 ∷ 0x00 ∷ 0x90 ∷ 0x00 ∷ 0x97 ∷ 0xD0 ∷ 0x90 ∷ 0x00 ∷ 0x97 ∷ 0xD0 ∷ 0x00 ∷ 0x00 ∷ 0xFF ∷ []

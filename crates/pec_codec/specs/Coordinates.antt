@@ -1,6 +1,6 @@
--- The coordinates of a record's move, in tenths of a millimetre. A byte below 128 is a number
--- of 7 bits by itself. Else a number of 12 bits stands in two bytes, the higher first, and
--- the first has the marks:
+-- The coordinates of the move of a PEC record, in tenths of a millimetre. A byte below 128 is a
+-- number of 7 bits by itself. Other numbers have 12 bits in two bytes, the higher first, with marks
+-- in the first byte:
 --
 --          bit 7  bit 6  bit 5  bit 4  bits 3 to 0
 --   first   set   any    trim   jump   high bits
@@ -8,24 +8,24 @@ use Rattle.std.specs.Prelude.{ℕ, ◌+◌, ◌*◌, ◌/◌, ◌%◌, ℤ, pos,
 use Rattle.std.specs.Int.{int_rem_euclid}
 use Rattle.pec_codec.specs.declared.coordinate.Coordinate.{Coordinate}
 
--- a number below twice the half, read with its sign: from the half on it lies below 0
+-- A number below twice the half, read as two's complement: from the half on, it is negative.
 abbrev pub signed : ℕ → ℕ → ℤ
 signed half n = if nat_lt n half then pos n else pos n -ℤ pos (2 * half)
 
--- a number from minus the half up to below the half, as a number below twice the half
+-- A number from minus the half to below the half, encoded as two's complement.
 abbrev pub unsigned : ℕ → ℤ → ℕ
 unsigned half z = unsigned_abs (int_rem_euclid z (pos (2 * half)))
 
--- the numbers that the writer spells in one byte
+-- True for the numbers that the writer encodes in one byte.
 abbrev pub is_short : ℤ → Bool
 is_short (pos n) = nat_le n 62
 is_short (negsuc n) = nat_le n 62
 
--- a byte that is a coordinate by itself has no marks
+-- A coordinate of one byte, which has no marks.
 abbrev pub short_coordinate : ℕ → Coordinate
 short_coordinate byte = record { size = 1; number = signed 64 byte; trims = false; jumps = false }
 
--- a coordinate of two bytes
+-- A coordinate of two bytes.
 abbrev pub long_coordinate : ℕ → ℕ → Coordinate
 long_coordinate first second = record {
   size = 2;
@@ -34,21 +34,21 @@ long_coordinate first second = record {
   jumps = first / 16 % 2 == 1;
 }
 
--- the second byte is wanted where the first is not one by itself
+-- A coordinate of two bytes, where the second byte is there.
 abbrev pub long_coordinate_in : ℕ → List ℕ → Option Coordinate
 long_coordinate_in first [] = None
 long_coordinate_in first (second ∷ rest) = Some (long_coordinate first second)
 
--- the coordinate at the head of bytes, unless they end before it does
+-- The coordinate at the beginning of bytes, unless the bytes end before it does.
 abbrev pub coordinate_in : List ℕ → Option Coordinate
 coordinate_in [] = None
 coordinate_in (first ∷ rest) =
     if nat_lt first 128 then Some (short_coordinate first) else long_coordinate_in first rest
 
--- a number in one byte
+-- The encoding of a number in one byte.
 abbrev pub short_bytes : ℤ → List ℕ
 short_bytes z = unsigned 64 z ∷ []
 
--- a number in two bytes, with those marks in the first: 32 for a trim, 16 for a jump
+-- The encoding of a number in two bytes, with its marks in the first: 32 for a trim, 16 for a jump.
 abbrev pub long_bytes : ℕ → ℤ → List ℕ
 long_bytes marks z = (128 + marks + unsigned 2048 z / 256) ∷ unsigned 2048 z % 256 ∷ []

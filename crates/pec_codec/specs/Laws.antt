@@ -1,4 +1,4 @@
--- What reading and writing a block have to do with one another, wherever in a file it stands.
+-- The round trip of a PEC block, at any offset of a file.
 use Rattle.std.specs.Prelude.{◌≡◌, ℕ, ◌≤◌, List, ◌++◌, length, IfOk, IsOk, IsOkAnd, IsTrue}
 use Rattle.std.specs.List.{list_all}
 use Rattle.design_model.specs.Acts.{acts_of}
@@ -12,24 +12,25 @@ use Rattle.pec_codec.specs.declared.block.TheConstants.{LIMIT}
 use Rattle.pec_codec.specs.Reading.{moves_at, reads_at}
 use Rattle.pec_codec.specs.Writing.{writes}
 
--- what was loaded has the acts, the label and the thread of each block of the design, and an end
+-- A loaded design with the acts, the label and the thread of each block of the design d, from a
+-- file that has an end.
 pub record Restores (d : DesignValue) (loaded : Loaded) : Type 0 where
   pub again : IsAgain d loaded
   pub label : loaded.design.label ≡ d.label
   pub threads : (block : ℕ) → block ≤ stops_of (acts_of d) → thread_of loaded.design block
       ≡ thread_of d block
 
--- a block behind other bytes reads as the design, each move within the limit
+-- A block after other bytes reads as the design, and each of its moves is within the limit.
 pub record ReadsBack (d : DesignValue) (block before : List ℕ) : Type 0 where
   pub read : IsOkAnd (reads_at (length before) (before ++ block)) (λ loaded. Restores d loaded)
   pub within : IsTrue (list_all (λ move. is_within LIMIT move)
       (moves_at (length before) (before ++ block)))
 
--- what is written reads back, and a plain design is written
+-- The laws of a block for one design: what is written reads back, and a plain design is written.
 pub record KeepsBlockLaws (d : DesignValue) : Type 0 where
   pub back : IfOk (writes d) (λ block. (before : List ℕ) → ReadsBack d block before)
   pub plain : IsPlain LIMIT d → IsOk (writes d)
 
--- this holds of every design within its limits
+-- Theorem: the laws of a block hold for every design within its limits.
 abbrev pub BlocksKeepLaws : Type 0
 BlocksKeepLaws = (d : DesignValue) → KeepsLimits d → KeepsBlockLaws d

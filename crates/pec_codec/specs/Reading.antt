@@ -1,4 +1,4 @@
--- What the block at an offset of a file reads as.
+-- The result of reading the PEC block at an offset of a file.
 use Rattle.std.specs.Prelude.{ℕ, ◌+◌, List, [], length, drop, nat_lt, Result, Err, if◌then◌else◌}
 use Rattle.design_model.specs.declared.command.Command.{Command}
 use Rattle.design_model.specs.declared.point.Point.{Point}
@@ -11,7 +11,7 @@ use Rattle.pec_codec.specs.declared.block.TheConstants.{HEADER_LENGTH}
 use Rattle.pec_codec.specs.Header.{label_of, threads_in}
 use Rattle.pec_codec.specs.Records.{pec_records}
 
--- the header has the label and the threads, and the records stand behind it
+-- The layout of a PEC block: a header with the label and the threads, and the records after it.
 abbrev pub layout : Layout
 layout = record {
   header = HEADER_LENGTH;
@@ -20,20 +20,21 @@ layout = record {
   records = pec_records;
 }
 
--- a file that is too short to reach to the block has none; refusals name offsets of the file
+-- The result of reading the block at an offset. A file that ends before the offset is too short.
+-- Refusals report offsets of the file.
 abbrev pub reads_at : ℕ → List ℕ → Result Loaded ReadFault
 reads_at at bytes =
     if nat_lt (length bytes) at then Err (fault.Short (length bytes))
     else reads_by layout at (drop at bytes)
 
--- the commands of the block's records that are whole
+-- The commands of the block's records that are complete in the bytes.
 abbrev pub shown_at : ℕ → List ℕ → List Command
 shown_at at bytes = if nat_lt (length bytes) at then [] else given_by layout at (drop at bytes)
 
--- the records of the block at that offset
+-- The records of the block at an offset.
 abbrev pub records_at : ℕ → List ℕ → Records
 records_at at bytes = pec_records (at + HEADER_LENGTH) (drop (at + HEADER_LENGTH) bytes)
 
--- the moves of the block's records, before its end or its first refusal
+-- The moves of the block's records, before its end or its first refusal.
 abbrev pub moves_at : ℕ → List ℕ → List Point
 moves_at at bytes = moves_of (records_at at bytes)

@@ -1,4 +1,4 @@
--- What the answers of inner calls mean; no public clause cites these definitions.
+-- Meanings of the answers of private functions. No public clause uses these definitions.
 use Rattle.std.specs.Prelude.{◌≡◌, ℕ, ◌<◌, ◌≤◌, List, ◌++◌, length, None, Result, Ok, Err, IsTrue}
 use Rattle.std.specs.List.{list_all}
 use Rattle.design_model.specs.Acts.{acts_of}
@@ -13,8 +13,8 @@ use Rattle.format_traits.specs.Refusals.{first_refusal, stops_of}
 use Rattle.format_traits.specs.Spellings.{RefusedAs}
 use Rattle.pec_codec.specs.Writing.{body_of, reach}
 
--- a record that was cut has some of the bytes, and moves no further than any format's may; where
--- none was, the bytes are few
+-- A decoded record is within the bytes, is not empty, and moves no further than any format's
+-- records. Where no record is complete, the bytes are few.
 abbrev pub FitsIn : List ℕ → NextRecord → Type 0
 FitsIn bytes cut.End = Unit {0}
 FitsIn bytes (cut.Wants ended) = length bytes < MOST_RECORD
@@ -22,7 +22,8 @@ FitsIn bytes (cut.Refused f) = Unit {0}
 FitsIn bytes (cut.Record event size) = (0 < size) × (size ≤ length bytes)
     × IsTrue (list_all (λ move. is_within GREATEST_STEP move) (moves_in event))
 
--- adding the records of a design and their end gives the number of its stops, or the refusal
+-- Meaning of each answer of appending the records of a design and their end: the number of its
+-- stops, or the refusal.
 abbrev pub PutsBody : DesignValue → List ℕ → Result ℕ WriteFault → List ℕ → Type 0
 PutsBody d old (Ok stops) new = (first_refusal reach (acts_of d) ≡ None)
     × (new ≡ old ++ body_of d) × (stops ≡ stops_of (acts_of d))

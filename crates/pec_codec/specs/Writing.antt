@@ -1,4 +1,4 @@
--- What a design is written as: a header, the records of its acts in order and their
+-- The result of writing a design as a PEC block: a header, the records of its acts in order, their
 -- end, and blank thumbnails.
 use Rattle.std.specs.Prelude.{ℕ, ◌+◌, ◌-◌, ◌*◌, List, [], ◌∷◌, ◌++◌, length, replicate, Some, None, Result}
 use Rattle.std.specs.List.{concat}
@@ -12,11 +12,11 @@ use Rattle.pec_codec.specs.declared.block.TheConstants.{HEADER_LENGTH, LABELS_LE
 use Rattle.pec_codec.specs.Header.{header_of}
 use Rattle.pec_codec.specs.Spelling.{end_record, jump_record, stitch_record, stop_record, trim_record}
 
--- what can be written
+-- The limits of what a PEC block can contain.
 abbrev pub reach : Reach
 reach = record { limit = LIMIT; float_hops = None; stops = Some MAX_STOPS }
 
--- how records are spelled
+-- The bytes of the records of a PEC block.
 abbrev pub spelling : Spelling
 spelling = record {
   stitch = stitch_record;
@@ -26,23 +26,24 @@ spelling = record {
       stop_record;
 }
 
--- the records of a design's acts, and the end
+-- The records of a design's acts, and their end.
 abbrev pub body_of : DesignValue → List ℕ
 body_of d = concat (records_of spelling reach (acts_of d)) ++ end_record
 
--- a thumbnail of the whole design and one of each block of colour, all blank
+-- The thumbnails of a design with `stops` stops: one of the entire design and one of each colour
+-- block, all blank.
 abbrev pub thumbnails_of : ℕ → List ℕ
 thumbnails_of stops = replicate (THUMBNAIL_LENGTH * (stops + 2)) 0
 
--- the distance to the thumbnails counts from the second part of the header
+-- The distance to the thumbnails, counted from the second part of the header.
 abbrev pub distance_over : List ℕ → ℕ
 distance_over body = HEADER_LENGTH - LABELS_LENGTH + length body
 
--- the block of a design
+-- The PEC block of a design.
 abbrev pub block_of : DesignValue → List ℕ
 block_of d = header_of d (stops_of (acts_of d)) (distance_over (body_of d))
     ++ body_of d ++ thumbnails_of (stops_of (acts_of d))
 
--- what a design is written as, or the refusal that its acts meet first
+-- The result of writing a design: the PEC block, or the first refusal of its acts.
 abbrev pub writes : DesignValue → Result (List ℕ) WriteFault
 writes d = unless_refused (first_refusal reach (acts_of d)) (block_of d)

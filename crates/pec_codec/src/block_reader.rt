@@ -9,7 +9,7 @@ use design_model::{Command, Memory};
 use format_traits::{Fed, Feed, Loaded, ReadFault, RecordDecoder};
 use std::alloc::Global;
 
-/// The reader of a block that is fed in pieces.
+/// A reader of a block that is fed in chunks.
 #[derive(Drop)]
 pub struct BlockReader {
     feed: Feed<RecordDecoder<PecRecords>>,
@@ -20,7 +20,7 @@ impl Fed for BlockReader {
 }
 
 impl BlockReader {
-    /// As after `begin(0)`. It takes no memory.
+    /// Returns a reader in the state after `begin(0)`. Allocates nothing.
     pub fn new(alloc: Global) -> BlockReader
         ensures { IsFresh (reads_by layout 0) (given_by layout 0) (⟦<BlockReader as Fed>⟧.feeding result) }
     {
@@ -29,7 +29,7 @@ impl BlockReader {
         }
     }
 
-    /// Forgets all that was fed, and starts a block at that offset of a file. It takes no memory.
+    /// Discards all that was fed. The next block begins at the offset `at` of a file. Allocates nothing.
     pub fn begin(&mut self, at: u64)
         requires { at < 2 ^ 32 }
         ensures { IsFresh (reads_by layout at) (given_by layout at)
@@ -38,7 +38,7 @@ impl BlockReader {
         self.feed.begin(at as u32);
     }
 
-    /// Takes the next bytes of the file from that offset on.
+    /// Takes the next chunk of the block.
     pub fn feed(&mut self, piece: &[u8]) -> Result<(), Memory>
         requires { (⟦<BlockReader as Fed>⟧.feeding self.old).taken + length piece.now ≤ MAX_FED }
         ensures { Feeds (⟦<BlockReader as Fed>⟧.feeding self.old) piece.now result
@@ -47,7 +47,7 @@ impl BlockReader {
         self.feed.feed(piece)
     }
 
-    /// What the block that was fed reads as. Then it is as after `begin(0)`.
+    /// Returns the result of the block that was fed. The reader is in the state after `begin(0)` then.
     pub fn finish(&mut self) -> Result<Loaded, ReadFault>
         ensures { Finishes (reads_by layout 0) (given_by layout 0) (⟦<BlockReader as Fed>⟧.feeding self.old)
             result (⟦<BlockReader as Fed>⟧.feeding self.new) }
@@ -55,7 +55,7 @@ impl BlockReader {
         self.feed.finish()
     }
 
-    /// The commands read so far.
+    /// Returns the commands read so far.
     pub fn so_far(&self) -> &[Command]
         requires { (⟦<BlockReader as Fed>⟧.feeding self.now).spoiled ≡ false }
         ensures { result.now ≡ (⟦<BlockReader as Fed>⟧.feeding self.now).given [] }
@@ -64,7 +64,7 @@ impl BlockReader {
     }
 }
 
-/// The decoder of a block.
+/// Returns a decoder of a block.
 pub fn block_decoder(alloc: Global) -> RecordDecoder<PecRecords> {
     RecordDecoder::new(alloc, PecRecords)
 }

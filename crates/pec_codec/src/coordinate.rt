@@ -5,7 +5,7 @@ ghost use Rattle.pec_codec.specs.Coordinates.{coordinate_in as coordinate_of, lo
 /// A coordinate of a record.
 #[derive(Clone, Copy, Debug, PartialEq, Eq)]
 pub struct Coordinate {
-    /// The bytes that it takes.
+    /// The number of its bytes.
     pub size: usize,
     /// Tenths of a millimetre.
     pub number: i32,
@@ -13,7 +13,7 @@ pub struct Coordinate {
     pub jumps: bool,
 }
 
-/// The coordinate at the head of bytes, unless they end before it does.
+/// Returns the coordinate at the beginning of bytes, unless the bytes end before it does.
 pub fn coordinate_in(bytes: &[u8]) -> Option<Coordinate>
     ensures value { result ≡ coordinate_of bytes.now }
     ensures some { IfSome result (λ c. 0 < c.size) }
@@ -54,7 +54,7 @@ fn long_coordinate(first: u8, second: u8) -> Coordinate
     }
 }
 
-/// A number below twice the half, read with its sign.
+/// Returns a number below twice the half, read as two's complement.
 fn signed(half: u32, number: u32) -> i32
     requires half { half ≤ 2048 }
     requires number { number < 2 * half }

@@ -13,13 +13,13 @@ use design_model::{Bytes, Design, MAX_LABEL, Memory, extent, height, width};
 use format_traits::{put_label, put_spaces, read_label};
 use std::alloc::Global;
 
-/// The hoop that a header names, in tenths of a millimetre.
+/// The width of the hoop in a header, in tenths of a millimetre.
 const HOOP_WIDTH: u16 = 480;
 
 const HOOP_HEIGHT: u16 = 432;
 
-/// The header of a design with so many stops. The distance is that from the sizes to the thumbnails,
-/// in bytes.
+/// Returns the header of a design with `stops` stops. The distance from the sizes to the thumbnails is in
+/// bytes.
 pub fn new_header(
     alloc: Global,
     design: &Design,
@@ -53,7 +53,7 @@ fn put_labels(out: &mut Bytes, design: &Design, stops: u32) -> Result<(), Memory
     Ok(())
 }
 
-/// Adds the threads of the first blocks of colour.
+/// Appends the threads of the first `count` colour blocks.
 fn put_threads(out: &mut Bytes, design: &Design, count: u32) -> Result<(), Memory>
     ensures { OnOk result (out.new ≡ out.old ++ threads_of design.now count) }
 {
@@ -63,7 +63,7 @@ fn put_threads(out: &mut Bytes, design: &Design, count: u32) -> Result<(), Memor
     Ok(())
 }
 
-/// Adds the distance from the sizes to the thumbnails.
+/// Appends the distance from the sizes to the thumbnails.
 fn put_distance(out: &mut Bytes, distance: u32) -> Result<(), Memory>
     requires { distance < 2 ^ 24 }
     ensures { OnOk result (out.new ≡ out.old ++ distance_field distance) }
@@ -74,7 +74,7 @@ fn put_distance(out: &mut Bytes, distance: u32) -> Result<(), Memory>
     Ok(())
 }
 
-/// Adds the size of a design, and that of the hoop.
+/// Appends the size of a design and that of the hoop.
 fn put_sizes(out: &mut Bytes, design: &Design) -> Result<(), Memory>
     ensures { OnOk result (out.new ≡ out.old ++ size_fields (extent_of design.now)) }
 {
@@ -111,7 +111,7 @@ fn put_word24(out: &mut Bytes, word: u32) -> Result<(), Memory>
     out.append(&bytes)
 }
 
-/// Takes in the label and the threads of a block.
+/// Sets the label and the threads of an empty design to those of a header.
 pub fn read_header(design: &mut Design, header: &[u8])
     requires length { length header.now ≡ HEADER_LENGTH }
     requires empty { design.old ≡ empty_design }
@@ -136,7 +136,7 @@ fn keep_label(design: &mut Design, header: &[u8])
     }
 }
 
-/// The threads that a block names.
+/// Returns the threads in a header.
 fn threads_of_block(header: &[u8]) -> &[u8]
     requires { length header.now ≡ HEADER_LENGTH }
     ensures value { (more : List ℕ) → result.now ≡ threads_in (header.now ++ more) }

@@ -7,9 +7,9 @@ use format_traits::{
     spelled_acts_read_again,
 };
 
-/// The block of any design, wherever in a file it stands, reads as the same acts, to its end, with the
-/// label and the thread of each block of colour, and moves within the limit; and any plain design is
-/// written.
+/// Theorem: the block of a written design reads back at any offset of a file. The design that is read has the
+/// same acts, label and thread of each colour block. The block has an end and moves within the limit, and any
+/// plain design is written.
 pub fn blocks_read_back()
     ensures { BlocksKeepLaws }
 {
@@ -19,7 +19,7 @@ pub fn blocks_read_back()
     label_fields_read_back();
 }
 
-/// A design is within its limits.
+/// Theorem: a design is within its limits.
 pub(crate) fn designs_keep_limits(design: &Design)
     ensures { KeepsLimits design.now }
 {

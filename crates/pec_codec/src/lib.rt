@@ -1,5 +1,5 @@
 //! The PEC block of PEC and PES files: a header of 528 bytes, records of two to four bytes, and blank
-//! thumbnails. Its y points downwards, as a design's does.
+//! thumbnails. The y of a block points downwards, as that of a design.
 #![tactic(auto)]
 
 mod block;

@@ -5,7 +5,7 @@ use crate::spelling::{put_jump, put_stitch, put_stop, put_trim};
 use design_model::{Bytes, Design, Memory, Point};
 use format_traits::{NextRecord, Reach, RecordReader, RecordWriter};
 
-/// The records of a block.
+/// The reader and writer of the records of a block.
 #[derive(Clone, Copy, Debug, PartialEq, Eq)]
 pub struct PecRecords;
 

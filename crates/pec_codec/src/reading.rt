@@ -5,7 +5,7 @@ use crate::block_reader::block_decoder;
 use format_traits::{Loaded, ReadFault, decode_whole};
 use std::alloc::Global;
 
-/// What the block at an offset of a file reads as. The offsets in refusals are those of the file.
+/// Reads the block at an offset of a file. The offsets in errors are those of the file.
 pub fn read_block(alloc: Global, bytes: &[u8], at: u64) -> Result<Loaded, ReadFault>
     ensures { Reads (reads_at at bytes.now) result }
 {

@@ -11,7 +11,7 @@ use crate::coordinate::{Coordinate, coordinate_in};
 use design_model::Point;
 use format_traits::{Event, NextRecord};
 
-/// What stands first in bytes.
+/// Decodes the record at the beginning of bytes.
 pub fn cut(bytes: &[u8]) -> NextRecord
     ensures value { result ≡ cut_of bytes.now }
     ensures fits { FitsIn bytes.now result }

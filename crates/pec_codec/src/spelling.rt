@@ -10,10 +10,10 @@ use design_model::{Bytes, Memory, Point};
 /// The mark of a jump in the first byte of a coordinate.
 const JUMP: u8 = 0x10;
 
-/// A move of nothing with the mark of a trim.
+/// The record of a trim: a move of (0, 0) with the mark of a trim.
 const TRIM: [u8; 4] = [0xA0, 0x00, 0xA0, 0x00];
 
-/// Adds the record of a stitch.
+/// Appends the record of a stitch.
 pub fn put_stitch(out: &mut Bytes, step: Point) -> Result<(), Memory>
     requires { IsTrue (is_within LIMIT step) }
     ensures { OnOk result (out.new ≡ out.old ++ stitch_record step) }
@@ -26,7 +26,7 @@ pub fn put_stitch(out: &mut Bytes, step: Point) -> Result<(), Memory>
     Ok(())
 }
 
-/// Adds the record of a jump.
+/// Appends the record of a jump.
 pub fn put_jump(out: &mut Bytes, step: Point) -> Result<(), Memory>
     requires { IsTrue (is_within LIMIT step) }
     ensures { OnOk result (out.new ≡ out.old ++ jump_record step) }
@@ -34,28 +34,28 @@ pub fn put_jump(out: &mut Bytes, step: Point) -> Result<(), Memory>
     put_long(out, JUMP, step)
 }
 
-/// Adds the record of a trim.
+/// Appends the record of a trim.
 pub fn put_trim(out: &mut Bytes) -> Result<(), Memory>
     ensures { OnOk result (out.new ≡ out.old ++ trim_record) }
 {
     out.append(&TRIM)
 }
 
-/// Adds the record of a stop after so many others.
+/// Appends the record of a stop after `before` others.
 pub fn put_stop(out: &mut Bytes, before: u32) -> Result<(), Memory>
     ensures { OnOk result (out.new ≡ out.old ++ stop_record before) }
 {
     out.append(&[0xFE, 0xB0, turn(before)])
 }
 
-/// The last byte of a stop: 2 and 1 in turn.
+/// Returns the last byte of a stop: 2 and 1 in turn.
 fn turn(before: u32) -> u8
     ensures { result ≡ turn_of before }
 {
     if before % 2 == 0 { 2 } else { 1 }
 }
 
-/// Adds the coordinates of a move in two bytes each.
+/// Appends the coordinates of a move in two bytes each.
 fn put_long(out: &mut Bytes, marks: u8, step: Point) -> Result<(), Memory>
     requires step { IsTrue (is_within LIMIT step) }
     requires marks { marks ≤ 48 }
@@ -66,7 +66,7 @@ fn put_long(out: &mut Bytes, marks: u8, step: Point) -> Result<(), Memory>
     Ok(())
 }
 
-/// A number in two bytes, the higher first, with those marks.
+/// Returns a number in two bytes, the higher first, with its marks.
 fn long_bytes(marks: u8, number: i32) -> [u8; 2]
     requires number { unsigned_abs number ≤ LIMIT }
     requires marks { marks ≤ 48 }
@@ -85,7 +85,7 @@ fn short_byte(number: i32) -> u8
     unsigned(64, number) as u8
 }
 
-/// A number from minus the half up to below the half, as a number below twice the half.
+/// Returns a number from minus the half to below the half, encoded as two's complement.
 fn unsigned(half: u32, number: i32) -> u32
     requires half { 0 < half }
     requires most { half ≤ 2048 }
@@ -95,7 +95,7 @@ fn unsigned(half: u32, number: i32) -> u32
     number.rem_euclid(2 * half as i32) as u32
 }
 
-/// Says whether the writer spells a number in one byte.
+/// Returns whether the writer encodes a number in one byte.
 fn is_short(number: i32) -> bool
     ensures { result ≡ is_short_number number }
 {

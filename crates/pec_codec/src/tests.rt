@@ -7,7 +7,7 @@ use std::alloc::{AllocError, Global};
 use std::process::Abort;
 use std::test::Fail;
 
-/// The sizes of the pieces that blocks are fed in, in bytes; no block has as many as the last.
+/// The sizes in bytes of the chunks that blocks are fed in; each block has fewer bytes than the last.
 const SIZES: [usize; 9] = [1, 2, 3, 5, 511, 512, 513, 4_096, 1_000_000];
 
 /// A reader of blocks, and the number of bytes fed to it.
@@ -49,7 +49,7 @@ impl Counted {
     }
 }
 
-/// What stands in a block.
+/// Returns the label, the threads, the commands and the end of a loaded design.
 fn parts(loaded: &Loaded) -> (&[u8], &[u8], &[Command], bool) {
     let design = &loaded.design;
     (
@@ -60,7 +60,7 @@ fn parts(loaded: &Loaded) -> (&[u8], &[u8], &[Command], bool) {
     )
 }
 
-/// What the block at an offset of a file reads as: at once, and by one reader in pieces of each size.
+/// Reads the block at an offset of a file: at once, and by one reader in chunks of each size.
 fn read(rt: &impl Abort, alloc: Global, bytes: &[u8], at: u32) -> Result<Loaded, ReadFault> {
     let whole = read_block(alloc, bytes, at as u64);
     let mut reader = Counted::new(alloc);
@@ -93,7 +93,7 @@ fn at(x: i32, y: i32) -> Command {
     Command::Stitch(Point { x, y })
 }
 
-/// A block of a blank header and those records.
+/// Returns a block of a blank header and records.
 fn block_of(alloc: Global, records: &[u8]) -> Result<Vec<u8>, AllocError> {
     let mut bytes = Vec::new(alloc);
     for _ in 0..528 {
@@ -103,7 +103,7 @@ fn block_of(alloc: Global, records: &[u8]) -> Result<Vec<u8>, AllocError> {
     Ok(bytes)
 }
 
-/// A file whose block begins at that offset.
+/// Returns a file whose block begins at an offset.
 fn file_of(alloc: Global, start: u32, records: &[u8]) -> Result<Vec<u8>, AllocError> {
     let mut bytes = block_of(alloc, records)?;
     for _ in 0..start {

@@ -21,8 +21,8 @@ const END: u8 = 0xFF;
 /// A blank thumbnail.
 const BLANK: [u8; THUMBNAIL_LENGTH] = [0; THUMBNAIL_LENGTH];
 
-/// The block of a design. The acts are judged in order, and at one act the refusals come in the order
-/// of `WriteFault`. What is written reads back, wherever in a file it stands.
+/// Writes a design as a block. The acts are judged in order, and the first refusal is reported; at one act
+/// the refusals are tested in the order of `WriteFault`. A written block reads back at any offset of a file.
 pub fn write_block(alloc: Global, design: &Design) -> Result<Bytes, WriteFault>
     ensures value { Writes (writes design.now) result }
     ensures laws { KeepsBlockLaws design.now }
@@ -32,7 +32,7 @@ pub fn write_block(alloc: Global, design: &Design) -> Result<Bytes, WriteFault>
     new_block(alloc, design)
 }
 
-/// The place of the header is filled last, since it tells how long the records are.
+/// Returns the block of a design. The header is filled last, since it contains the length of the records.
 fn new_block(alloc: Global, design: &Design) -> Result<Bytes, WriteFault>
     ensures { Writes (writes design.now) result }
 {
@@ -44,7 +44,7 @@ fn new_block(alloc: Global, design: &Design) -> Result<Bytes, WriteFault>
     Ok(block)
 }
 
-/// Adds the records of a design and their end, and gives the number of its stops.
+/// Appends the records of a design and their end, and returns the number of its stops.
 fn put_body(out: &mut Bytes, design: &Design) -> Result<u32, WriteFault>
     ensures value { PutsBody design.now out.old result out.new }
     ensures stops { IfOk result (λ stops. stops ≤ MAX_STOPS) }
@@ -57,7 +57,7 @@ fn put_body(out: &mut Bytes, design: &Design) -> Result<u32, WriteFault>
     Ok(standing.stops)
 }
 
-/// The block of a design with its header in the place of the first bytes.
+/// Returns the block of a design with its header written over the first bytes.
 fn with_header(alloc: Global, block: Bytes, design: &Design, stops: u32) -> Result<Bytes, Memory>
     requires stops { stops ≤ MAX_STOPS }
     requires room { HEADER_LENGTH ≤ length block }
@@ -70,7 +70,7 @@ fn with_header(alloc: Global, block: Bytes, design: &Design, stops: u32) -> Resu
     Ok(with_front(block, header.as_slice()))
 }
 
-/// Adds the thumbnails of a design with so many stops.
+/// Appends the thumbnails of a design with `stops` stops.
 fn put_thumbnails(out: &mut Bytes, stops: u32) -> Result<(), Memory>
     requires { stops ≤ MAX_STOPS }
     ensures { OnOk result (out.new ≡ out.old ++ thumbnails_of stops) }
