@@ -73,7 +73,7 @@ reads_whole m front is d laws =
     (if_behind front (λ bytes. ReadsWhole m d bytes)
     (λ block. (before : List ℕ) → ReadsBack d block before) (whole_file m front is d) (writes d) laws.back)
 
--- a front that is known, and the block behind it
+-- a front that is known, and the block after it
 behind_front : (opening : Opening) (front block : List ℕ) → opening.known (front ++ block) ≡ true
     → opening.length ≤ length front → opening.block (front ++ block) ≡ length front
     → reads_from opening 0 (front ++ block) ≡ reads_at (length front) (front ++ block)
@@ -93,7 +93,7 @@ pec_is_behind = record {
   moves = λ block. refl;
 }
 
--- a PES file that is written tells the offset of its block
+-- a written PES file contains the offset of its block
 long_front : (block : List ℕ) → nat_lt (length (pes_front ++ block)) OFFSET_END ≡ false
 long_front block = le-ltb (length (pes_front ++ block)) OFFSET_END (omega (arith, length-append pes_front block))
 

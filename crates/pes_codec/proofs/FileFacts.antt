@@ -43,7 +43,7 @@ known_block = refl
 pub known_offset_end : OFFSET_END ≡ 12
 known_offset_end = refl
 
--- the four bytes behind a signature are not looked at, whatever they are
+-- the four bytes after a signature are not looked at, whatever they are
 pub known_pec_version : pec_reads (codes "#PECxyz!") ≡ Err (fault.Short 8)
 known_pec_version = refl
 

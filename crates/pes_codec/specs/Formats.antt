@@ -1,10 +1,11 @@
--- The formats as their objects mean them.
+-- The meanings of the PEC and PES format objects.
 use Rattle.std.specs.Prelude.{codes}
 use Rattle.format_traits.specs.Meanings.{Meaning}
 use Rattle.pec_codec.specs.declared.block.TheConstants.{LIMIT}
 use Rattle.pes_codec.specs.Reading.{pec_moves, pec_reads, pec_shown, pes_moves, pes_reads, pes_shown}
 use Rattle.pes_codec.specs.Writing.{pec_writes, pes_writes}
 
+-- The meaning of the PEC format: ending, limit, reading, writing and moves.
 abbrev pub pec : Meaning
 pec = record {
   ending = codes "pec";
@@ -15,6 +16,7 @@ pec = record {
   shown = pec_shown;
 }
 
+-- The meaning of the PES format: ending, limit, reading, writing and moves.
 abbrev pub pes : Meaning
 pes = record {
   ending = codes "pes";

@@ -1,9 +1,10 @@
--- What both formats keep besides the acts.
+-- The round trip of PEC and PES files, with the label and the threads.
 use Rattle.std.specs.Prelude.{ℕ, List, IsOkAnd}
 use Rattle.design_model.specs.Designs.{DesignValue}
 use Rattle.format_traits.specs.Meanings.{Meaning}
 use Rattle.pec_codec.specs.Laws.{Restores}
 
--- the bytes read as a design with the same acts, the same label, and the same thread of each block
+-- Round trip: the bytes read as a design with the same acts, the same label and the same thread of
+-- each block.
 abbrev pub ReadsWhole : Meaning → DesignValue → List ℕ → Type 0
 ReadsWhole m d bytes = IsOkAnd (m.reads bytes) (λ loaded. Restores d loaded)

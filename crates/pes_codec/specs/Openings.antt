@@ -1,4 +1,5 @@
--- How a file opens: with so many bytes, by which it is known and which tell where its block is.
+-- The front of a file: the bytes by which its format is recognised, and which contain the offset of
+-- its block.
 use Rattle.std.specs.Prelude.{ℕ, ◌+◌, List, [], Bool, length, drop, nat_lt, Result, Err, if◌then◌else◌}
 use Rattle.design_model.specs.declared.command.Command.{Command}
 use Rattle.format_traits.specs.declared.fault.ReadFault.{ReadFault}
@@ -9,31 +10,34 @@ use Rattle.pec_codec.specs.Reading.{layout}
 use Rattle.pes_codec.specs.declared.front.TheConstants.{OFFSET_END, PEC_BLOCK}
 use Rattle.pes_codec.specs.Files.{block_offset, is_pec_file, is_pes_file}
 
+-- The layout of a front: its length, the test that recognises the format, and the offset of the
+-- block.
 pub record Opening : Type 0 where
   pub length : ℕ
   pub known : List ℕ → Bool
   pub block : List ℕ → ℕ
 
--- the block of a PEC file stands at one offset
+-- The front of a PEC file, whose block has a fixed offset.
 abbrev pub pec_opening : Opening
 pec_opening = record { length = PEC_BLOCK; known = is_pec_file; block = λ bytes. PEC_BLOCK }
 
--- that of a PES file at the offset that it tells, which may lie in its own front
+-- The front of a PES file, which contains the offset of the block. The block may begin within the
+-- front.
 abbrev pub pes_opening : Opening
 pes_opening = record { length = OFFSET_END; known = is_pes_file; block = block_offset }
 
--- what bytes at an offset read as of which the first, so many, stand before the block
+-- The result of bytes at an offset, of which the first `skip` are before the block.
 abbrev pub reads_behind : ℕ → ℕ → List ℕ → Result Loaded ReadFault
 reads_behind skip at bytes =
     if nat_lt (length bytes) skip then Err (fault.Short (at + length bytes))
     else reads_by layout (at + skip) (drop skip bytes)
 
--- the commands that they give
+-- The commands of bytes at an offset, of which the first `skip` are before the block.
 abbrev pub given_behind : ℕ → ℕ → List ℕ → List Command
 given_behind skip at bytes =
     if nat_lt (length bytes) skip then [] else given_by layout (at + skip) (drop skip bytes)
 
--- what a file reads as whose first byte has that offset
+-- The result of a file whose first byte has the offset `at`.
 abbrev pub reads_from : Opening → ℕ → List ℕ → Result Loaded ReadFault
 reads_from opening at bytes =
     if opening.known bytes
@@ -41,7 +45,7 @@ reads_from opening at bytes =
     else reads_behind (opening.block bytes) at bytes)
     else Err (fault.Signature at)
 
--- the commands that it gives
+-- The commands of a file whose first byte has the offset `at`.
 abbrev pub given_from : Opening → ℕ → List ℕ → List Command
 given_from opening at bytes =
     if opening.known bytes
@@ -49,7 +53,7 @@ given_from opening at bytes =
     else given_behind (opening.block bytes) at bytes)
     else []
 
--- why a file that ends in its front is not read
+-- The refusal of a file that ends in its front.
 abbrev pub front_fault : Opening → ℕ → List ℕ → ReadFault
 front_fault opening at bytes =
     if opening.known bytes then fault.Short (at + length bytes) else fault.Signature at

@@ -1,4 +1,4 @@
--- What files read as: all of it stands in their block.
+-- The results of reading PEC and PES files: those of the block in the file.
 use Rattle.std.specs.Prelude.{ℕ, List, [], length, nat_lt, Result, if◌then◌else◌}
 use Rattle.design_model.specs.declared.command.Command.{Command}
 use Rattle.design_model.specs.declared.point.Point.{Point}
@@ -9,21 +9,27 @@ use Rattle.pes_codec.specs.declared.front.TheConstants.{OFFSET_END, PEC_BLOCK}
 use Rattle.pes_codec.specs.Files.{block_offset, is_pec_file, is_pes_file}
 use Rattle.pes_codec.specs.Openings.{given_from, pec_opening, pes_opening, reads_from}
 
+-- The result of reading a PEC file.
 abbrev pub pec_reads : List ℕ → Result Loaded ReadFault
 pec_reads bytes = reads_from pec_opening 0 bytes
 
+-- The commands of a PEC file's records that are complete in the bytes.
 abbrev pub pec_shown : List ℕ → List Command
 pec_shown bytes = given_from pec_opening 0 bytes
 
+-- The moves of a PEC file's records, before its end or its first refusal.
 abbrev pub pec_moves : List ℕ → List Point
 pec_moves bytes = if is_pec_file bytes then moves_at PEC_BLOCK bytes else []
 
+-- The result of reading a PES file.
 abbrev pub pes_reads : List ℕ → Result Loaded ReadFault
 pes_reads bytes = reads_from pes_opening 0 bytes
 
+-- The commands of a PES file's records that are complete in the bytes.
 abbrev pub pes_shown : List ℕ → List Command
 pes_shown bytes = given_from pes_opening 0 bytes
 
+-- The moves of a PES file's records, before its end or its first refusal.
 abbrev pub pes_moves : List ℕ → List Point
 pes_moves bytes =
     if is_pes_file bytes

@@ -1,17 +1,19 @@
--- What a design is written as: its block behind the front of a file.
+-- The results of writing a design as a PEC or PES file: the front of the file, and the block.
 use Rattle.std.specs.Prelude.{ℕ, List, ◌++◌, Result, Ok, Err}
 use Rattle.design_model.specs.Designs.{DesignValue}
 use Rattle.format_traits.specs.declared.fault.WriteFault.{WriteFault}
 use Rattle.pec_codec.specs.Writing.{writes}
 use Rattle.pes_codec.specs.Files.{pec_front, pes_front}
 
--- a block behind other bytes; a refusal stays
+-- A block after the front of a file; a refusal stays.
 abbrev pub behind : List ℕ → Result (List ℕ) WriteFault → Result (List ℕ) WriteFault
 behind front (Ok block) = Ok (front ++ block)
 behind front (Err f) = Err f
 
+-- The result of writing a design as a PEC file.
 abbrev pub pec_writes : DesignValue → Result (List ℕ) WriteFault
 pec_writes d = behind pec_front (writes d)
 
+-- The result of writing a design as a PES file.
 abbrev pub pes_writes : DesignValue → Result (List ℕ) WriteFault
 pes_writes d = behind pes_front (writes d)

@@ -5,7 +5,7 @@ use format_traits::{Decoder, Loaded, ReadFault, RecordDecoder};
 use pec_codec::{PecRecords, block_decoder};
 use std::alloc::Global;
 
-/// The decoder of files whose block stands behind a front.
+/// The decoder of files whose block comes after a front.
 #[derive(Drop)]
 pub struct FileDecoder<F: FileFront + Drop> {
     front: F,
@@ -19,7 +19,7 @@ impl<F: FileFront + Drop> FileDecoder<F> {
     ghost use Rattle.pes_codec.specs.FileStreams.{so_far_at, stream_at, stream_behind, stream_from};
     ghost use Rattle.pes_codec.specs.Openings.{front_fault};
 
-    /// A decoder that has to begin.
+    /// Returns a decoder, which must begin before it takes bytes.
     pub fn new(alloc: Global, front: F) -> Self {
         FileDecoder {
             front,
@@ -28,7 +28,7 @@ impl<F: FileFront + Drop> FileDecoder<F> {
         }
     }
 
-    /// Why a file that ends in its front is not read.
+    /// Returns the refusal of a file that ends in its front.
     fn front_fault(&self, at: u64, bytes: &[u8]) -> ReadFault
         requires { at + length bytes.now < 2 ^ 64 }
         ensures { result ≡ front_fault F.opening at bytes.now }
@@ -61,7 +61,7 @@ impl<F: FileFront + Drop> FileDecoder<F> {
         self.take_before(at, skip, bytes)
     }
 
-    /// Goes on to the block, which begins behind so many bytes.
+    /// Continues to the block, which begins after `skip` bytes, and takes its complete records.
     fn take_before(&mut self, at: u64, skip: u64, bytes: &[u8]) -> Result<usize, Memory>
         requires { at + length bytes.now < 2 ^ 64 }
         ensures { IfOk result (λ size. Takes (stream_behind skip)

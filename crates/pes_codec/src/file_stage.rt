@@ -1,14 +1,15 @@
 use format_traits::ReadFault;
 
-/// Where a reader of files stands.
+/// The stage of a reader in its file.
 #[derive(Clone, Copy, Debug, PartialEq, Eq)]
 pub enum FileStage {
-    /// In the front. A file that ends here is refused for that.
+    /// In the front. The fault is that of a file that ends here.
     Front(ReadFault),
-    /// Before the block, by so many bytes. The file has come up to the offset `end`.
+    /// Before the block, which begins after `skip` more bytes. The bytes that were read end at the offset
+    /// `end`.
     Before { skip: u64, end: u64 },
     /// In the block.
     Block,
-    /// Behind a front that isn't known.
+    /// After a front that is not recognised.
     Refused(ReadFault),
 }

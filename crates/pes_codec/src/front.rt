@@ -8,13 +8,13 @@ use format_traits::WriteFault;
 use pec_codec::write_block;
 use std::alloc::Global;
 
-/// The offset of the block of a PEC file.
+/// The offset of the block in a PEC file.
 pub const PEC_BLOCK: usize = 8;
 
-/// The bytes of a PES file up to the end of its block's offset.
+/// The number of bytes of a PES file up to the end of the block's offset.
 pub const OFFSET_END: usize = 12;
 
-/// The block of a design behind the front of a file.
+/// Writes a design as a block after the front of a file.
 pub fn write_behind(alloc: Global, front: &[u8], design: &Design) -> Result<Bytes, WriteFault>
     ensures value { Writes (behind front.now (writes design.now)) result }
     ensures laws { KeepsBlockLaws design.now }

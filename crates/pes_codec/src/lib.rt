@@ -1,4 +1,4 @@
-//! The formats PEC and PES: files whose design stands in a PEC block.
+//! The formats PEC and PES: files whose design is in a PEC block.
 #![tactic(auto)]
 
 mod file_decoder;

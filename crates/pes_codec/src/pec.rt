@@ -44,7 +44,7 @@ impl Pec {
     ghost use Rattle.format_traits.specs.Feeding.{IsFresh};
     ghost use Rattle.pes_codec.specs.Reading.{pec_reads, pec_shown};
 
-    /// The format object, to which nothing was fed. It takes no memory.
+    /// Returns a format object to which nothing was fed. Allocates nothing.
     pub fn new(alloc: Global) -> Pec
         ensures { IsFresh pec_reads pec_shown (⟦<Pec as Format>⟧.feeding result) }
     {
@@ -84,7 +84,7 @@ impl Format for Pec {
         ensures plain { IsPlain pec_meaning.limit design.now
             → IsOk (pec_meaning.writes design.now) }
 
-        // The label and the thread of each block of colour are read back too.
+        // The label and the thread of each colour block are read back too.
         ensures whole { IfOk result (λ bytes. ReadsWhole pec_meaning design.now bytes) }
     {
         write_file(alloc, design)

@@ -47,7 +47,7 @@ impl Pes {
     ghost use Rattle.format_traits.specs.Feeding.{IsFresh};
     ghost use Rattle.pes_codec.specs.Reading.{pes_reads, pes_shown};
 
-    /// The format object, to which nothing was fed. It takes no memory.
+    /// Returns a format object to which nothing was fed. Allocates nothing.
     pub fn new(alloc: Global) -> Pes
         ensures { IsFresh pes_reads pes_shown (⟦<Pes as Format>⟧.feeding result) }
     {
@@ -87,7 +87,7 @@ impl Format for Pes {
         ensures plain { IsPlain pes_meaning.limit design.now
             → IsOk (pes_meaning.writes design.now) }
 
-        // The label and the thread of each block of colour are read back too.
+        // The label and the thread of each colour block are read back too.
         ensures whole { IfOk result (λ bytes. ReadsWhole pes_meaning design.now bytes) }
     {
         write_file(alloc, design)

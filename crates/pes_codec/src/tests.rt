@@ -7,10 +7,10 @@ use std::alloc::{AllocError, Global};
 use std::process::Abort;
 use std::test::Fail;
 
-/// The sizes of the pieces that files are fed in, in bytes; no file has as many as the last.
+/// The sizes in bytes of the chunks that files are fed in; each file has fewer bytes than the last.
 const SIZES: [usize; 9] = [1, 2, 3, 5, 511, 512, 513, 4_096, 1_000_000];
 
-/// Feeds a piece.
+/// Feeds a chunk.
 fn feed<F: Format>(rt: &impl Abort, format: &mut F, piece: &[u8]) -> Result<(), Memory>
     ensures { IsOk result → (F.feeding format.new).spoiled ≡ false }
 {
@@ -18,7 +18,7 @@ fn feed<F: Format>(rt: &impl Abort, format: &mut F, piece: &[u8]) -> Result<(), 
     format.feed(piece)
 }
 
-/// What stands in a file.
+/// Returns the label, the threads, the commands and the end of a loaded design.
 fn parts(loaded: &Loaded) -> (&[u8], &[u8], &[Command], bool) {
     let design = &loaded.design;
     (
@@ -29,7 +29,7 @@ fn parts(loaded: &Loaded) -> (&[u8], &[u8], &[Command], bool) {
     )
 }
 
-/// What a file reads as: one object reads it whole, and then in pieces of each size.
+/// Reads a file by one object: at once, and then in chunks of each size.
 fn read<F: Format>(
     rt: &impl Abort,
     format: &mut F,
@@ -66,7 +66,7 @@ const RECORDS: [u8; 15] = [
     0x00, 0x00, 0x1E, 0x00, 0x00, 0x1E, 0x62, 0x00, 0x00, 0x62, 0xA0, 0x00, 0xA0, 0x00, 0xFF,
 ];
 
-/// What these records read as.
+/// The commands of the records of the square.
 const READ: [Command; 7] = [
     Command::Stitch(Point { x: 0, y: 0 }),
     Command::Stitch(Point { x: 30, y: 0 }),
@@ -164,7 +164,7 @@ fn files_are_refused_by_signature_and_length(rt: HostRuntime) -> Result<(), Fail
     Ok(())
 }
 
-/// A file with so many bytes of filler, a blank header of its block, and these records.
+/// Returns a file of some bytes of filler, a blank header of its block, and records.
 fn file_of(
     alloc: Global,
     front: &[u8],
@@ -258,7 +258,7 @@ fn large(alloc: Global) -> Result<Design, ModelFault> {
     Ok(design)
 }
 
-/// Compares what a file of the large design reads as.
+/// Compares the result of reading a file of the large design.
 fn compare_large(rt: &impl Abort, loaded: &Loaded) {
     assert_eq!(rt; loaded.ended, true);
     assert_eq!(rt; loaded.design.label(), b"Rose of Damascus".as_slice());
