@@ -50,7 +50,7 @@ abbrev pub commands_along : List NumberedAct → List Command
 commands_along [] = []
 commands_along (a ∷ rest) = commands_of a.act ++ commands_along rest
 
--- they come to the same acts
+-- the commands that are written for acts have the same acts
 pub acts_again : (acts : List NumberedAct) (n : ℕ) (loose : Bool) → IsTrue (are_told loose acts)
     → bare (acts_from n loose false (commands_along acts)) ≡ bare acts
 acts_again [] n loose told = refl

@@ -103,7 +103,7 @@ act_keeps draft a keeps within told none =
           let short = not_refused (passes reach.stops (draft.standing.stops + 1)) (fault.TooManyStops 0) none in
           grind (arith, nat_tests, short)
 
--- the number of the act that an act's commands come to
+-- the number of the act that is computed from an act's commands
 abbrev number_at : ℕ → Act → ℕ
 number_at n (act.Needle p true) = n + 1
 number_at n other = n
@@ -206,11 +206,11 @@ continues_act draft e a extra bytes rest d label threads commands told free is c
       in_range = c.in_range;
     }
 
--- what a draft goes on with, behind a line
+-- what a draft goes on with, after a line
 abbrev GoesOn : ℕ → List (List ℕ) → DesignValue → Type 0
 GoesOn at rest d = (new : Draft) → Keeps 0 new → acts_said at new rest ≡ over d → Continues new (join_with_byte 10 rest) d
 
--- an act that tells no thread
+-- an act whose line has no thread
 act_written : (at behind : ℕ) (draft : Draft) (a : Act) (bytes : List ℕ) (rest : List (List ℕ)) (d : DesignValue)
     → Keeps 0 draft → IsTrue (is_act_in_range a) → stops_in a ≡ 0 → bytes ≡ act_line (thread_of d) draft.standing.stops a
     → GoesOn behind rest d → goes_on draft (taken at draft a) (λ new. acts_said behind new rest) ≡ over d
@@ -242,7 +242,7 @@ block_text t u small is =
     let same : t ≡ u % 256 = omega (arith, small, is) in
     ap (λ n. codes "block " ++ decimal n) same
 
--- a stop, which tells one
+-- a stop, whose line has a thread
 stop_written : (at behind : ℕ) (draft : Draft) (t : ℕ) (bytes : List ℕ) (rest : List (List ℕ)) (d : DesignValue)
     → Keeps 0 draft → bytes ≡ codes "block " ++ decimal t → t < 256 → GoesOn behind rest d
     → goes_on draft (unless_fault (act_fault at draft.standing act.Stop) (with_block t (with_act draft act.Stop)))
@@ -301,7 +301,7 @@ line_written at behind draft bytes rest d (Some (line.Needle p float)) is keeps 
           act_written at behind draft (act.Needle p float) bytes rest d keeps within refl
           (line_is bytes (line.Needle p float) is) again says
 
--- the lines behind the third one
+-- the lines after the third one
 pub acts_written : (parts : List (List ℕ)) (at : ℕ) (draft : Draft) (d : DesignValue) → Keeps 0 draft
     → acts_said at draft parts ≡ over d → Continues draft (join_with_byte 10 parts) d
 acts_written [] at draft d keeps says = not_over draft.design d (read.Short at) says

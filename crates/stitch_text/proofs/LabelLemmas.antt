@@ -63,7 +63,7 @@ printable_to b is =
 false_true : false ≡ true → ⊥
 false_true is = cc
 
--- what the test of a label tells
+-- the meaning of the test of a label
 pub label_from : (label : List ℕ) → is_label label ≡ true → IsLabel label
 label_from label is =
     let outer = and_parts (nat_le (length label) 16) (list_all is_printable label && not (ends_with_space label)) is in
@@ -101,7 +101,7 @@ pub before_last : (bytes : List ℕ) (r : Option (Bor (List ℕ)))
 before_last bytes None says = tt
 before_last bytes (Some x) says = says
 
--- what the label of a line tells
+-- the meaning of the label of a line
 pub record HasLabel (line label : List ℕ) : Type 0 where
   pub is : line ≡ label_line label
   pub good : is_label label ≡ true

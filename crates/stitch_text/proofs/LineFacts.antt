@@ -19,7 +19,7 @@ known_needle = refl
 pub known_float : line_said (codes "float -30000 0") ≡ needle true (negsuc 29999) (pos 0)
 known_float = refl
 
--- a number of any length is one; a line of 32 bytes may say something, and one of 33 none
+-- a number of any length is one; 32 bytes may be a line, and 33 are none
 pub known_far : line_said (codes "needle 1234567890 0") ≡ Some line.Far
 known_far = refl
 
@@ -29,7 +29,7 @@ known_full = refl
 pub known_over_full : line_said (codes "needle 0 123456789012345678901234") ≡ None
 known_over_full = refl
 
--- where one word is no number the line says nothing, however far the other one lies
+-- a line with a word that is no number is no line, however far the other coordinate is
 pub known_no_numbers : (line_said (codes "needle 1234567890 x") ≡ None) × (line_said (codes "needle x 1234567890") ≡ None)
     × (line_said (codes "float 7 x") ≡ None) × (line_said (codes "float 7 -1234567890") ≡ Some line.Far)
 known_no_numbers = (refl, refl, refl, refl)

@@ -1,4 +1,4 @@
--- Lines as texts: what a line says, and the text of what it says.
+-- Lines as texts: the parsed line of a text, and the canonical text of a line.
 use Rattle.std.proofs.Common.{◌≡◌, ℕ, ℤ, pos, negsuc, ◌<◌, ◌≤◌, ◌==◌, Bool, true, false, not, nat_le, nat_lt, unsigned_abs, List, [], ◌∷◌, ◌++◌, None, Some, All, IsTrue, bytes_eq, codes, length, length-append, if◌then◌else◌, subst, ap, sym, refl, ◌∙◌, arith}
 use Rattle.std.proofs.lemmas.Bool.{and_from, and_parts, not-true}
 use Rattle.std.proofs.lemmas.Bool.Decides.{nat_tests}
@@ -66,7 +66,7 @@ short_said : (bytes : List ℕ) → length bytes ≤ 32 → line_said bytes ≡ 
 short_said bytes short =
     let test : nat_lt MAX_LINE (length bytes) ≡ false = grind (arith, nat_tests, short) in rw test refl
 
--- the text of a line says it, and is one line
+-- the text of a line is parsed as the line, and has no end of a line in it
 pub record IsLine (bytes : List ℕ) (l : ListLine) : Type 0 where
   pub said : line_said bytes ≡ Some l
   pub kept : Lacks bytes
@@ -149,7 +149,7 @@ block_is thread small =
 pub trim_is : IsLine (codes "trim") line.Trim
 trim_is = record { said = refl; kept = lacks_from (codes "trim") refl }
 
--- what bytes are that say a line
+-- the bytes that are parsed as a line
 abbrev pub SaysLine : List ℕ → ListLine → Type 0
 SaysLine bytes (line.Block thread) = (bytes ≡ codes "block " ++ decimal thread) × (thread < 256)
 SaysLine bytes (line.Needle p float) = bytes ≡ needle_line float p
@@ -161,7 +161,7 @@ SaysLine bytes line.End = bytes ≡ codes "end"
 same_word : (word text : List ℕ) → bytes_eq word text ≡ true → word ≡ text
 same_word word text found = (bytes_eq-Decides word text).0 found
 
--- the same of what is said
+-- the text of a parsed line
 is_said : (bytes : List ℕ) (one l : ListLine) → Some one ≡ Some l → SaysLine bytes one → SaysLine bytes l
 is_said bytes one l same says = subst (λ l. SaysLine bytes l) (same_Some one l same) says
 
@@ -227,7 +227,7 @@ words_are (word ∷ number ∷ []) l says = two_words word number l says
 words_are (word ∷ x ∷ y ∷ []) l says = three_words word x y l says
 words_are (word ∷ x ∷ y ∷ more ∷ rest) l says = absurd (none-some l says)
 
--- what says a line is its text
+-- bytes that are parsed as a line are its canonical text
 pub line_is : (bytes : List ℕ) (l : ListLine) → line_said bytes ≡ Some l → SaysLine bytes l
 line_is bytes l says = by_test (nat_lt MAX_LINE (length bytes)) refl where
   by_test : (b : Bool) → nat_lt MAX_LINE (length bytes) ≡ b → SaysLine bytes l

@@ -77,7 +77,7 @@ pub known_far : writes (sewn (5 ∷ []) (Stitch (point (pos 0) (pos 0)) ∷ Jump
 unfolding digits
 known_far = refl
 
--- so many stops came, and the acts so far take that room
+-- a state after n stops, with the room of the acts so far
 abbrev pub standing : ℕ → ℕ → Standing
 standing stops room = record { loose = true; place = point (pos 0) (pos 0); stops = stops; room = room }
 

@@ -1,4 +1,4 @@
--- What the bytes of a list come to that are taken line after line.
+-- The results of the bytes of a list that are taken line by line.
 use Rattle.std.proofs.Common.{◌≡◌, ◌≢◌, ℕ, ◌+◌, ◌-◌, ◌<◌, ◌≤◌, List, [], ◌∷◌, ◌++◌, length, drop, refl, ap, sym, subst, ◌∙◌, arith}
 use Rattle.std.proofs.lemmas.List.{drop-drop, drop_all, length-drop}
 use Rattle.format_traits.specs.Streams.{ComesOn, IsSettled, SoFar, Stream, Takes}

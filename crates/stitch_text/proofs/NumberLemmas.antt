@@ -1,4 +1,4 @@
--- Numbers as words: what a word says, and the one word that says it.
+-- Numbers as words: the number of a word, and the canonical word of a number.
 use Rattle.std.proofs.Common.{◌≡◌, ℕ, ℤ, pos, negsuc, zero, suc, ◌<◌, ◌≤◌, ◌^◌, ◌==◌, ◌&&◌, ◌||◌, Bool, true, false, not, nat_le, unsigned_abs, List, [], ◌∷◌, length, get_or, if◌then◌else◌, int_le, true≢false, subst, ap, sym, refl, ◌∙◌, inl, inr, arith}
 use lib.Dec.{leb-zero}
 use Rattle.std.proofs.lemmas.Bool.{and_from, and_parts, cases_order, not-true}
@@ -39,7 +39,7 @@ pub minus_first : (z : ℤ) → int_le (pos 0) z ≡ false → 45 ∷ decimal (u
 minus_first (pos n) here = absurd (true≢false (sym (leb-zero n) ∙ here))
 minus_first (negsuc n) here = refl
 
--- digits spell the number that they write
+-- digits are parsed as the number that was written
 numeral_some : (ds : List ℕ) → 0 < length ds → all_ascii_digits ds ≡ true → is_numeral ds ≡ true
 numeral_some [] some digits = absurd (omega arith)
 numeral_some (b ∷ ds) some digits = digits
@@ -58,7 +58,7 @@ no_minus (b ∷ ds) digits some =
     let test : (b == 45) ≡ false = grind (arith, nat_tests, both.0) in
     rw test refl
 
--- the spelling of a number spells that number
+-- the canonical text of a number is parsed as that number
 signed_read : (z : ℤ) → unsigned_abs z ≤ 999999999 → whole_of (signed_decimal z) ≡ whole.Value z
 signed_read (pos n) small =
     let fits : n < 2 ^ 64 = omega (arith, small) in
@@ -84,7 +84,7 @@ plain_above_zero (b ∷ ds) more =
     let lead : (b == 48) ≡ false = grind (arith, nat_tests, more) in
     rw (minus, lead) refl
 
--- the spelling of a number has no zero that it could do without
+-- the canonical text of a number has no leading zero
 signed_plain : (z : ℤ) → unsigned_abs z ≤ 999999999 → is_plain (signed_decimal z) ≡ true
 signed_plain (pos n) small = elim (cases_order n 0) [
   | inl none ↦ rw (none, decimal_digit 0 (omega arith)) refl
@@ -94,12 +94,12 @@ signed_plain (pos n) small = elim (cases_order n 0) [
 signed_plain (negsuc n) small =
     ap not (above_zero (decimal (suc n)) (first_decimal (suc n) (omega arith) (omega (arith, small))))
 
--- a number is read from its spelling
+-- a number is read from its canonical text
 pub number_read : (z : ℤ) → unsigned_abs z ≤ 999999999 → number_in (signed_decimal z) ≡ whole.Value z
 number_read z small =
     ap (λ (plain : Bool). if plain then whole_of (signed_decimal z) else whole.NotANumber) (signed_plain z small) ∙ signed_read z small
 
--- a word that spells this number
+-- a word that is parsed as this number
 pub record Spells (word : List ℕ) (z : ℤ) : Type 0 where
   pub is : signed_decimal z ≡ word
   pub small : unsigned_abs z ≤ 999999999
@@ -131,14 +131,14 @@ digits_are minus ds z says = by_tests (is_numeral ds) (nat_le (digits_value 10 d
     value = same_value (signed minus (digits_value 10 ds)) z (rw (is, fits) at says);
   }
 
--- digits without a leading zero are the spelling of what they write
+-- digits without a leading zero are the canonical text of their number
 digits_spelled : (ds : List ℕ) → is_numeral ds ≡ true → (get_or ds 0 0 ≡ 48 → length ds ≡ 1) → digits_value 10 ds ≤ 999999999
     → decimal (digits_value 10 ds) ≡ ds
 digits_spelled [] numeral lead small = absurd (let no : ⊥ = cc in no)
 digits_spelled (b ∷ ds) numeral lead small =
     decimal-digits_value own (b ∷ ds) numeral (omega arith) lead (omega (arith, small))
 
--- a number behind a minus sign
+-- a number after a minus sign
 minus_is : (ds : List ℕ) (z : ℤ) → begins_with_zero ds ≡ false → AreRead true ds z → Spells (45 ∷ ds) z
 minus_is ds z lead read =
     let text = digits_spelled ds read.numeral (λ first. absurd (no_zero ds read.numeral lead first)) read.small in
@@ -165,7 +165,7 @@ plus_is b ds z lead read =
     let text = digits_spelled (b ∷ ds) read.numeral (λ first. grind (arith, nat_tests, lead, first)) read.small in
     subst (λ z. Spells (b ∷ ds) z) read.value (record { is = text; small = read.small })
 
--- the number that is read from a word is the one that it spells
+-- a word is the canonical text of the number that is read from it
 pub number_is : (word : List ℕ) (z : ℤ) → number_in word ≡ whole.Value z → Spells word z
 number_is [] z says = absurd (no_value z says)
 number_is (b ∷ ds) z says = by_tests (is_plain (b ∷ ds)) (b == 45) refl refl where

@@ -24,7 +24,7 @@ use Rattle.stitch_text.proofs.LabelLemmas.{label_from, label_is}
 use Rattle.stitch_text.proofs.LineLemmas.{line_is}
 use Rattle.stitch_text.proofs.Continuing.{Continues, Keeps, acts_written, block_text, not_over, over, thread_is}
 
--- a line that has an end, and what stands behind it
+-- a line that has an end, and what stands after it
 next_some : {P : Type 0} (at : ℕ) (e d : DesignValue) (parts : List (List ℕ)) (f : List ℕ → List (List ℕ) → Said)
     → next_line at e parts f ≡ over d
     → ((bytes : List ℕ) (rest : List (List ℕ)) → join_with_byte 10 parts ≡ bytes ++ 10 ∷ join_with_byte 10 rest

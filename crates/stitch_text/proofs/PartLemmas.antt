@@ -29,7 +29,7 @@ before_parts b true (part ∷ parts) (next ∷ behind) some more = refl
 before_parts b false (part ∷ []) (next ∷ behind) some more = refl
 before_parts b false (part ∷ other ∷ parts) (next ∷ behind) some more = refl
 
--- the parts of bytes one behind another
+-- the parts of bytes one after another
 parts_on : (mark : ℕ) (bytes more : List ℕ) → parted mark (bytes ++ more) ≡ onto_last (parted mark bytes) (parted mark more)
 parts_on mark [] more = behind_none (parted mark more) (some_part mark more) where
   behind_none : (parts : List (List ℕ)) → parts ≢ [] → parts ≡ onto_part [] parts

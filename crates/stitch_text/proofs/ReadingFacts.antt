@@ -19,7 +19,7 @@ abbrev pub lines : List (List ℕ) → List ℕ
 lines [] = []
 lines (line ∷ rest) = line ++ 10 ∷ lines rest
 
--- these lines behind a first line, an empty label and a block in thread 5, which are 31 bytes
+-- these lines after a first line, an empty label and a block in thread 5, which are 31 bytes
 abbrev pub behind_head : List (List ℕ) → List ℕ
 behind_head rest = lines (codes "stitch-list 1" ∷ codes "label []" ∷ codes "block 5" ∷ rest)
 
@@ -116,11 +116,11 @@ known_unended = refl
 pub known_empty : reads [] ≡ Err (fault.Short 0)
 known_empty = refl
 
--- bytes behind the last line
+-- bytes after the last line
 pub known_behind_end : reads (behind_head (codes "end" ∷ []) ++ codes "end") ≡ Err (fault.Control 35)
 known_behind_end = refl
 
--- so many stops came, and the acts so far take that room
+-- a state after n stops, with the room of the acts so far
 abbrev pub standing : Bool → ℕ → ℕ → Standing
 standing loose stops room = record { loose = loose; place = point (pos 0) (pos 0); stops = stops; room = room }
 

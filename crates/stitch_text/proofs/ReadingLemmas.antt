@@ -37,7 +37,7 @@ pub acts_are : (at : ℕ) (draft : Draft) (text line after : List ℕ) → parte
 acts_are at draft text line after are =
     ap (acts_said at draft) are ∙ acts_of_more at draft line (parted 10 after) (some_part 10 after)
 
--- three words and more say nothing
+-- four words and more are no line
 four_words : (word x y : List ℕ) (words : List (List ℕ)) → words ≢ [] → words_said (word ∷ x ∷ y ∷ words) ≡ words_said []
 four_words word x y [] some = absurd (some refl)
 four_words word x y (next ∷ words) some = refl
@@ -47,7 +47,7 @@ pub many_words : (word x behind y rest : List ℕ) → words_in behind ≡ y ∷
 many_words word x behind y rest are =
     ap (λ words. words_said (word ∷ x ∷ words)) are ∙ four_words word x y (words_in rest) (some_part 32 rest)
 
--- another word before two or more says nothing
+-- another word before two or more is no line
 pub other_word : (word x : List ℕ) (words : List (List ℕ)) → words ≢ [] → bytes_eq word (codes "needle") ≡ false
     → bytes_eq word (codes "float") ≡ false → words_said (word ∷ x ∷ words) ≡ words_said []
 other_word word x [] some sewn float = absurd (some refl)

@@ -1,4 +1,4 @@
--- What is written reads again.
+-- What is written reads back.
 use Rattle.std.proofs.Common.{◌≡◌, ℕ, ◌+◌, ◌<◌, ◌≤◌, ◌%◌, ◌==◌, Bool, true, false, not, ◌&&◌, IsTrue, IsOkAnd, List, [], ◌∷◌, ◌++◌, Some, None, Result, Ok, Err, length, nat_le, if◌then◌else◌, refl, ap, sym, ◌∙◌, subst, append-nil, append_assoc, arith}
 use Rattle.std.proofs.lemmas.Bool.{and_from, and_parts}
 use Rattle.std.proofs.lemmas.Bool.Decides.{nat_tests}
@@ -39,13 +39,13 @@ use Rattle.stitch_text.proofs.ReadingLemmas.{block_is as first_block_is}
 pub line_before : (bytes text : List ℕ) → Lacks bytes → parted 10 (bytes ++ 10 ∷ text) ≡ bytes ∷ parted 10 text
 line_before bytes text lacks = slice_split_at (λ (b : ℕ). b == 10) bytes 10 text lacks refl
 
--- what the line of an act says, by the threads of the blocks
+-- the parsed line of an act, by the threads of the blocks
 abbrev pub said_by : (ℕ → ℕ) → ℕ → Act → ListLine
 said_by thread stops (act.Needle p float) = line.Needle p float
 said_by thread stops act.Trim = line.Trim
 said_by thread stops act.Stop = line.Block (thread (stops + 1) % 256)
 
--- the threads that the lines of an act, and of acts, tell
+-- the threads in the lines of an act, and of acts
 abbrev pub threads_in : (ℕ → ℕ) → ℕ → Act → List ℕ
 threads_in thread stops (act.Needle p float) = []
 threads_in thread stops act.Trim = []
@@ -56,7 +56,7 @@ threads_along thread stops [] = []
 threads_along thread stops (a ∷ rest) = threads_in thread stops a.act
     ++ threads_along thread (stops + stops_in a.act) rest
 
--- the draft with one act more, and the thread that its line tells
+-- the draft with one act more, and with the thread in its line
 abbrev pub drafted : (ℕ → ℕ) → Draft → Act → Draft
 drafted thread draft a = record {
   design = record {
@@ -67,7 +67,7 @@ drafted thread draft a = record {
   standing = standing_after LIMIT draft.standing a;
 }
 
--- what is said by a design's three lists
+-- the parsed list of a design's label, threads and acts
 abbrev pub said_all : List ℕ → List ℕ → List Command → Said
 said_all label threads commands = record {
   design = record { label = label; threads = threads; commands = commands };
@@ -97,7 +97,7 @@ same_taken draft a = ap (λ (t : List ℕ). taken_with draft a t) (sym (append-n
 byte_below : (n : ℕ) → n % 256 < 256
 byte_below n = omega arith
 
--- the line of an act says it
+-- the line of an act is parsed as the act
 act_is : (thread : ℕ → ℕ) (stops : ℕ) (a : Act) → IsTrue (is_act_in_range a)
     → IsLine (act_line thread stops a) (said_by thread stops a)
 act_is thread stops (act.Needle p float) within = needle_is float p within
@@ -165,7 +165,7 @@ label_lacks label is =
     lacks_from (label_line label) (list_all-append is_kept label (93 ∷ [])
     ∙ and_from (list_all is_kept label) true (label_kept label inner.0) refl)
 
--- the threads that the list of a design tells
+-- the threads in the list of a design
 abbrev pub threads_told : DesignValue → List ℕ
 threads_told d = (thread_of d 0 % 256) ∷ threads_along (thread_of d) 0 (acts_of d)
 

@@ -38,7 +38,7 @@ known_label = refl
 pub known_block : (parts_said blank stage.Block 29 (codes "block 256" ∷ [] ∷ [])).fault ≡ Some (fault.Control 29)
 known_block = refl
 
--- acts behind the needle
+-- acts after the needle
 pub known_acts : parts_said begun stage.Acts 50 (codes "trim" ∷ codes "trim" ∷ [] ∷ [])
     ≡ said (Stitch place ∷ Trim ∷ []) (Some (fault.Control 55))
 known_acts = refl
@@ -52,7 +52,7 @@ pub known_long_open : parts_said begun (stage.Long (fault.Control 50)) 90 (codes
     ≡ said (Stitch place ∷ []) (Some (fault.Short 92))
 known_long_open = refl
 
--- behind the last line, and behind a refusal
+-- after the last line, and after a refusal
 pub known_ended : parts_said begun stage.Ended 54 ([] ∷ []) ≡ said (Stitch place ∷ []) None
 known_ended = refl
 
@@ -76,7 +76,7 @@ pub known_waiting : most_waiting stage.First ∷ most_waiting stage.Label ∷ mo
     ≡ 32 ∷ 32 ∷ 32 ∷ 32 ∷ 0 ∷ 0 ∷ 0 ∷ []
 known_waiting = refl
 
--- behind more bytes than these of a line at the offset 20
+-- after more bytes than these of a line at the offset 20
 pub known_beyond : beyond 20 stage.First ∷ beyond 20 stage.Label ∷ beyond 20 stage.Block ∷ beyond 20 stage.Acts
     ∷ beyond 20 (stage.Long (fault.Control 7)) ∷ beyond 20 stage.Ended ∷ beyond 20 (stage.Refused (fault.Range 7)) ∷ []
     ≡ stage.Long (fault.Signature 20) ∷ stage.Long (fault.Control 20) ∷ stage.Long (fault.Control 20) ∷ stage.Long (fault.Control 20)

@@ -1,4 +1,4 @@
--- What lines say from a stage on, where the first of them hasn't ended.
+-- The parsed list from a stage on, where the first line is incomplete.
 use Rattle.std.proofs.Common.{◌≡◌, ◌≢◌, ℕ, ◌+◌, ◌<◌, ◌≤◌, Bool, true, false, List, [], ◌∷◌, ◌++◌, Option, None, Some, bytes_eq, length, length-append, if◌then◌else◌, refl, ap, arith}
 use Rattle.std.proofs.lemmas.Bool.{lt-ltb}
 use Rattle.std.proofs.lemmas.Slice.Eq.{bytes_eq-Decides}
@@ -88,7 +88,7 @@ goes_beyond draft s at part (end ∷ next ∷ more) long some = by_stage s long 
   by_stage stage.Ended long = behind_end part long
   by_stage (stage.Refused f) long = refl
 
--- what a list says that ends in a line
+-- the parsed list of a text that ends in a line
 pub ends_here : (draft : Draft) (stage : ListStage) (at : ℕ) (part : List ℕ) → length part ≤ most_waiting stage
     → parts_said draft stage at (part ∷ []) ≡ record { design = draft.design; fault = fault_at (at + length part) stage }
 ends_here draft stage.First at part few = refl

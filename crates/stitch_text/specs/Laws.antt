@@ -1,4 +1,5 @@
--- What holds of all texts: a list is the only text of its design, and it keeps label and threads.
+-- Properties of the stitch list beyond the laws of all formats: each design has one canonical text,
+-- which keeps its label and threads.
 use Rattle.std.specs.Prelude.{◌≡◌, ◌≢◌, ◌↔◌, ℕ, ◌<◌, ◌≤◌, List, All, Ok, Err, IsOk, IsOkAnd}
 use Rattle.design_model.specs.Acts.{acts_of}
 use Rattle.design_model.specs.Designs.{DesignValue, KeepsLimits, thread_of}
@@ -8,32 +9,33 @@ use Rattle.format_traits.specs.Refusals.{stops_of}
 use Rattle.stitch_text.specs.Readings.{reads}
 use Rattle.stitch_text.specs.StitchLists.{writes}
 
--- what was loaded has the label of the design, and the thread of each of its blocks
+-- A loaded design with the label of the design d, and with the thread of each of its blocks.
 pub record IsKept (d : DesignValue) (loaded : Loaded) : Type 0 where
   pub label : loaded.design.label ≡ d.label
   pub threads : (block : ℕ) → block ≤ stops_of (acts_of d)
       → thread_of loaded.design block ≡ thread_of d block
 
--- the list of a design, whose threads are bytes, keeps them
+-- Theorem: the list of a design, whose threads are bytes, reads back with the label and the
+-- threads.
 abbrev pub KeepsLabelAndThreads : Type 0
 KeepsLabelAndThreads = (d : DesignValue) (text : List ℕ) → KeepsLimits d
     → All (λ thread. thread < 256) d.threads → writes d ≡ Ok text
     → IsOkAnd (reads text) (λ loaded. IsKept d loaded)
 
--- a design within its limits that is written as that text
+-- The text is the canonical text of the design d, which is within its limits.
 pub record IsTextOf (text : List ℕ) (d : DesignValue) : Type 0 where
   pub limits : KeepsLimits d
   pub written : writes d ≡ Ok text
 
--- a text that reads as a design is what that design is written as
+-- Theorem: a text that reads as a design is the canonical text of that design.
 abbrev pub ReadsAsWritten : Type 0
 ReadsAsWritten = (text : List ℕ) (loaded : Loaded) → reads text ≡ Ok loaded
     → IsTextOf text loaded.design
 
--- a text reads as a design exactly where it is what some design is written as
+-- Theorem: a text reads as a design exactly where it is the canonical text of some design.
 abbrev pub ReadsWhereWritten : Type 0
 ReadsWhereWritten = (text : List ℕ) → IsOk (reads text) ↔ ((d : DesignValue) × IsTextOf text d)
 
--- no design is refused for a float
+-- Theorem: no design is refused for a float.
 abbrev pub NoFloatIsTooLong : Type 0
 NoFloatIsTooLong = (d : DesignValue) (number : ℕ) → writes d ≢ Err (fault.FloatTooLong number)

@@ -1,4 +1,4 @@
--- What one line of a list says, where a line is its bytes without the 10 that ends it.
+-- The parsing of one line of a list. A line is its bytes without the byte 10 that ends it.
 use Rattle.std.specs.Prelude.{ℕ, ◌-◌, ◌&&◌, pos, Bool, true, false, List, [], ◌∷◌, Option, Some, None, bytes_eq, codes, drop, length, nat_le, nat_lt, take, if◌then◌else◌}
 use Rattle.design_model.specs.declared.whole_number.Whole.{Whole}
 use Rattle.design_model.specs.declared.whole_number.Whole.TheVariants as whole
@@ -9,12 +9,13 @@ use Rattle.stitch_text.specs.StitchLists.{label_line}
 use Rattle.stitch_text.specs.Words.{is_label, number_in}
 use Rattle.text_parts.specs.Parts.{words_in}
 
--- a block whose thread has that number, which must be a byte
+-- The line of a block, whose thread must be a byte.
 abbrev pub block_said : Whole → Option ListLine
 block_said (whole.Value (pos thread)) = if nat_le thread 255 then Some (line.Block thread) else None
 block_said other = None
 
--- a needle act by its coordinates, which is a float or isn't
+-- The line of a needle act, by its coordinates and by whether it is a float; a far point is
+-- reported as `Far`.
 abbrev pub needle_said : Bool → Whole → Whole → Option ListLine
 needle_said float whole.NotANumber y = None
 needle_said float (whole.Value x) (whole.Value y) =
@@ -22,19 +23,19 @@ needle_said float (whole.Value x) (whole.Value y) =
 needle_said float x whole.NotANumber = None
 needle_said float x y = Some line.Far
 
--- the first word of such an act
+-- The first word of the line of a needle act.
 abbrev pub needle_word : Bool → List ℕ
 needle_word true = codes "float"
 needle_word false = codes "needle"
 
--- what a line of one word says
+-- The line of one word, if there is one.
 abbrev pub word_said : List ℕ → Option ListLine
 word_said word =
     if bytes_eq word (codes "trim") then Some line.Trim
     else if bytes_eq word (codes "end") then Some line.End
     else None
 
--- what words say: the first one tells of what kind the line is
+-- The line of some words, if there is one. The first word decides the kind of the line.
 abbrev pub words_said : List (List ℕ) → Option ListLine
 words_said (word ∷ []) = word_said word
 words_said (word ∷ number ∷ []) =
@@ -45,15 +46,15 @@ words_said (word ∷ x ∷ y ∷ []) =
     else None
 words_said words = None
 
--- what a line says, if it says anything; it isn't long
+-- The line that the bytes are parsed as, unless they are too long or no line.
 abbrev pub line_said : List ℕ → Option ListLine
 line_said bytes = if nat_lt MAX_LINE (length bytes) then None else words_said (words_in bytes)
 
--- what stands in the place of the label: behind seven bytes, and before the last one
+-- The bytes between the seventh and the last: those where a label would be.
 abbrev pub in_brackets : List ℕ → List ℕ
 in_brackets bytes = take (length bytes - 8) (drop 7 bytes)
 
--- the label of a line that is the line of a label
+-- The label of a label line; none for any other line.
 abbrev pub label_said : List ℕ → Option (List ℕ)
 label_said bytes =
     if bytes_eq bytes (label_line (in_brackets bytes)) && is_label (in_brackets bytes)

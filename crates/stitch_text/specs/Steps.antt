@@ -1,4 +1,4 @@
--- What it means to add the lines of acts to a text.
+-- The meaning of appending the lines of acts to a text.
 use Rattle.std.specs.Prelude.{◌≡◌, ℕ, List, ◌∷◌, ◌++◌, [], None, Result, Ok, Err}
 use Rattle.design_model.specs.declared.act.NumberedAct.{NumberedAct}
 use Rattle.format_traits.specs.declared.fault.WriteFault.{WriteFault}
@@ -8,7 +8,7 @@ use Rattle.format_traits.specs.Spellings.{RefusedAs}
 use Rattle.stitch_text.specs.declared.stitch_list.TheConstants.{LIMIT}
 use Rattle.stitch_text.specs.StitchLists.{act_line, act_lines, reach}
 
--- what an answer of adding the line of an act means
+-- Meaning of each answer of appending the line of an act.
 abbrev pub PutsLine : {T : Type 0} → (ℕ → ℕ) → Standing → NumberedAct → List ℕ → Result T WriteFault
     → Standing → List ℕ → Type 0
 PutsLine thread before a old (Ok _) after new = (refusal_at reach before a ≡ None)
@@ -16,7 +16,7 @@ PutsLine thread before a old (Ok _) after new = (refusal_at reach before a ≡ N
     × (after ≡ standing_after LIMIT before a.act)
 PutsLine thread before a old (Err f) after new = RefusedAs (refusal_at reach before a) f
 
--- what an answer of adding the lines of all acts, and the end, means
+-- Meaning of each answer of appending the lines of all acts, and the end line.
 abbrev pub PutsLines : {T : Type 0} → (ℕ → ℕ) → List NumberedAct → List ℕ → Result T WriteFault
     → List ℕ → Type 0
 PutsLines thread acts old (Ok _) new = (first_refusal reach acts ≡ None)

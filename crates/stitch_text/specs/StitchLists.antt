@@ -1,5 +1,5 @@
 -- The stitch list of a design, as bytes of ASCII. Own format: a label, a thread for each block, and
--- a line for each act. Each line ends with the byte 10, words stand one space (32) apart, and
+-- a line for each act. Each line ends with the byte 10, words are separated by one space (32), and
 -- numbers have no leading zeros. Points are in tenths of a millimetre, y downwards.
 use Rattle.std.specs.Prelude.{ℕ, ◌+◌, ◌%◌, Bool, true, false, List, [], ◌∷◌, ◌++◌, Some, None, Result, codes}
 use Rattle.std.specs.Fmt.{decimal, signed_decimal}
@@ -14,56 +14,57 @@ use Rattle.format_traits.specs.declared.standing.Reach.{Reach}
 use Rattle.format_traits.specs.Refusals.{first_refusal, stops_in, unless_refused}
 use Rattle.stitch_text.specs.declared.stitch_list.TheConstants.{LIMIT, MAX_STOPS}
 
--- what can be written: stitches within the limit, floats without a most, and stops up to a most
+-- The limits of what a list can contain: stitches within the limit, any floats, and a maximum of
+-- stops.
 abbrev pub reach : Reach
 reach = record { limit = LIMIT; float_hops = None; stops = Some MAX_STOPS }
 
--- the first line
+-- The first line, which is the signature of the format.
 abbrev pub first_line : List ℕ
 first_line = codes "stitch-list 1"
 
--- the label, between brackets
+-- The second line: the label, in brackets.
 abbrev pub label_line : List ℕ → List ℕ
 label_line label = codes "label [" ++ (label ++ codes "]")
 
--- a block begins, with its thread, which is a byte
+-- The line that begins a block, with the thread of the block, which is a byte.
 abbrev pub block_line : ℕ → List ℕ
 block_line thread = codes "block " ++ decimal (thread % 256)
 
--- a word and a point
+-- A line of a word and a point.
 abbrev pub point_line : List ℕ → Point → List ℕ
 point_line word p = word ++ (32 ∷ (signed_decimal p.x ++ (32 ∷ signed_decimal p.y)))
 
--- a needle act, which is a float or isn't
+-- The line of a needle act, by whether it is a float.
 abbrev pub needle_line : Bool → Point → List ℕ
 needle_line true p = point_line (codes "float") p
 needle_line false p = point_line (codes "needle") p
 
--- an act after so many stops, by the threads of the blocks
+-- The line of an act after n stops, by the threads of the blocks.
 abbrev pub act_line : (ℕ → ℕ) → ℕ → Act → List ℕ
 act_line thread stops (Needle p float) = needle_line float p
 act_line thread stops Trim = codes "trim"
 act_line thread stops Stop = block_line (thread (stops + 1))
 
--- the last line
+-- The last line.
 abbrev pub last_line : List ℕ
 last_line = codes "end"
 
--- the lines of acts in order, and the end
+-- The lines of acts in order, and the last line.
 abbrev pub act_lines : (ℕ → ℕ) → ℕ → List NumberedAct → List ℕ
 act_lines thread stops [] = last_line ++ 10 ∷ []
 act_lines thread stops (a ∷ rest) = act_line thread stops a.act
     ++ 10 ∷ act_lines thread (stops + stops_in a.act) rest
 
--- the first three lines, and those that follow
+-- A text of the first three lines, and of the lines that follow.
 abbrev pub headed : List ℕ → ℕ → List ℕ → List ℕ
 headed label thread rest = first_line
     ++ 10 ∷ (label_line label ++ 10 ∷ (block_line thread ++ 10 ∷ rest))
 
--- the list of a design
+-- The stitch list of a design, which is its canonical text.
 abbrev pub list_of : DesignValue → List ℕ
 list_of d = headed d.label (thread_of d 0) (act_lines (thread_of d) 0 (acts_of d))
 
--- what a design is written as, or the refusal that its acts meet first
+-- The result of writing a design: the list, or the first refusal of its acts.
 abbrev pub writes : DesignValue → Result (List ℕ) WriteFault
 writes d = unless_refused (first_refusal reach (acts_of d)) (list_of d)

@@ -18,7 +18,7 @@ use design_model::{Act, Command, Design, Memory, ModelFault, NEEDLE_LIMIT, Point
 use format_traits::{ReadFault, Standing, WriteFault};
 use std::alloc::Global;
 
-/// What the lines of a list so far say: a design, and how it stands after its acts.
+/// The design of the lines that were read, and the encoder's state after its acts.
 #[derive(Debug, Drop)]
 pub struct Draft {
     pub design: Design,
@@ -26,7 +26,7 @@ pub struct Draft {
 }
 
 impl Draft {
-    /// The draft of a list of which nothing was read.
+    /// Returns the draft of a list of which nothing was read.
     pub(crate) fn new(alloc: Global) -> Draft
         ensures { result ≡ blank }
     {
@@ -45,7 +45,7 @@ impl Draft {
         self.design.push_thread(thread);
     }
 
-    /// Adds what the line at that offset says, or tells why it doesn't fit.
+    /// Adds the act of the line at an offset, or reports why the line is refused.
     pub(crate) fn take_line(
         &mut self,
         at: u64,
@@ -66,7 +66,7 @@ impl Draft {
         }
     }
 
-    /// Adds a needle that is sewn on, whose line stands at that offset, or tells why it doesn't fit.
+    /// Adds a needle that is sewn on, or reports why it is refused. `at` is the offset of its line.
     #[inline(always)]
     pub(crate) fn take_sewn(&mut self, at: u64, p: Point) -> Result<Option<ReadFault>, Memory>
         requires sound { IsSound self.old }
@@ -97,7 +97,7 @@ impl Draft {
         Ok(None)
     }
 
-    /// Adds an act whose line stands at that offset, or tells why it doesn't fit.
+    /// Adds an act, or reports why it is refused. `at` is the offset of its line.
     #[inline(always)]
     fn take(&mut self, at: u64, act: Act) -> Result<Option<ReadFault>, Memory>
         requires sound { IsSound self.old }
@@ -114,7 +114,7 @@ impl Draft {
     }
 }
 
-/// Why an act can't stand there, if it can't.
+/// Returns the refusal of the act in the line at an offset, if it is refused.
 #[inline(always)]
 fn act_fault(at: u64, before: &Standing, act: Act) -> Option<ReadFault>
     requires place { IsTrue (is_within needle_limit before.now.place) }

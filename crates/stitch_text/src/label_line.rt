@@ -5,7 +5,7 @@ ghost use Rattle.stitch_text.specs.StitchLists.{label_line};
 
 use crate::words::is_label;
 
-/// The label of the second line, where it has one.
+/// Returns the label of the second line, if it has one.
 pub(crate) fn label_of(line: &[u8]) -> Option<&[u8]>
     ensures some { IfSome result (λ label. label_said line.now ≡ Some label.now) }
     ensures label { IfSome result (λ label. IsLabel label.now) }
@@ -17,7 +17,7 @@ pub(crate) fn label_of(line: &[u8]) -> Option<&[u8]>
     if is_label(label) { Some(label) } else { None }
 }
 
-/// What stands in the place of the label.
+/// Returns the bytes where the label would be.
 fn in_brackets(line: &[u8]) -> Option<&[u8]>
     ensures some { IfSome result (λ label. line.now ≡ label_line label.now) }
     ensures none { IfNone result ((label : List ℕ) → line.now ≡ label_line label → ⊥) }

@@ -1,12 +1,11 @@
-//! The stitch list: the acts of a design as lines of a plain text, which can be read, compared and
-//! mailed. Own format.
+//! The stitch list: the acts of a design as lines of a plain text, which can be read, compared and mailed.
+//! Own format.
 //!
-//! A line is no record of format_traits. Records tell moves of a bounded size from where the one before
-//! left the hoop, and a far needle takes several; a line tells the point itself, however far, and there
-//! is one for each act. A reader of records keeps whatever commands are in range; a list is read only
-//! where it is the list of some design, and so judges its acts as a writer does. So the judging of acts,
-//! their standing and their room are those of format_traits, and the records aren't. A list that is fed
-//! in pieces has a decoder of its own, which takes it line by line.
+//! A line is no record of format_traits. A record has a move of a bounded size, and a far needle takes
+//! several records. A line has the point itself, however far, and each act has one line. A reader of records
+//! accepts all commands in range; a text is read only where it is the list of some design. The reader of
+//! lists therefore judges the acts as a writer does, by the encoder state and the room of format_traits. A
+//! list that is fed in chunks has its own decoder, which takes it line by line.
 #![tactic(auto)]
 
 mod draft;

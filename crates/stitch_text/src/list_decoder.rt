@@ -18,7 +18,7 @@ pub struct ListDecoder {
     alloc: Global,
     draft: Draft,
     stage: ListStage,
-    /// The list has come up to that offset.
+    /// The offset of the end of the bytes that were read.
     end: u64,
     ghost unbegun: { is_before_acts stage ≡ true → IsUnbegun draft },
     ghost sound: { is_at_acts stage ≡ true → IsSound draft },
@@ -31,7 +31,7 @@ impl ListDecoder {
     ghost use Rattle.stitch_text.specs.ListStages.{TakesLine, TakesLines, parts_said, so_far_at, stream_at};
     ghost use Rattle.text_parts.specs.Parts.{parted};
 
-    /// A decoder that has to begin.
+    /// Returns a decoder, which must begin before it takes bytes.
     pub fn new(alloc: Global) -> Self {
         ListDecoder {
             alloc,
@@ -41,7 +41,7 @@ impl ListDecoder {
         }
     }
 
-    /// Takes the lines that have ended, so many bytes.
+    /// Takes the complete lines, and returns the number of their bytes.
     fn take_lines(&mut self, start: u64, bytes: &[u8]) -> Result<usize, Memory>
         requires { start + length bytes.now < 2 ^ 64 }
         ensures { IfOk result (λ size. TakesLines (stream_at self.old.draft self.old.stage)
@@ -57,7 +57,7 @@ impl ListDecoder {
         Ok(bytes.len() - rest.len())
     }
 
-    /// Takes a line that has ended.
+    /// Takes a complete line.
     fn take_line(&mut self, at: u64, line: &[u8]) -> Result<(), Memory>
         ensures { OnOk result (TakesLine (parts_said self.old.draft self.old.stage)
             (parts_said self.new.draft self.new.stage) at line.now) }
@@ -71,7 +71,7 @@ impl ListDecoder {
         }
     }
 
-    /// The same where no line of acts is due. These are few, and so apart from the loop.
+    /// Takes a complete line that is no line of an act. Such lines are rare, and therefore outside the loop.
     #[cold]
     #[inline(never)]
     fn take_other(&mut self, at: u64, line: &[u8])
@@ -150,7 +150,7 @@ impl ListDecoder {
         }
     }
 
-    /// The same for any line of acts.
+    /// Takes any line of an act.
     #[cold]
     #[inline(never)]
     fn take_act_apart(&mut self, at: u64, line: &[u8]) -> Result<(), Memory>
@@ -176,7 +176,7 @@ impl ListDecoder {
         }
     }
 
-    /// Takes the bytes of a line that hasn't ended, where it is too long to be right, and else none.
+    /// Takes the bytes of an incomplete line, if it is too long to be valid, else none. Returns their number.
     fn take_part(&mut self, at: u64, part: &[u8]) -> usize
         requires line { parted 10 part.now ≡ part.now ∷ [] }
         requires end { at + length part.now < 2 ^ 64 }

@@ -8,10 +8,10 @@ use crate::words::number_in;
 use design_model::{Point, Whole};
 use text_parts::{spells, split_first};
 
-/// The most bytes of a line, without the one that ends it.
+/// The most bytes of a line, without the byte that ends it.
 pub const MAX_LINE: usize = 32;
 
-/// What a line says that is neither the first one nor the label's.
+/// A line that is neither the first one nor the label's.
 #[derive(Clone, Copy, Debug, PartialEq, Eq)]
 pub enum ListLine {
     /// A block begins, with its thread.
@@ -22,11 +22,11 @@ pub enum ListLine {
     Far,
     /// A trim act.
     Trim,
-    /// The list ends.
+    /// The end of the list.
     End,
 }
 
-/// What the bytes of a line say, if they say anything.
+/// Returns the line that the bytes are parsed as, if there is one.
 pub(crate) fn line_of(line: &[u8]) -> Option<ListLine>
     ensures { result ≡ line_said line.now }
 {
@@ -39,8 +39,8 @@ pub(crate) fn line_of(line: &[u8]) -> Option<ListLine>
     }
 }
 
-// In line, as all that it takes, so that nothing of it passes through memory.
-/// Where a line says a needle that is sewn on, which nearly all lines do.
+// Inlined with all that it calls, since a call would go through memory.
+/// Returns the point of a line of a needle that is sewn on, as nearly all lines are.
 #[inline(always)]
 pub(crate) fn sewn_at(line: &[u8]) -> Option<Point>
     ensures { IfSome result (λ p. line_said line.now ≡ Some (line_of_list.Needle p false)) }
@@ -51,7 +51,7 @@ pub(crate) fn sewn_at(line: &[u8]) -> Option<Point>
     }
 }
 
-/// What stands behind the word of a needle that is sewn on.
+/// Returns the bytes after the first word of the line of a needle that is sewn on.
 fn after_needle(line: &[u8]) -> Option<&[u8]>
     ensures { IfSome result (λ rest. line.now ≡ codes "needle " ++ rest.now) }
 {
@@ -75,7 +75,7 @@ fn point_said(rest: &[u8]) -> Option<Point>
     }
 }
 
-/// The thread of a line that begins a block.
+/// Returns the thread of a line that begins a block.
 pub(crate) fn thread_of(said: Option<ListLine>) -> Option<u8>
     ensures { result ≡ thread_said said }
 {
@@ -85,7 +85,7 @@ pub(crate) fn thread_of(said: Option<ListLine>) -> Option<u8>
     }
 }
 
-/// Says whether a line is the last one.
+/// Returns whether a line is the last one.
 pub(crate) fn is_end(said: Option<ListLine>) -> bool
     ensures { result ≡ is_last said }
 {

@@ -4,7 +4,7 @@ ghost use Rattle.stitch_text.specs.ListStages.{beyond as beyond_stage, fault_at,
 use crate::list_line::MAX_LINE;
 use format_traits::ReadFault;
 
-/// Where a reader of lists stands.
+/// The stage of a reader of lists.
 #[derive(Clone, Copy, Debug, PartialEq, Eq)]
 pub enum ListStage {
     /// Before the first line.
@@ -15,16 +15,16 @@ pub enum ListStage {
     Block,
     /// Before a line of acts.
     Acts,
-    /// In a line that is too long to be right. It is refused for that once it ends.
+    /// In a line that is too long to be valid. The list is refused for it once the line ends.
     Long(ReadFault),
-    /// Behind the last line.
+    /// After the last line.
     Ended,
-    /// Behind the first refusal.
+    /// After the first refusal.
     Refused(ReadFault),
 }
 
 impl ListStage {
-    /// The most bytes of a line that are kept until it ends.
+    /// Returns the most bytes of a line that are kept until it ends.
     pub(crate) fn most_waiting(self) -> usize
         ensures { result ≡ most_to_wait self }
     {
@@ -34,7 +34,7 @@ impl ListStage {
         }
     }
 
-    /// Where it stands behind more bytes than that of a line at this offset.
+    /// Returns the stage after more bytes than a valid line has, in the line at an offset.
     pub(crate) fn beyond(self, at: u64) -> ListStage
         ensures { result ≡ beyond_stage at self }
     {
@@ -48,7 +48,7 @@ impl ListStage {
         }
     }
 
-    /// What a list is refused for that ends there, at this offset.
+    /// Returns the refusal of a list that ends at an offset, if any.
     pub(crate) fn fault(self, end: u64) -> Option<ReadFault>
         ensures { result ≡ fault_at end self }
     {

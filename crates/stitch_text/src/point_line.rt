@@ -5,10 +5,10 @@ ghost use Rattle.stitch_text.specs.StitchLists.{point_line};
 use design_model::{Bytes, Memory, Point};
 use itoa::write_digits;
 
-/// More bytes than two numbers have, a space before each and the end of the line.
+/// More bytes than two numbers, a space before each and the end of the line need.
 const ROOM: usize = 32;
 
-/// Adds the line of a word and a point.
+/// Appends the line of a word and a point.
 pub(crate) fn put_point(text: &mut Bytes, word: &[u8], at: Point) -> Result<(), Memory>
     ensures { OnOk result (text.new ≡ text.old ++ (point_line word.now at ++ 10 ∷ [])) }
 {
@@ -19,7 +19,8 @@ pub(crate) fn put_point(text: &mut Bytes, word: &[u8], at: Point) -> Result<(), 
     Ok(())
 }
 
-/// Puts a space and a number for each coordinate before that place, and tells where they begin.
+/// Writes a space and a number for each coordinate before the index `end`, and returns the index of their
+/// first byte.
 fn point_before(room: &mut [u8], end: usize, at: Point) -> usize
     requires some { 24 ≤ end }
     requires there { end ≤ length room.old }

@@ -13,7 +13,7 @@ pub const LIMIT: u32 = 2047;
 /// The most stops of a list.
 pub const MAX_STOPS: u32 = 254;
 
-/// What a list can have.
+/// Returns the limits of what a list can contain.
 pub(crate) fn reach() -> Reach
     ensures { result ≡ reach_of_list }
 {
@@ -34,7 +34,7 @@ impl List {
     ghost use Rattle.format_traits.specs.Feeding.{IsFresh};
     ghost use Rattle.stitch_text.specs.Readings.{reads, shown};
 
-    /// The format object, to which nothing was fed. It takes no memory.
+    /// Returns a format object to which nothing was fed. Allocates nothing.
     pub fn new(alloc: Global) -> List
         ensures { IsFresh reads shown (⟦<List as Format>⟧.feeding result) }
     {

@@ -35,12 +35,12 @@ fn design_of(alloc: Global, thread: u8, commands: &[Command]) -> Result<Design, 
 /// A first line, a label and a block in thread 5, which are 31 bytes.
 const HEAD: &str = "stitch-list 1\nlabel []\nblock 5\n";
 
-/// A text so many times behind the head, and then an end.
+/// Returns the head of a list, then a text n times, and then an end.
 fn list_of(alloc: Global, lines: &str, times: u32, end: &str) -> Result<Bytes, Memory> {
     text_of(alloc, HEAD, lines, times, end)
 }
 
-/// A text so many times between two others.
+/// Returns a text n times between two others.
 fn text_of(
     alloc: Global,
     first: &str,
@@ -82,7 +82,7 @@ fn a_square_has_its_lines_and_reads_again(rt: HostRuntime) -> Result<(), Fail> {
     Ok(())
 }
 
-/// Lines behind the head of a list, and what the list is refused for.
+/// Lines after the head of a list, and the refusal of the list.
 const ACT_LINES: [(&str, Option<ReadFault>); 21] = [
     ("end\n", None),
     ("needle 0 0\nfloat 400 0\nend\n", None),

@@ -4,7 +4,7 @@ ghost use Rattle.stitch_text.specs.Words.{begins_with_zero as zero_first, ends_w
 
 use design_model::{MAX_LABEL, Whole, parse_whole};
 
-/// The number that a word of any length spells in its one spelling.
+/// Returns the number of a word of any length, if the word is the canonical text of a number.
 pub(crate) fn number_in(word: &[u8]) -> Whole
     ensures { result ≡ number_spelled word.now }
 {
@@ -39,7 +39,7 @@ fn begins_with_zero(digits: &[u8]) -> bool
     }
 }
 
-/// Says whether a design may have the label.
+/// Returns whether a design may have the label.
 pub(crate) fn is_label(text: &[u8]) -> bool
     ensures { result ≡ is_a_label text.now }
 {

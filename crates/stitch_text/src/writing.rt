@@ -18,7 +18,7 @@ use format_traits::{Standing, WriteFault};
 use itoa::Buffer;
 use std::alloc::Global;
 
-/// The list of a design.
+/// Writes a design as a list.
 pub fn write_file(alloc: Global, design: &Design) -> Result<Bytes, WriteFault>
     ensures value { Writes (writes design.now) result }
     ensures laws { KeepsLaws stitch_list design.now }
@@ -37,7 +37,7 @@ fn put_list(alloc: Global, design: &Design) -> Result<Bytes, WriteFault>
     Ok(text)
 }
 
-/// Adds the first three lines.
+/// Appends the first three lines.
 fn put_head(text: &mut Bytes, design: &Design) -> Result<(), Memory>
     ensures { OnOk result (text.new
         ≡ text.old ++ headed design.now.label (thread_of design.now 0) []) }
@@ -50,7 +50,8 @@ fn put_head(text: &mut Bytes, design: &Design) -> Result<(), Memory>
     Ok(())
 }
 
-/// Adds the lines of all acts, up to the first that can't be written, and the end.
+/// Appends the lines of all acts and the end line. An act that cannot be written is reported; the contents of
+/// `text` are not specified then.
 fn put_lines(text: &mut Bytes, design: &Design) -> Result<(), WriteFault>
     ensures { PutsLines (thread_of design.now) (acts_of design.now) text.old result text.new }
 {
@@ -68,9 +69,9 @@ fn put_lines(text: &mut Bytes, design: &Design) -> Result<(), WriteFault>
     Ok(())
 }
 
-/// Adds the line of an act, after which it stands otherwise, or says why a list can't have it.
-// Nearly all acts are needles that are sewn on: what they take stands in the loop, and all else apart, with a copy of
-// the act and of how it stands.
+/// Appends the line of an act and updates the encoder state, or reports why a list cannot contain the act.
+// Nearly all acts are needles that are sewn on: their code is in the loop. All other acts go to another
+// function, with copies of the act and of the encoder state.
 #[inline(always)]
 fn put_act(
     text: &mut Bytes,
@@ -85,7 +86,7 @@ fn put_act(
     ensures value { PutsLine (thread_of design.now) standing.old act text.old result
         standing.new text.new }
 
-    // What holds of it goes on holding.
+    // The requirements hold for the new state too.
     ensures place { OnOk result (IsTrue (is_within NEEDLE_LIMIT standing.new.place)) }
     ensures room { OnOk result (standing.new.room ≤ MAX_COMMANDS) }
     ensures stops { OnOk result (standing.new.stops ≤ standing.new.room) }
@@ -112,7 +113,7 @@ fn put_act_copied(
     ensures value { PutsLine (thread_of design.now) standing.old act text.old result
         standing.new text.new }
 
-    // What holds of it goes on holding.
+    // The requirements hold for the new state too.
     ensures place { OnOk result (IsTrue (is_within NEEDLE_LIMIT standing.new.place)) }
     ensures room { OnOk result (standing.new.room ≤ MAX_COMMANDS) }
     ensures stops { OnOk result (standing.new.stops ≤ standing.new.room) }
@@ -142,7 +143,7 @@ fn put_act_apart(
     ensures value { PutsLine (thread_of design.now) standing.old act text.old result
         standing.new text.new }
 
-    // What holds of it goes on holding.
+    // The requirements hold for the new state too.
     ensures place { OnOk result (IsTrue (is_within NEEDLE_LIMIT standing.new.place)) }
     ensures room { OnOk result (standing.new.room ≤ MAX_COMMANDS) }
     ensures stops { OnOk result (standing.new.stops ≤ standing.new.room) }
@@ -164,7 +165,7 @@ fn put_act_here(
     ensures value { PutsLine (thread_of design.now) standing.old act text.old result
         standing.new text.new }
 
-    // What holds of it goes on holding.
+    // The requirements hold for the new state too.
     ensures place { OnOk result (IsTrue (is_within NEEDLE_LIMIT standing.new.place)) }
     ensures room { OnOk result (standing.new.room ≤ MAX_COMMANDS) }
     ensures stops { OnOk result (standing.new.stops ≤ standing.new.room) }
@@ -178,7 +179,7 @@ fn put_act_here(
     Ok(())
 }
 
-/// Adds the line of an act after so many stops.
+/// Appends the line of an act after `stops` stops.
 #[inline(always)]
 fn put_line(text: &mut Bytes, design: &Design, stops: u32, act: Act) -> Result<(), Memory>
     requires { stops ≤ MAX_COMMANDS }

@@ -6,8 +6,8 @@ use format_traits::ReadFault::{self, Control, Range, Short, Signature};
 use format_traits::{Format, MAX_FED};
 use std::test::Fail;
 
-/// A text so many times between two others, the bytes of it all, the commands that it has before its end
-/// or its first refusal, and what it is refused for.
+/// Cases: a text n times between two others, the number of all bytes, the number of commands before the end
+/// or the first refusal, and that refusal.
 const FED: [(&str, &str, u32, &str, u64, usize, Option<ReadFault>); 16] = [
     (SQUARE, "", 0, "", 99, 6, None),
     (HEAD, "needle 0 0\ntrim\n", 50, "end\n", 835, 100, None),
@@ -115,7 +115,7 @@ const FED: [(&str, &str, u32, &str, u64, usize, Option<ReadFault>); 16] = [
     ),
 ];
 
-/// Feeds a text in pieces of that size, and gives the number of commands behind the last of them.
+/// Feeds a text in chunks of one size, and returns the number of commands after the last of them.
 fn feed_pieces(list: &mut List, text: &[u8], size: usize) -> Result<usize, Fail>
     requires { 0 < size }
 {

@@ -3,7 +3,7 @@ use Rattle.format_traits.specs.Streams.{ComesOn}
 use Rattle.stitch_text.specs.ListStages.{stream_at}
 use Rattle.stitch_text.proofs.list_decoder.ListDecoder.take_lines.Given as goal
 
--- the lines that are left come to what all lines come to
+-- the remaining lines have the same result as all lines
 abbrev pub invariant-loop-line : goal.invariant-loop-line
 invariant-loop-line l = record {
   at : l.at + length l.rest ≡ l.start + length l.bytes;
