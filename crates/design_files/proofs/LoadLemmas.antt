@@ -1,4 +1,4 @@
--- What was fed so far of a file, and what it comes to at its end.
+-- The bytes of a file that were fed, and the result at its end.
 use Rattle.std.proofs.Common.{◌≡◌, ℕ, ◌+◌, ◌≤◌, List, [], ◌++◌, length, take, Option, Result, refl, ap, sym, subst, ◌∙◌, length-append, append_assoc}
 use Rattle.std.proofs.lemmas.List.{length-take-le}
 use Rattle.outside_io.specs.FileParts.{Begins, IsBegun, IsNextPart}
@@ -8,7 +8,7 @@ use Rattle.format_traits.specs.declared.loaded.Loaded.{Loaded}
 use Rattle.format_traits.specs.Feeding.{Feeding, IsFed, IsFresh}
 use Rattle.design_files.specs.Loading.{IsFedWith}
 
--- so many first bytes of the file were fed
+-- the first n bytes of the file were fed
 pub record IsPartFed (reads : List ℕ → Result Loaded ReadFault) (files : Option Files) (name : List ℕ) (at : ℕ) (f : Feeding) : Type 0 where
   pub bytes : List ℕ
   pub long : length bytes ≡ at

@@ -19,7 +19,7 @@ Differ m n = m ≡ n → ⊥
 abbrev files : Files
 files name = if bytes_eq name (97 ∷ []) then Some (1 ∷ 2 ∷ 3 ∷ []) else None
 
--- what the store shows after so many faults, the last of them that
+-- the view of a store after n faults, of which this is the last
 abbrev sight : ℕ → Option Blame → StoreSight
 sight faults blame = record { files = Some files; faults = faults; blame = blame }
 

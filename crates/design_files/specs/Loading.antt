@@ -1,4 +1,4 @@
--- What it means to load a file, and to feed it whole.
+-- The meaning of loading the design of a file, and of feeding an entire file to a format.
 use Rattle.std.specs.Prelude.{◌≡◌, ℕ, false, List, ◌++◌, length, Result, Ok, Err}
 use Rattle.outside_io.specs.declared.limits.TheConstants.{MAX_FILE}
 use Rattle.outside_io.specs.declared.whole_files.GetFault.{GetFault}
@@ -10,7 +10,7 @@ use Rattle.format_traits.specs.Feeding.{Feeding}
 use Rattle.design_files.specs.declared.loading.LoadFault.{LoadFault}
 use Rattle.design_files.specs.declared.loading.LoadFault.TheVariants as load
 
--- the file is read whole, and its bytes read as that
+-- The entire file was read, and `answer` is the result of reading its bytes by the format.
 pub record IsLoaded (reads : List ℕ → Result Loaded ReadFault) (name : List ℕ)
     (old new : StoreSight)
     (answer : Result Loaded ReadFault) : Type 0 where
@@ -18,21 +18,22 @@ pub record IsLoaded (reads : List ℕ → Result Loaded ReadFault) (name : List 
   pub whole : ReadsWhole name MAX_FILE old new (Ok bytes)
   pub is : reads bytes ≡ answer
 
--- what each answer of loading means
+-- Meaning of each answer of `load`: the design, the refusal of the bytes, or the fault of the
+-- store.
 abbrev pub Loads : (List ℕ → Result Loaded ReadFault) → List ℕ → StoreSight → StoreSight
     → Result Loaded LoadFault → Type 0
 Loads reads name old new (Ok loaded) = IsLoaded reads name old new (Ok loaded)
 Loads reads name old new (Err (load.Read f)) = IsLoaded reads name old new (Err f)
 Loads reads name old new (Err (load.Get f)) = ReadsWhole name MAX_FILE old new (Err f)
 
--- these bytes were fed to an object that reads so
+-- An object whose reading is `reads` was fed these bytes.
 pub record IsFedWith (reads : List ℕ → Result Loaded ReadFault) (bytes : List ℕ)
     (f : Feeding) : Type 0 where
   pub sound : f.spoiled ≡ false
   pub taken : f.taken ≡ length bytes
   pub rest : (more : List ℕ) → f.rest more ≡ reads (bytes ++ more)
 
--- the file was read whole and fed
+-- The entire file was read and fed.
 pub record IsWholeFed (reads : List ℕ → Result Loaded ReadFault) (name : List ℕ)
     (old new : StoreSight)
     (f : Feeding) : Type 0 where
@@ -40,7 +41,7 @@ pub record IsWholeFed (reads : List ℕ → Result Loaded ReadFault) (name : Lis
   pub whole : ReadsWhole name MAX_FILE old new (Ok bytes)
   pub fed : IsFedWith reads bytes f
 
--- what each answer of feeding a file means
+-- Meaning of each answer of feeding a file: the entire file was fed, or the store reported a fault.
 abbrev pub FeedsWhole : {T : Type 0} → (List ℕ → Result Loaded ReadFault) → List ℕ
     → StoreSight → StoreSight
     → Result T GetFault → Feeding → Type 0

@@ -1,5 +1,5 @@
-//! The design of a stitch file, read from a store and fed to its format part by part, so that the file
-//! is never held whole.
+//! The design of a stitch file. The file is read from a store and fed to its format chunk by chunk, and is
+//! never entirely in memory.
 #![tactic(auto)]
 
 mod loading;

@@ -10,9 +10,9 @@ use outside_io::{GetFault, MAX_FILE, READ_SIZE, Store, read_next};
 /// Why no design was loaded.
 #[derive(Clone, Copy, Debug, PartialEq, Eq)]
 pub enum LoadFault {
-    /// The file was not read; also where memory was wanted.
+    /// The file was not read, or memory ran out.
     Get(GetFault),
-    /// The file is none of its format; never for want of memory.
+    /// The bytes are no file of the format; never out of memory.
     Read(ReadFault),
 }
 
@@ -26,8 +26,9 @@ impl From<GetFault> for LoadFault {
     }
 }
 
-/// What the named file reads as by a format. A file that is not there, that is too long, or of which a read
-/// fails is told before a refusal of its bytes. All files stay, and so does the meaning of the format.
+/// Loads the design of the named file by a format. A file that is missing or too long, or of which a read
+/// fails, is reported before a refusal of its bytes. All files and the meaning of the format stay as they
+/// are.
 pub fn load<S: Store>(
     store: &mut S,
     name: &str,
