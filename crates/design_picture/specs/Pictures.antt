@@ -1,5 +1,6 @@
--- What shows the acts of a design. Needles that are sewn on after one another are a line. A float,
--- and the first needle after a trim or a stop, begin another one, and a dashed line leads there.
+-- The shapes of the acts of a design. Needles that are sewn one after another are one polyline. A
+-- float, and the first needle after a trim or a stop, begin another polyline, to which a dashed
+-- line leads.
 use Rattle.std.specs.Prelude.{ℕ, ◌+◌, Bool, true, false, List, [], ◌∷◌, ◌++◌, codes}
 use Rattle.design_model.specs.declared.act.Act.{Act}
 use Rattle.design_model.specs.declared.act.Act.TheVariants.{Needle, Trim, Stop}
@@ -10,55 +11,56 @@ use Rattle.design_picture.specs.declared.pen.Line.TheVariants.{Unbegun, Open, En
 use Rattle.design_picture.specs.declared.pen.Pen.{Pen}
 use Rattle.design_picture.specs.Shapes.{closing, opening, point_text, stop_mark, travel, trim_mark}
 
--- the pen before the first act
+-- The pen before the first act.
 abbrev pub unbegun : Pen
 unbegun = record { stops = 0; line = Unbegun }
 
--- the line after a trim or a stop
+-- The state of a polyline after a trim or a stop.
 abbrev pub loosened : Line → Line
 loosened Unbegun = Unbegun
 loosened (Open p) = Ended p
 loosened (Ended p) = Ended p
 
--- the pen after an act
+-- The pen after an act.
 abbrev pub pen_after : Pen → Act → Pen
 pen_after pen (Needle p float) = record pen { line = Open p }
 pen_after pen Trim = record pen { line = loosened pen.line }
 pen_after pen Stop = record { stops = pen.stops + 1; line = loosened pen.line }
 
--- the way to a needle, and the line that begins there
+-- The dashed line to a needle, and the start of a polyline there.
 abbrev pub begun : ℕ → Point → Point → List ℕ
 begun stops from p = travel from p ++ opening stops p
 
--- a needle after so many stops, behind a line
+-- The text of a needle after n stops, by the state of the polyline.
 abbrev pub needle_text : ℕ → Line → Bool → Point → List ℕ
 needle_text stops Unbegun float p = opening stops p
 needle_text stops (Ended from) float p = begun stops from p
 needle_text stops (Open from) true p = closing ++ begun stops from p
 needle_text stops (Open from) false p = codes " " ++ point_text p
 
--- a trim or a stop, which ends a line, and has its mark at the last needle
+-- The text of a trim or a stop: the end of an open polyline, and a mark at the last needle.
 abbrev pub cut_text : (Point → List ℕ) → Line → List ℕ
 cut_text mark Unbegun = []
 cut_text mark (Ended p) = mark p
 cut_text mark (Open p) = closing ++ mark p
 
--- an act
+-- The text of an act.
 abbrev pub act_text : Pen → Act → List ℕ
 act_text pen (Needle p float) = needle_text pen.stops pen.line float p
 act_text pen Trim = cut_text trim_mark pen.line
 act_text pen Stop = cut_text stop_mark pen.line
 
--- the end of the picture, and of a line that is open
+-- The last lines of a picture.
 abbrev pub last_lines : List ℕ
 last_lines = codes "</g>" ++ (10 ∷ (codes "</svg>" ++ 10 ∷ []))
 
+-- The end of a picture, and of a polyline that is open.
 abbrev pub end_text : Line → List ℕ
 end_text Unbegun = last_lines
 end_text (Ended p) = last_lines
 end_text (Open p) = closing ++ last_lines
 
--- acts in order, and the end
+-- The text of acts in order, and the end of the picture.
 abbrev pub lines : Pen → List NumberedAct → List ℕ
 lines pen [] = end_text pen.line
 lines pen (a ∷ rest) = act_text pen a.act ++ lines (pen_after pen a.act) rest

@@ -1,5 +1,5 @@
--- The picture of a design: a text of SVG 1.1, the standard of the World Wide Web Consortium, whose
--- unit is a tenth of a millimetre, and which is shown in its true size.
+-- The picture of a design: a text of SVG 1.1, the standard of the World Wide Web Consortium. The
+-- unit is a tenth of a millimetre, and the picture is shown in true size.
 use Rattle.std.specs.Prelude.{ℕ, ◌+◌, ◌*◌, List, [], ◌∷◌, ◌++◌, Option, codes, max}
 use Rattle.std.specs.Fmt.{decimal, signed_decimal}
 use Rattle.design_model.specs.declared.bounds.Extent.{Extent}
@@ -13,42 +13,44 @@ use Rattle.design_picture.specs.declared.sheet.TheConstants.{CAPTION_HEIGHT, LEA
 use Rattle.design_picture.specs.Captions.{caption, corners, mm_text}
 use Rattle.design_picture.specs.Pictures.{lines, unbegun}
 
--- how wide and how high a picture is
+-- The width of a picture, from the extent of the needles.
 abbrev pub across : Option Extent → ℕ
 across extent = max (width_of extent) LEAST_WIDTH + 2 * MARGIN
 
+-- The height of a picture, from the extent of the needles.
 abbrev pub down : Option Extent → ℕ
 down extent = height_of extent + 2 * MARGIN + CAPTION_HEIGHT
 
--- how large it is shown, in millimetres
+-- The start of a picture, with its size in millimetres.
 abbrev pub size_text : ℕ → ℕ → List ℕ
 size_text width height = codes "<svg xmlns='http://www.w3.org/2000/svg' width='"
     ++ (mm_text width ++ (codes "mm' height='" ++ (mm_text height ++ codes "mm'")))
 
--- what is shown: so far to the right and downwards from a corner
+-- The text of a corner: its x and its y.
 abbrev pub corner_text : Point → List ℕ
 corner_text p = signed_decimal p.x ++ (codes " " ++ (signed_decimal p.y ++ codes " "))
 
+-- The frame of a picture: a corner, the width and the height.
 abbrev pub frame_text : Point → ℕ → ℕ → List ℕ
 frame_text corner width height = codes " viewBox='" ++ (corner_text corner
     ++ (decimal width ++ (codes " " ++ (decimal height ++ (codes "'>" ++ 10 ∷ [])))))
 
--- the letters, the dashed lines and the marks; all is moved by the margin
+-- The style of text, dashed lines and marks, and the group that moves all shapes by the margin.
 abbrev pub style : List ℕ
 style = codes "<style>text{font:22px sans-serif;fill:#333;stroke:none}"
     ++ (codes ".travel{stroke:#777;stroke-width:1.5;stroke-dasharray:6 5}"
     ++ (codes ".trim,.stop{stroke:#000;stroke-width:1.5}</style>" ++ (10 ∷
     (codes "<g transform='translate(50,50)' fill='none' stroke-width='4'>" ++ 10 ∷ []))))
 
--- what stands before the caption
+-- The text of a picture before the caption.
 abbrev pub head : Option Extent → List ℕ
 head extent = size_text (across extent) (down extent)
     ++ (frame_text (corners extent).min (across extent) (down extent) ++ style)
 
--- all that stands before the acts of a design with these counts and this extent
+-- The text of a picture before its acts, for a design with these counts and this extent.
 abbrev pub top : Counts → Option Extent → List ℕ
 top counts extent = head extent ++ caption counts extent
 
--- the picture of a design
+-- The picture of a design.
 abbrev pub picture_of : DesignValue → List ℕ
 picture_of d = top (counts_of d) (extent_of d) ++ lines unbegun (acts_of d)

@@ -5,7 +5,7 @@ use crate::numbers::{put_mm, put_number, put_signed};
 use crate::sheet::corners_in;
 use design_model::{Bytes, Counts, Extent, Memory, Point, height, width};
 
-/// Adds the counts and the size of a design, below it.
+/// Appends the counts and the size of a design, as a caption below it.
 pub(crate) fn put_caption(
     text: &mut Bytes,
     counts: Counts,
@@ -21,7 +21,7 @@ pub(crate) fn put_caption(
     Ok(())
 }
 
-/// The lower left corner.
+/// Returns the lower left corner of an extent.
 fn caption_place(extent: Extent) -> Point
     ensures { result ≡ caption_at extent }
 {
@@ -31,7 +31,7 @@ fn caption_place(extent: Extent) -> Point
     }
 }
 
-/// A line with a word and a count, so far below the corner.
+/// Appends a line with a word and a count, at a distance below the corner.
 fn put_counted(
     text: &mut Bytes,
     at: Point,

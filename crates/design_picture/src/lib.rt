@@ -1,5 +1,5 @@
-//! The picture of a design: an SVG text that a browser shows, with the runs of needles in the colours of
-//! their blocks, the travel between them, and the places of trims and stops.
+//! The picture of a design: an SVG text that a browser shows. The runs of needles are in the colours of their
+//! blocks, with the travel between them, and with marks at trims and stops.
 #![tactic(auto)]
 
 mod caption;

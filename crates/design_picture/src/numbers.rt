@@ -6,7 +6,7 @@ ghost use Rattle.design_picture.specs.Captions.{mm_text};
 use design_model::{Bytes, Memory, Point};
 use itoa::Buffer;
 
-/// A coordinate in tenths of a millimetre.
+/// Appends a coordinate in tenths of a millimetre.
 pub(crate) fn put_signed(text: &mut Bytes, number: i32) -> Result<(), Memory>
     ensures { OnOk result (text.new ≡ text.old ++ signed_decimal number) }
 {
@@ -15,7 +15,7 @@ pub(crate) fn put_signed(text: &mut Bytes, number: i32) -> Result<(), Memory>
     Ok(())
 }
 
-/// Adds a number in decimals.
+/// Appends a number in decimals.
 pub(crate) fn put_number(text: &mut Bytes, number: u64) -> Result<(), Memory>
     ensures { OnOk result (text.new ≡ text.old ++ decimal number) }
 {
@@ -24,7 +24,7 @@ pub(crate) fn put_number(text: &mut Bytes, number: u64) -> Result<(), Memory>
     Ok(())
 }
 
-/// A length in tenths of a millimetre, as millimetres.
+/// Appends a length in tenths of a millimetre, as millimetres.
 pub(crate) fn put_mm(text: &mut Bytes, tenths: u64) -> Result<(), Memory>
     ensures { OnOk result (text.new ≡ text.old ++ mm_text tenths) }
 {
@@ -34,7 +34,7 @@ pub(crate) fn put_mm(text: &mut Bytes, tenths: u64) -> Result<(), Memory>
     Ok(())
 }
 
-/// A point, with a comma between its coordinates.
+/// Appends a point, with a comma between its coordinates.
 pub(crate) fn put_point(text: &mut Bytes, at: Point) -> Result<(), Memory>
     ensures { OnOk result (text.new ≡ text.old ++ point_text at) }
 {

@@ -3,18 +3,18 @@ ghost use Rattle.design_picture.specs.Pictures.{pen_after};
 
 use design_model::{Act, Point};
 
-/// What the picture's line is doing.
+/// The state of the polyline that is drawn.
 #[derive(Clone, Copy, Debug, PartialEq, Eq)]
 pub enum Line {
-    /// No needle has come yet.
+    /// No needle was drawn yet.
     Unbegun,
-    /// A line is under way, and ends at this needle.
+    /// A polyline is open, and its last point is this needle.
     Open(Point),
     /// The thread is loose since this needle.
     Ended(Point),
 }
 
-/// How far a picture has come: the stops so far, and its line.
+/// The state of a picture that is drawn: the stops so far, and the polyline.
 #[derive(Clone, Copy, Debug, PartialEq, Eq)]
 pub struct Pen {
     pub stops: u32,
@@ -22,7 +22,7 @@ pub struct Pen {
 }
 
 impl Pen {
-    /// The pen after an act.
+    /// Returns the pen after an act.
     pub(crate) fn after(self, act: Act) -> Pen
         requires { self.stops + 1 < 2 ^ 32 }
         ensures value { result ≡ pen_after self act }
@@ -48,7 +48,7 @@ impl Pen {
 impl Line {
     ghost use Rattle.design_picture.specs.Pictures.{loosened};
 
-    /// The line after a trim or a stop.
+    /// Returns the state of the polyline after a trim or a stop.
     fn loosened(self) -> Line
         ensures { result ≡ loosened self }
     {

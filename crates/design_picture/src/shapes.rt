@@ -6,7 +6,7 @@ use crate::colours::colour;
 use crate::numbers::put_point;
 use design_model::{Bytes, Memory, Point};
 
-/// Begins a line in the colour of the block after so many stops.
+/// Begins a polyline in the colour of the block after `stops` stops.
 pub(crate) fn put_opening(text: &mut Bytes, stops: u32, at: Point) -> Result<(), Memory>
     ensures { OnOk result (text.new ≡ text.old ++ opening stops at) }
 {
@@ -24,7 +24,7 @@ fn put_colour(text: &mut Bytes, stops: u32) -> Result<(), Memory>
     Ok(())
 }
 
-/// Ends a line.
+/// Ends a shape.
 pub(crate) fn put_closing(text: &mut Bytes) -> Result<(), Memory>
     ensures { OnOk result (text.new ≡ text.old ++ closing) }
 {
@@ -32,7 +32,7 @@ pub(crate) fn put_closing(text: &mut Bytes) -> Result<(), Memory>
     Ok(())
 }
 
-/// The dashed line from one needle to another.
+/// Appends the dashed line from one needle to another.
 pub(crate) fn put_travel(text: &mut Bytes, from: Point, to: Point) -> Result<(), Memory>
     ensures { OnOk result (text.new ≡ text.old ++ travel from to) }
 {
@@ -44,7 +44,7 @@ pub(crate) fn put_travel(text: &mut Bytes, from: Point, to: Point) -> Result<(),
     Ok(())
 }
 
-/// The circle of a trim.
+/// Appends the circle of a trim.
 pub(crate) fn put_trim_mark(text: &mut Bytes, at: Point) -> Result<(), Memory>
     ensures { OnOk result (text.new ≡ text.old ++ trim_mark at) }
 {
@@ -57,7 +57,7 @@ pub(crate) fn put_trim_mark(text: &mut Bytes, at: Point) -> Result<(), Memory>
     Ok(())
 }
 
-/// The square of a stop.
+/// Appends the square of a stop.
 pub(crate) fn put_stop_mark(text: &mut Bytes, at: Point) -> Result<(), Memory>
     ensures { OnOk result (text.new ≡ text.old ++ stop_mark at) }
 {

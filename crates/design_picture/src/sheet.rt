@@ -8,13 +8,13 @@ use design_model::{Bytes, Extent, Memory, Point, height, width};
 /// The space around a design, in tenths of a millimetre.
 pub const MARGIN: u32 = 50;
 
-/// The least width that a picture leaves for a design, in tenths of a millimetre: the caption's.
+/// The least width of the space for a design, in tenths of a millimetre: that of the caption.
 pub const LEAST_WIDTH: u32 = 200;
 
 /// The space for the caption below a design, in tenths of a millimetre.
 pub const CAPTION_HEIGHT: u32 = 120;
 
-/// Adds what stands before the caption.
+/// Appends the text before the caption.
 pub(crate) fn put_head(text: &mut Bytes, extent: Option<Extent>) -> Result<(), Memory>
     ensures { OnOk result (text.new ≡ text.old ++ head extent) }
 {
@@ -24,7 +24,7 @@ pub(crate) fn put_head(text: &mut Bytes, extent: Option<Extent>) -> Result<(), M
     Ok(())
 }
 
-/// How large the picture is shown, in millimetres.
+/// Appends the size of the picture, in millimetres.
 fn put_size(text: &mut Bytes, width: u64, height: u64) -> Result<(), Memory>
     ensures { OnOk result (text.new ≡ text.old ++ size_text width height) }
 {
@@ -39,7 +39,7 @@ fn put_size(text: &mut Bytes, width: u64, height: u64) -> Result<(), Memory>
     Ok(())
 }
 
-/// What the picture shows, in tenths of a millimetre.
+/// Appends the frame of the picture, in tenths of a millimetre.
 fn put_frame(
     text: &mut Bytes,
     extent: Option<Extent>,
@@ -77,7 +77,7 @@ fn put_style(text: &mut Bytes) -> Result<(), Memory>
     Ok(())
 }
 
-/// The corners of the needles, or the origin where there is none.
+/// Returns the corners of the needles; the origin for both without a needle.
 pub(crate) fn corners_in(extent: Option<Extent>) -> Extent
     ensures { result ≡ corners extent }
 {

@@ -13,8 +13,8 @@ use crate::sheet::put_head;
 use design_model::{Act, ActWalk, Bytes, Counts, Design, Extent, Memory, Point, counts, extent};
 use std::alloc::Global;
 
-/// The picture of a design, a text of SVG 1.1, the standard of the World Wide Web Consortium. A unit is a
-/// tenth of a millimetre.
+/// Returns the picture of a design, a text of SVG 1.1, the standard of the World Wide Web Consortium. A unit
+/// is a tenth of a millimetre.
 pub fn picture(alloc: Global, design: &Design) -> Result<Bytes, Memory>
     ensures { IfOk result (λ text. text ≡ picture_of design.now) }
 {
@@ -24,7 +24,7 @@ pub fn picture(alloc: Global, design: &Design) -> Result<Bytes, Memory>
     Ok(text)
 }
 
-/// Adds what stands before the acts.
+/// Appends the text before the acts.
 fn put_top(text: &mut Bytes, counts: Counts, extent: Option<Extent>) -> Result<(), Memory>
     ensures { OnOk result (text.new ≡ text.old ++ top counts extent) }
 {
@@ -33,7 +33,7 @@ fn put_top(text: &mut Bytes, counts: Counts, extent: Option<Extent>) -> Result<(
     Ok(())
 }
 
-/// Adds what shows the acts, and the end.
+/// Appends the shapes of the acts, and the end of the picture.
 fn put_lines(text: &mut Bytes, design: &Design) -> Result<(), Memory>
     ensures { OnOk result (text.new ≡ text.old ++ lines unbegun (acts_of design.now)) }
 {
@@ -53,7 +53,7 @@ fn put_lines(text: &mut Bytes, design: &Design) -> Result<(), Memory>
     Ok(())
 }
 
-/// Adds what shows an act.
+/// Appends the shapes of an act.
 fn put_act(text: &mut Bytes, pen: Pen, act: Act) -> Result<(), Memory>
     ensures { OnOk result (text.new ≡ text.old ++ act_text pen act) }
 {
@@ -76,7 +76,7 @@ fn put_needle(text: &mut Bytes, pen: Pen, float: bool, at: Point) -> Result<(), 
     Ok(())
 }
 
-/// Adds a needle behind an open line.
+/// Appends a needle after an open polyline.
 fn put_next(text: &mut Bytes, stops: u32, from: Point, float: bool, at: Point) -> Result<(), Memory>
     ensures { OnOk result (text.new ≡ text.old ++ needle_text stops (Open from) float at) }
 {
@@ -90,7 +90,7 @@ fn put_next(text: &mut Bytes, stops: u32, from: Point, float: bool, at: Point) -
     Ok(())
 }
 
-/// Adds the travel to a needle, and begins a line there.
+/// Appends the travel to a needle, and begins a polyline there.
 fn put_begun(text: &mut Bytes, stops: u32, from: Point, at: Point) -> Result<(), Memory>
     ensures { OnOk result (text.new ≡ text.old ++ begun stops from at) }
 {
@@ -127,7 +127,7 @@ fn put_stop(text: &mut Bytes, line: Line) -> Result<(), Memory>
     Ok(())
 }
 
-/// Adds the end, behind a line that ends there where it is open.
+/// Appends the end of the picture, and ends a polyline that is open.
 fn put_end(text: &mut Bytes, line: Line) -> Result<(), Memory>
     ensures { OnOk result (text.new ≡ text.old ++ end_text line) }
 {
