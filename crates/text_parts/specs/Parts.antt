@@ -1,12 +1,12 @@
--- The parts of a text: what stands between bytes of one kind, and the words of a line, which stand
--- one space (32) apart.
+-- The parts of a text: the bytes between marks of one kind, and the words of a line, which are
+-- separated by one space (32).
 use Rattle.std.specs.Prelude.{ℕ, ◌==◌, List}
 use Rattle.std.specs.List.{slice_split}
 
--- what stands between the bytes of that kind: one part more than there are such bytes
+-- The parts of bytes between marks: one part more than there are marks.
 abbrev pub parted : ℕ → List ℕ → List (List ℕ)
 parted mark bytes = slice_split (λ b. b == mark) bytes
 
--- the words of a line; there is one that is empty beside a space that separates no two
+-- The words of a line. A word is empty beside a space that does not separate two others.
 abbrev pub words_in : List ℕ → List (List ℕ)
 words_in line = parted 32 line

@@ -1,4 +1,4 @@
-//! The parts of a text: what stands between bytes of one kind, the lines of a text and the words of a line.
+//! The parts of a text: the bytes between marks of one kind, the lines of a text, and the words of a line.
 #![tactic(auto)]
 
 mod splits;

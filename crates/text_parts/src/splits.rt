@@ -4,7 +4,7 @@ ghost use Rattle.text_parts.specs.Parts.{parted};
 
 use memchr::memchr;
 
-/// What stands before the first byte that is the mark and what stands behind it, where there is one.
+/// Returns the bytes before the first mark and those after it, if there is a mark.
 pub fn split_first(bytes: &[u8], mark: u8) -> Option<(&[u8], &[u8])>
     ensures some { IfSome result (λ r. parted mark bytes.now ≡ r.0.now ∷ parted mark r.1.now) }
     ensures rest { IfSome result (λ r. r.1.now ≡ drop (length r.0.now + 1) bytes.now) }
@@ -15,7 +15,7 @@ pub fn split_first(bytes: &[u8], mark: u8) -> Option<(&[u8], &[u8])>
     split_around(bytes, mark, first_place(bytes, mark))
 }
 
-/// The same for the byte that ends a line.
+/// Returns the bytes before the first end of a line (10) and those after it, if there is one.
 #[inline]
 pub fn split_line(bytes: &[u8]) -> Option<(&[u8], &[u8])>
     ensures some { IfSome result (λ r. parted 10 bytes.now ≡ r.0.now ∷ parted 10 r.1.now) }
@@ -45,7 +45,7 @@ fn split_around(bytes: &[u8], mark: u8, place: usize) -> Option<(&[u8], &[u8])>
     Some((before, behind))
 }
 
-// A word is short, and looked through byte by byte; a line isn't.
+// A word is short, and searched byte by byte; a line is not.
 fn first_place(bytes: &[u8], mark: u8) -> usize
     ensures value { result ≡ position_or_len (λ b. b == mark) bytes.now }
     ensures within { result ≤ length bytes.now }
