@@ -3,19 +3,18 @@ ghost use Rattle.hoop_check.specs.Fits.{fit_of, fit_of_size};
 
 use design_model::{Design, extent, height, width};
 
-/// How a design fits into a hoop.
+/// The fit of a design in a hoop.
 #[derive(Clone, Copy, Debug, PartialEq, Eq)]
 pub enum Fit {
-    /// As it is.
+    /// Fits as it is.
     Upright,
-    /// After a quarter turn alone.
+    /// Fits after a quarter turn only.
     Turned,
-    /// Neither way: it is so much too wide and too high, in tenths of a millimetre.
+    /// Fits neither way; the excess in width and height, each at least 0, in tenths of a millimetre.
     No { over_x: u32, over_y: u32 },
 }
 
-/// How the needles of a design fit into a hoop of `w` by `h` tenths of a millimetre. This takes no
-/// memory.
+/// Returns the fit of a design's needles in a hoop of `w` by `h` tenths of a millimetre. Allocates nothing.
 pub fn fits(design: &Design, w: u32, h: u32) -> Fit
     ensures { result ≡ fit_of design.now w h }
 {

@@ -1,4 +1,4 @@
-//! Whether a design fits into a hoop.
+//! The fit of a design in a hoop.
 #![tactic(auto)]
 
 mod fitting;
