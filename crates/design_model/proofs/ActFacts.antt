@@ -34,7 +34,7 @@ pub known_after_float :
     ≡ act.Needle (at (pos 1)) false ∷ act.Needle (at (pos 3)) true ∷ act.Needle (at (pos 4)) false ∷ []
 known_after_float = refl
 
--- a jump behind a stop makes no float
+-- A jump after a stop makes no float.
 pub known_after_stop : bare (acts_along (Stitch (at (pos 1)) ∷ Stop ∷ Jump (at (pos 2)) ∷ Stitch (at (pos 3)) ∷ []))
     ≡ act.Needle (at (pos 1)) false ∷ act.Stop ∷ act.Needle (at (pos 3)) false ∷ []
 known_after_stop = refl

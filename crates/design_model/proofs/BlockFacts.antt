@@ -10,7 +10,7 @@ use Rattle.design_model.proofs.ActFacts.{at}
 pub known_nothing : needles_by_block (acts_along []) ≡ 0 ∷ []
 known_nothing = refl
 
--- two needles before the stop, and one behind it
+-- Two needles before the stop, and one after it.
 pub known_blocks :
     needles_by_block (acts_along (Jump (at (pos 9)) ∷ Stitch (at (pos 9)) ∷ Stitch (at (pos 7)) ∷ Trim
     ∷ Stop ∷ Stitch (at (pos 5)) ∷ []))

@@ -10,7 +10,7 @@ use Rattle.design_model.specs.ActKinds.{is_needle, is_stop}
 use Rattle.design_model.specs.Acts.{numbered}
 use Rattle.design_model.specs.Blocks.{blocks_of, carried, in_first, needles_by_block, with_first}
 
--- the blocks of an act and of the acts behind it begin with a block, to which no needle is added
+-- The blocks of an act and of the acts after it start with a block, to which no needle is added.
 none_more_in : (a : NumberedAct) (stops : Bool) (later : List (List NumberedAct))
     → let blocks : List (List NumberedAct) = if stops then [] ∷ later else in_first a later in
     with_first 0 (map (count_by is_needle) blocks) ≡ map (count_by is_needle) blocks
@@ -27,14 +27,14 @@ none_more (a ∷ rest) = none_more_in a (is_stop a) (blocks_of rest)
 pub carried_first : (acts : List NumberedAct) → carried [] 0 acts ≡ needles_by_block acts
 carried_first acts = none_more acts
 
--- the number of a block that a stop ends is put behind the others, and the next block is begun
+-- A stop appends the count of its block to the others, and starts the next block.
 pub carried_stop : (before after : List ℕ) (needles : ℕ) (a : Act)
     → after ≡ before ++ needles ∷ [] → a ≡ act.Stop → (n : ℕ) (rest : List NumberedAct)
     → carried after 0 rest ≡ carried before needles (numbered n a ∷ rest)
 carried_stop before after needles a pushed stop n rest =
     rw (pushed, stop) (simp (append_assoc, none_more rest, add-zero))
 
--- an act gives one block more, if it is a stop
+-- An act adds one block if it is a stop.
 length-parted : (a : NumberedAct) (stops : Bool) (later : List (List NumberedAct)) (count : ℕ)
     → length later ≡ count + 1
     → length (if stops then [] ∷ later else in_first a later) ≡ (if stops then 1 else 0) + count + 1

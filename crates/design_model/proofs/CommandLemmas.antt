@@ -8,7 +8,7 @@ use Rattle.design_model.specs.declared.command.Command.TheVariants.{Stitch, Jump
 use Rattle.design_model.specs.declared.point.Point.{Point}
 use Rattle.design_model.specs.Commands.{is_in_range, moved_to, takes_point}
 
--- a command that takes a point is in range there
+-- A command that accepts a point is in range there.
 taken_in_range : (c : Command) (p : Point) → IsTrue (takes_point c p) → IsTrue (is_in_range (moved_to c p))
 taken_in_range (Stitch q) p takes = takes
 taken_in_range (Jump q) p takes = takes
@@ -22,7 +22,7 @@ found_there [] i found is = tt
 found_there (c ∷ rest) zero found is = is
 found_there (c ∷ rest) (suc i) found is = found_there rest i found is
 
--- so what is put there may be made of either
+-- The replaced command can be computed from either of two equal ones.
 put_there : (cs : List Command) (i : ℕ) (found : Command) (p : Point) (looked_up : Option Command)
     → IfSome looked_up (λ c. found ≡ c)
     → IfSome looked_up (λ c. set cs i (moved_to found p) ≡ set cs i (moved_to c p))
@@ -33,7 +33,7 @@ pub moved_in_place : (cs : List Command) (i : ℕ) (found : Command) (p : Point)
     → IfSome (slice_get cs i) (λ c. set cs i (moved_to found p) ≡ set cs i (moved_to c p))
 moved_in_place cs i found p is = put_there cs i found p (slice_get cs i) (found_there cs i found is)
 
--- commands in range stay so
+-- Commands in range remain in range.
 pub moved_in_range : (cs : List Command) (i : ℕ) (found : Command) (p : Point) → found ≡ get_or cs i found
     → IsSomeAnd (slice_get cs i) (λ c. IsTrue (takes_point c p))
     → IsTrue (list_all is_in_range cs) → IsTrue (list_all is_in_range (set cs i (moved_to found p)))

@@ -37,7 +37,7 @@ known_jump_point = refl
 pub known_no_point : takes_point Trim far ∷ takes_point Stop far ∷ [] ≡ false ∷ false ∷ []
 known_no_point = refl
 
--- so far they may lie
+-- The maximum distance of points.
 pub known_ranges : map is_in_range (Stitch far ∷ Stitch farther ∷ Jump farther ∷ Jump too_far ∷ Trim ∷ Stop ∷ [])
     ≡ true ∷ false ∷ true ∷ false ∷ true ∷ true ∷ []
 known_ranges = refl
@@ -55,7 +55,7 @@ pub known_threads_of : map (thread_of (record { label = []; threads = 9 ∷ 200 
     ≡ 9 ∷ 200 ∷ 3 ∷ 64 ∷ 1 ∷ []
 known_threads_of = refl
 
--- how much a design holds
+-- The maximum numbers of a design.
 pub known_full : (d : DesignValue) → IsLabel d.label → length d.threads ≤ 255 → length d.commands ≤ 1000000
     → IsTrue (list_all is_in_range d.commands) → KeepsLimits d
 known_full d label threads count in_range = record { label = label; threads = threads; count = count; in_range = in_range }
@@ -69,7 +69,7 @@ known_threads = refl
 pub known_label : MAX_LABEL ≡ 16
 known_label = refl
 
--- the greatest whole number of a word
+-- The maximum whole number of a text.
 pub known_whole : MAX_WHOLE ≡ 999999999
 known_whole = refl
 

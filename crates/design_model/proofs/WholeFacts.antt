@@ -1,4 +1,4 @@
--- Worked values of the whole numbers that words spell.
+-- Worked values of whole numbers as text.
 use Rattle.std.proofs.Common.{◌≡◌, pos, negsuc, [], ◌∷◌, refl}
 use Rattle.design_model.specs.declared.whole_number.Whole.TheVariants as whole
 use Rattle.design_model.specs.WholeNumbers.{whole_of}

@@ -1,5 +1,6 @@
--- The acts of a design: a fold over its commands that keeps two facts, whether the thread is loose
--- and whether a jump came since the last act. At the beginning the thread is loose.
+-- The acts of a design: a fold over the commands with two state flags. One flag says whether the
+-- thread is loose, the other whether a jump followed the last act. Before the first command the
+-- thread is loose.
 use Rattle.std.specs.Prelude.{ℕ, ◌+◌, Bool, true, false, ◌&&◌, not, List, [], ◌∷◌, Option, Some, None, map}
 use Rattle.design_model.specs.declared.act.Act.{Act}
 use Rattle.design_model.specs.declared.act.Act.TheVariants as act
@@ -8,11 +9,11 @@ use Rattle.design_model.specs.declared.command.Command.{Command}
 use Rattle.design_model.specs.declared.command.Command.TheVariants.{Stitch, Jump, Trim, Stop}
 use Rattle.design_model.specs.Designs.{DesignValue}
 
--- the act of the command with that number
+-- An act with the number of the command from which it is computed.
 abbrev pub numbered : ℕ → Act → NumberedAct
 numbered n a = record { number = n; act = a }
 
--- the acts of the commands from number n on, where the thread is loose and a jump came as said
+-- The acts of the commands from number n on, given the two flags of the thread before them.
 abbrev pub acts_from : ℕ → Bool → Bool → List Command → List NumberedAct
 acts_from n loose jumped [] = []
 acts_from n loose jumped (Stitch p ∷ rest) =
@@ -22,19 +23,19 @@ acts_from n true jumped (Trim ∷ rest) = acts_from (n + 1) true jumped rest
 acts_from n false jumped (Trim ∷ rest) = numbered n act.Trim ∷ acts_from (n + 1) true false rest
 acts_from n loose jumped (Stop ∷ rest) = numbered n act.Stop ∷ acts_from (n + 1) true false rest
 
--- the act of the command with that number, where it is one
+-- The list of one numbered act, or the empty list for none.
 abbrev pub listed : ℕ → Option Act → List NumberedAct
 listed n (Some a) = numbered n a ∷ []
 listed n None = []
 
--- the acts of a list of commands
+-- The acts of a list of commands, numbered from 1.
 abbrev pub acts_along : List Command → List NumberedAct
 acts_along commands = acts_from 1 true false commands
 
--- the acts of a design
+-- The acts of a design.
 abbrev pub acts_of : DesignValue → List NumberedAct
 acts_of d = acts_along d.commands
 
--- acts with their numbers left out
+-- Acts without their numbers.
 abbrev pub bare : List NumberedAct → List Act
 bare acts = map (λ a. a.act) acts

@@ -1,4 +1,4 @@
--- What a design has: commands, and acts of each kind.
+-- The counts of a design: commands, and acts of each kind.
 use Rattle.std.specs.Prelude.{ℕ, ◌+◌, List, length, count_by}
 use Rattle.design_model.specs.declared.act.NumberedAct.{NumberedAct}
 use Rattle.design_model.specs.declared.command.Command.{Command}
@@ -7,7 +7,7 @@ use Rattle.design_model.specs.ActKinds.{is_needle, is_trim, is_stop}
 use Rattle.design_model.specs.Acts.{acts_along}
 use Rattle.design_model.specs.Designs.{DesignValue}
 
--- the counts of a list of commands
+-- The counts of a list of commands.
 abbrev pub counts_along : List Command → Counts
 counts_along commands = record {
   commands = length commands;
@@ -16,11 +16,11 @@ counts_along commands = record {
   stops = count_by is_stop (acts_along commands);
 }
 
--- the commands of a design, and its needle acts, trim acts and stop acts
+-- The counts of a design: commands, needle acts, trim acts and stop acts.
 abbrev pub counts_of : DesignValue → Counts
 counts_of d = counts_along d.commands
 
--- the counts with those of further acts
+-- The counts with further acts added to each kind.
 abbrev pub with_acts : Counts → List NumberedAct → Counts
 with_acts counts acts = record counts {
   needles = counts.needles + count_by is_needle acts;
@@ -28,6 +28,6 @@ with_acts counts acts = record counts {
   stops = counts.stops + count_by is_stop acts;
 }
 
--- how many acts were counted
+-- The number of acts counted, over all kinds.
 abbrev pub counted : Counts → ℕ
 counted counts = counts.needles + counts.trims + counts.stops

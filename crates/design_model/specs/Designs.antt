@@ -1,4 +1,4 @@
--- Designs as contracts see them: three lists within their limits.
+-- Designs as contracts see them: a label, thread numbers and commands, each within a limit.
 use Rattle.std.specs.Prelude.{◌≡◌, ℕ, ◌+◌, ◌%◌, ◌<◌, ◌≤◌, List, [], ◌∷◌, ◌++◌, true, false, length, Result, Ok, Err, IsTrue, slice_get, slice_set, unwrap_or}
 use Rattle.std.specs.List.{list_all}
 use Rattle.design_model.specs.declared.command.Command.{Command}
@@ -8,52 +8,52 @@ use Rattle.design_model.specs.declared.design.TheConstants.{MAX_COMMANDS, MAX_TH
 use Rattle.design_model.specs.Commands.{is_in_range}
 use Rattle.design_model.specs.Labels.{IsLabel}
 
--- a label, the thread numbers of the first blocks, and the commands
+-- A design: the bytes of the label, the thread numbers of the first blocks, and the commands.
 pub record DesignValue : Type 0 where
   pub label : List ℕ
   pub threads : List ℕ
   pub commands : List Command
 
--- the limits of a design
+-- The limits of a design.
 pub record KeepsLimits (d : DesignValue) : Type 0 where
   pub label : IsLabel d.label
   pub threads : length d.threads ≤ MAX_THREADS
   pub count : length d.commands ≤ MAX_COMMANDS
   pub in_range : IsTrue (list_all is_in_range d.commands)
 
--- no label, no threads, no commands
+-- The design without label, threads and commands.
 abbrev pub empty_design : DesignValue
 empty_design = record { label = []; threads = []; commands = [] }
 
--- the same design under another label
+-- A design with another label.
 abbrev pub with_label : DesignValue → List ℕ → DesignValue
 with_label d text = record d { label = text }
 
--- the design with one thread number more
+-- A design with one more thread number.
 abbrev pub with_thread : DesignValue → ℕ → DesignValue
 with_thread d thread = record d { threads = d.threads ++ thread ∷ [] }
 
--- the design with another number in the place of a kept one
+-- A design with one of its thread numbers replaced.
 abbrev pub with_thread_at : DesignValue → ℕ → ℕ → DesignValue
 with_thread_at d place thread = record d { threads = slice_set d.threads place thread }
 
--- the design with one command more
+-- A design with one more command.
 abbrev pub with_command : DesignValue → Command → DesignValue
 with_command d command = record d { commands = d.commands ++ command ∷ [] }
 
--- the design with another command in the place of one
+-- A design with one of its commands replaced.
 abbrev pub with_command_at : DesignValue → ℕ → Command → DesignValue
 with_command_at d index command = record d { commands = slice_set d.commands index command }
 
--- the label and the threads alone
+-- The label and the threads of a design, without its commands.
 abbrev pub without_commands : DesignValue → DesignValue
 without_commands d = record d { commands = [] }
 
--- the thread of a block: the kept number, else one from 1 to 64 by the block's place
+-- The thread of a block: the stored number, else 1 to 64 by the index of the block.
 abbrev pub thread_of : DesignValue → ℕ → ℕ
 thread_of d block = unwrap_or (slice_get d.threads block) (1 + block % 64)
 
--- what each answer of a push means; a refusal leaves the design as it was
+-- The results of pushing a command. An error leaves the design unchanged.
 abbrev pub Pushes : {T : Type 0} → Command → DesignValue → Result T ModelFault → DesignValue
     → Type 0
 Pushes c old (Ok _) new =

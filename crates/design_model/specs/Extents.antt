@@ -1,4 +1,4 @@
--- The extent of a design: the least and greatest x and y of its needle points, in tenths of a
+-- The extent of a design: the minimum and maximum x and y of its needle points, in tenths of a
 -- millimetre.
 use Rattle.std.specs.Prelude.{◌≡◌, ℕ, ℤ, ◌-ℤ◌, ◌≤ℤ◌, unsigned_abs, List, [], ◌∷◌, Option, Some, None, All, Contains, fold, map}
 use Rattle.std.specs.Int.{int_min, int_max}
@@ -10,23 +10,23 @@ use Rattle.design_model.specs.ActKinds.{needle_point}
 use Rattle.design_model.specs.Acts.{acts_of}
 use Rattle.design_model.specs.Designs.{DesignValue}
 
--- the points of the needle acts among those
+-- The points of the needle acts in a list of acts.
 abbrev pub needle_points : List NumberedAct → List Point
 needle_points acts = filter_map needle_point acts
 
--- the points of a design's needle acts
+-- The points of the needle acts of a design.
 abbrev pub needle_points_of : DesignValue → List Point
 needle_points_of d = needle_points (acts_of d)
 
--- the x of each point
+-- The x coordinates of points.
 abbrev pub columns : List Point → List ℤ
 columns points = map (λ p. p.x) points
 
--- the y of each point
+-- The y coordinates of points.
 abbrev pub rows : List Point → List ℤ
 rows points = map (λ p. p.y) points
 
--- an extent, grown as far as to hold those points
+-- The smallest extent that contains an extent and further points.
 abbrev pub grown : Extent → List Point → Extent
 grown extent points = record {
   min = record {
@@ -39,51 +39,52 @@ grown extent points = record {
   };
 }
 
--- the extent of one point
+-- The extent of one point.
 abbrev pub extent_at : Point → Extent
 extent_at p = record { min = p; max = p }
 
--- the extent of points; no point has none
+-- The extent of a list of points; none for the empty list.
 abbrev pub extent_of_points : List Point → Option Extent
 extent_of_points [] = None
 extent_of_points (p ∷ rest) = Some (grown (extent_at p) rest)
 
--- the extent of a design's needle points
+-- The extent of the needle points of a design.
 abbrev pub extent_of : DesignValue → Option Extent
 extent_of d = extent_of_points (needle_points_of d)
 
--- an extent, where there is one already, grown as far as to hold those points
+-- The smallest extent of an optional extent and further points.
 abbrev pub extended : Option Extent → List Point → Option Extent
 extended None points = extent_of_points points
 extended (Some extent) points = Some (grown extent points)
 
--- how far the points of an extent lie apart to the right, and downwards; without one it is 0
+-- The width of an extent, in tenths of a millimetre; 0 for none.
 abbrev pub width_of : Option Extent → ℕ
 width_of None = 0
 width_of (Some extent) = unsigned_abs (extent.max.x -ℤ extent.min.x)
 
+-- The height of an extent, in tenths of a millimetre; 0 for none.
 abbrev pub height_of : Option Extent → ℕ
 height_of None = 0
 height_of (Some extent) = unsigned_abs (extent.max.y -ℤ extent.min.y)
 
--- one of the numbers, and none is less
+-- The minimum of a list: an element that no element is below.
 pub record IsLeast (number : ℤ) (numbers : List ℤ) : Type 0 where
   pub bound : All (λ n. number ≤ℤ n) numbers
   pub reached : Contains numbers number
 
--- one of the numbers, and none is greater
+-- The maximum of a list: an element that no element is above.
 pub record IsGreatest (number : ℤ) (numbers : List ℤ) : Type 0 where
   pub bound : All (λ n. n ≤ℤ number) numbers
   pub reached : Contains numbers number
 
--- the corners have the least and the greatest x and y of the points
+-- The extent of points, stated by its corners: the minimum and maximum x and y.
 pub record IsExtent (points : List Point) (extent : Extent) : Type 0 where
   pub left : IsLeast extent.min.x (columns points)
   pub top : IsLeast extent.min.y (rows points)
   pub right : IsGreatest extent.max.x (columns points)
   pub bottom : IsGreatest extent.max.y (rows points)
 
--- the extent of the points, or none where there is no point
+-- The extent of points if there are any, and none for the empty list.
 abbrev pub Bounds : List Point → Option Extent → Type 0
 Bounds points None = points ≡ []
 Bounds points (Some extent) = IsExtent points extent

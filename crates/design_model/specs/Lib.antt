@@ -1,7 +1,7 @@
 pub mod Points
 pub mod Labels
 pub mod Commands
--- read this one first: what a design is, and its limits
+-- Read Designs first: what a design is, and its limits.
 pub mod Designs
 pub mod LongerDesigns
 pub mod Acts

@@ -1,24 +1,24 @@
--- Places, in whole tenths of a millimetre; x grows to the right, y grows downwards.
+-- Points and moves, in whole tenths of a millimetre; x grows to the right, y downwards.
 use Rattle.std.specs.Prelude.{ℕ, Bool, ◌&&◌, ◌-ℤ◌, max, nat_le, unsigned_abs, pos}
 use Rattle.std.specs.Ordering.{int_eq}
 use Rattle.design_model.specs.declared.point.Point.{Point}
 
--- neither coordinate is larger in size than the limit
+-- The test whether neither coordinate of a point exceeds the limit in absolute value.
 abbrev pub is_within : ℕ → Point → Bool
 is_within limit p = nat_le (unsigned_abs p.x) limit && nat_le (unsigned_abs p.y) limit
 
--- the place from which all moves begin
+-- The origin, where every design starts.
 abbrev pub origin : Point
 origin = record { x = pos 0; y = pos 0 }
 
--- the move from one place to another
+-- The move from one point to another.
 abbrev pub move_between : Point → Point → Point
 move_between p q = record { x = q.x -ℤ p.x; y = q.y -ℤ p.y }
 
--- the size of a move: that of its larger axis
+-- The size of a move: the larger of the absolute values of its coordinates.
 abbrev pub size_of : Point → ℕ
 size_of m = max (unsigned_abs m.x) (unsigned_abs m.y)
 
--- the same place
+-- The test whether two points are equal.
 abbrev pub is_same_point : Point → Point → Bool
 is_same_point p q = int_eq p.x q.x && int_eq p.y q.y

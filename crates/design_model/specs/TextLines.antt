@@ -1,6 +1,6 @@
 -- Lines of text.
 use Rattle.std.specs.Prelude.{ℕ, List, [], ◌∷◌}
 
--- the end of a line
+-- The line terminator: one byte, 10.
 abbrev pub line_end : List ℕ
 line_end = 10 ∷ []

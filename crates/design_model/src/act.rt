@@ -3,10 +3,10 @@ ghost use Rattle.design_model.specs.ActPlaces.{is_loose_after as is_loose, place
 
 use crate::point::Point;
 
-/// What a command does to the cloth or the thread.
+/// The effect of a command on the cloth or the thread.
 #[derive(Clone, Copy, Debug, PartialEq, Eq)]
 pub enum Act {
-    /// A needle penetration. It is a float where the thread was carried over by a jump and not cut.
+    /// A needle penetration, which is a float if the thread was carried over by a jump and not cut.
     Needle { at: Point, float: bool },
     /// A cut of a thread that was not loose.
     Trim,
@@ -15,7 +15,7 @@ pub enum Act {
 }
 
 impl Act {
-    /// Whether the thread is loose after it: a trim and a stop leave it so.
+    /// Returns whether the thread is loose after the act: a trim and a stop leave it loose.
     pub fn is_loose_after(self) -> bool
         ensures { result ≡ is_loose self }
     {
@@ -25,7 +25,7 @@ impl Act {
         }
     }
 
-    /// The place after it: that of a needle, else the same.
+    /// Returns the position of the needle after the act: the new penetration, or `place` itself.
     pub fn place_after(self, place: Point) -> Point
         ensures { result ≡ place_of place self }
     {
@@ -36,7 +36,7 @@ impl Act {
     }
 }
 
-/// An act with the number of the command that it came from, counted from 1.
+/// An act with the number of the command from which it is computed, counted from 1.
 #[derive(Clone, Copy, Debug, PartialEq, Eq)]
 pub struct NumberedAct {
     pub number: u32,

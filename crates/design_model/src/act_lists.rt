@@ -10,7 +10,7 @@ use crate::memory::Memory;
 use crate::thread_state::ThreadState;
 use std::alloc::Global;
 
-/// The acts of a design, each with the number of its command.
+/// Returns the acts of a design, each with the number of its command.
 pub fn acts(alloc: Global, design: &Design) -> Result<Acts, Memory>
     ensures value { IfOk result (λ acts. acts ≡ acts_of design.now) }
     ensures few { IfOk result (λ acts. length acts ≤ MAX_COMMANDS) }

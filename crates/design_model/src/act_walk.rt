@@ -9,17 +9,17 @@ use crate::act::NumberedAct;
 use crate::command::Command;
 use crate::thread_state::ThreadState;
 
-/// A walk through the commands of a design, which gives their acts.
+/// A scanner over the commands of a design, which computes their acts one by one.
 #[derive(Clone, Copy, Debug, PartialEq, Eq)]
 pub struct ActWalk {
-    /// The commands so far.
+    /// The number of commands read.
     pub number: u32,
-    /// How the thread stands after them.
+    /// The state of the thread after them.
     pub thread: ThreadState,
 }
 
 impl ActWalk {
-    /// Before the first command.
+    /// Returns the state before the first command.
     pub fn new() -> Self
         ensures first { (commands : List CommandValue) → acts_after result commands
             ≡ acts_along commands }
@@ -31,7 +31,7 @@ impl ActWalk {
         }
     }
 
-    /// The act of the next command, if it is one.
+    /// Reads the next command and returns its act, if it has one.
     pub fn next(&mut self, command: Command) -> Option<NumberedAct>
         requires number { self.old.number + 1 < 2 ^ 32 }
         requires in_range { IsTrue (is_in_range command) }

@@ -14,7 +14,7 @@ use crate::memory::Memory;
 use crate::thread_state::ThreadState;
 use std::alloc::Global;
 
-/// The number of needle acts of each block, in order. A stop act ends a block.
+/// Returns the number of needle acts of each block, in order. A stop act ends a block.
 #[tactic(auto, using(crate::proofs::BlockLemmas::blocks_by_stops))]
 pub fn block_counts(alloc: Global, design: &Design) -> Result<Numbers, Memory>
     ensures ok { IfOk result (λ needles. needles ≡ needles_of_blocks design.now) }
@@ -55,7 +55,7 @@ fn needles_after(ended: &mut Numbers, needles: u32, act: Act) -> Result<u32, Mem
     }
 }
 
-/// The same after a trim or a stop. These are few, and so apart from the loop.
+/// Updates the counts for a trim or a stop. Trims and stops are rare, and are kept out of the loop.
 #[cold]
 #[inline(never)]
 fn needles_after_cut(ended: &mut Numbers, needles: u32, act: Act) -> Result<u32, Memory>

@@ -3,15 +3,15 @@ ghost use Rattle.design_model.specs.Extents.{height_of, width_of};
 
 use crate::point::Point;
 
-/// The corners of the least upright rectangle that holds some points, in tenths of a millimetre:
-/// `min` has the least x and y, and `max` the greatest.
+/// The corners of the smallest upright rectangle that contains some points, in tenths of a millimetre: `min`
+/// has the minimum x and y, and `max` the maximum.
 #[derive(Clone, Copy, Debug, PartialEq, Eq)]
 pub struct Extent {
     pub min: Point,
     pub max: Point,
 }
 
-/// How far the points of an extent lie apart to the right; 0 where there is none.
+/// Returns the width of an extent, in tenths of a millimetre; 0 for `None`.
 pub fn width(extent: Option<Extent>) -> u32
     ensures { result ≡ width_of extent }
 {
@@ -21,7 +21,7 @@ pub fn width(extent: Option<Extent>) -> u32
     }
 }
 
-/// How far the points of an extent lie apart downwards; 0 where there is none.
+/// Returns the height of an extent, in tenths of a millimetre; 0 for `None`.
 pub fn height(extent: Option<Extent>) -> u32
     ensures { result ≡ height_of extent }
 {

@@ -3,7 +3,7 @@ ghost use Rattle.design_model.specs.Commands.{is_in_range as command_is_in_range
 
 use crate::point::{JUMP_LIMIT, NEEDLE_LIMIT, Point};
 
-/// What a machine does next. Points are absolute.
+/// A command to the machine. Points are absolute.
 #[derive(Clone, Copy, Debug, PartialEq, Eq)]
 pub enum Command {
     /// The needle goes down at this point.
@@ -17,7 +17,7 @@ pub enum Command {
 }
 
 impl Command {
-    /// Says whether the command's point, where it has one, is in its range.
+    /// Returns whether the point of the command, if any, is in the range of its kind.
     pub fn is_in_range(&self) -> bool
         ensures { result ≡ command_is_in_range self.now }
     {
@@ -28,7 +28,7 @@ impl Command {
         }
     }
 
-    /// Where it leads, if it is a stitch or a jump.
+    /// Returns the point of a stitch or a jump.
     pub fn target(self) -> Option<Point>
         ensures { result ≡ target_of self }
     {
@@ -38,7 +38,7 @@ impl Command {
         }
     }
 
-    /// Says whether it is a stitch or a jump and the point is in its range.
+    /// Returns whether the command is a stitch or a jump and the point is in its range.
     pub fn takes_point(self, point: Point) -> bool
         ensures { result ≡ command_takes_point self point }
     {
@@ -49,7 +49,7 @@ impl Command {
         }
     }
 
-    /// The same stitch or jump at another point; a trim or a stop stays as it is.
+    /// Returns the stitch or jump at another point; a trim or a stop is unchanged.
     pub fn moved_to(self, point: Point) -> Command
         ensures { result ≡ command_moved_to self point }
     {

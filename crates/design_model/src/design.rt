@@ -10,23 +10,23 @@ use arrayvec::ArrayVec;
 use std::alloc::{AllocFailed, Global};
 use std::marker::Model;
 
-/// The most bytes of a label.
+/// The maximum length of a label in bytes.
 pub const MAX_LABEL: usize = 16;
 
-/// The most thread numbers that a design keeps.
+/// The maximum number of thread numbers in a design.
 pub const MAX_THREADS: usize = 255;
 
-/// The most commands of a design.
+/// The maximum number of commands in a design.
 pub const MAX_COMMANDS: usize = 1_000_000;
 
-/// Why a design did not take a command.
+/// Why a design rejected a command.
 #[derive(Clone, Copy, Debug, PartialEq, Eq)]
 pub enum ModelFault {
-    /// The point leaves its range.
+    /// The point is out of its range.
     Range,
-    /// The design has as many commands as it may have.
+    /// The design has `MAX_COMMANDS` commands.
     TooMany,
-    /// Memory was wanted and not found.
+    /// Out of memory.
     Memory,
 }
 
@@ -40,7 +40,7 @@ impl<T: Drop> From<AllocFailed<T>> for ModelFault {
     }
 }
 
-/// An embroidery design: a label, the threads that it keeps a number for, and its commands.
+/// An embroidery design: a label, the thread numbers of the first blocks, and the commands.
 ///
 /// A design has one colour block more than it has `Stop` commands. Blocks count from 0.
 #[derive(Debug, Drop)]
@@ -71,7 +71,7 @@ impl Model for Design {
 impl Design {
     ghost use Rattle.design_model.specs.Designs.{KeepsLimits, Pushes, empty_design, with_command_at, with_label, with_thread, with_thread_at, without_commands, thread_of};
 
-    /// A design without label, threads and commands.
+    /// Returns a design without label, threads and commands.
     pub fn new(alloc: Global) -> Self
         ensures { result ≡ empty_design }
     {
@@ -82,7 +82,7 @@ impl Design {
         }
     }
 
-    /// A design with the label and the threads of this one, and no command.
+    /// Returns a design with the label and the threads of this one, and no command.
     pub fn without_commands(&self, alloc: Global) -> Self
         ensures { result ≡ without_commands self.now }
     {
@@ -104,7 +104,7 @@ impl Design {
         self.label.try_extend_from_slice(label).unwrap();
     }
 
-    /// The label, which is empty where none was set.
+    /// Returns the label, which is empty if none was set.
     pub fn label(&self) -> &[u8]
         ensures value { result.now ≡ self.now.label }
         ensures limits { IsLabel result.now }
@@ -112,7 +112,7 @@ impl Design {
         self.label.as_slice()
     }
 
-    /// Adds the thread number of the next block that has none.
+    /// Adds the thread number of the first block that has none.
     pub fn push_thread(&mut self, thread: u8)
         requires { length self.old.threads < MAX_THREADS }
         ensures { self.new ≡ with_thread self.old thread }
@@ -120,7 +120,7 @@ impl Design {
         self.threads.push(thread);
     }
 
-    /// Puts another thread number in the place of a kept one.
+    /// Replaces a stored thread number.
     pub fn put_thread(&mut self, place: usize, thread: u8)
         requires { place < length self.old.threads }
         ensures { self.new ≡ with_thread_at self.old place thread }
@@ -128,7 +128,7 @@ impl Design {
         self.threads.as_mut_slice()[place] = thread;
     }
 
-    /// The kept thread numbers, those of the first blocks.
+    /// Returns the stored thread numbers, those of the first blocks.
     pub fn threads(&self) -> &[u8]
         ensures value { result.now ≡ self.now.threads }
         ensures limits { length result.now ≤ MAX_THREADS }
@@ -136,7 +136,7 @@ impl Design {
         self.threads.as_slice()
     }
 
-    /// The thread of a block: the kept number, or one from 1 to 64 by the block's place.
+    /// Returns the thread of a block: the stored number, or one from 1 to 64 by the index of the block.
     pub fn thread(&self, block: u32) -> u8
         ensures { result ≡ thread_of self.now block }
     {
@@ -146,7 +146,7 @@ impl Design {
         }
     }
 
-    /// Adds a command at the end. `Range` is tested first. A refusal leaves the design as it was.
+    /// Adds a command at the end. `Range` is tested first. An error leaves the design unchanged.
     pub fn push(&mut self, command: Command) -> Result<(), ModelFault>
         ensures { Pushes command self.old result self.new }
     {
@@ -160,7 +160,7 @@ impl Design {
         Ok(())
     }
 
-    /// The commands in order.
+    /// Returns the commands in order.
     pub fn commands(&self) -> &[Command]
         ensures value { result.now ≡ self.now.commands }
         ensures limits { KeepsLimits self.now }
@@ -168,7 +168,7 @@ impl Design {
         self.commands.as_slice()
     }
 
-    /// A design keeps its limits. The body of a function that rests on them calls this law.
+    /// States that a design keeps its limits. A function whose proof needs the limits calls it.
     pub fn keeps_limits(&self)
         ensures { KeepsLimits self.now }
     {

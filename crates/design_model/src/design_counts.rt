@@ -10,7 +10,7 @@ use crate::design::Design;
 use crate::tally::Counts;
 use crate::thread_state::ThreadState;
 
-/// The number of a design's commands, needle acts, trim acts and stop acts. This takes no memory.
+/// Returns the number of commands, needle acts, trim acts and stop acts of a design. Allocates nothing.
 pub fn counts(design: &Design) -> Counts
     ensures { result ≡ counts_of design.now }
 {
@@ -51,7 +51,7 @@ fn counts_with(counts: Counts, act: Option<Act>) -> Counts
     }
 }
 
-/// The same for a trim or a stop. These are few, and so apart from the loop.
+/// Adds a trim or a stop to the counts. Trims and stops are rare, and are kept out of the loop.
 #[cold]
 #[inline(never)]
 fn counts_with_cut(counts: Counts, act: Act) -> Counts

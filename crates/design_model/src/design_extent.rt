@@ -10,8 +10,8 @@ use crate::design::Design;
 use crate::point::Point;
 use crate::thread_state::ThreadState;
 
-/// The least and greatest x and y of a design's needle acts, and `None` where there is no needle
-/// act. This takes no memory.
+/// Returns the minimum and maximum x and y of the needle acts, or `None` without needle acts. Allocates
+/// nothing.
 #[tactic(auto, using(crate::proofs::ExtentLemmas::bounds_of_points))]
 pub fn extent(design: &Design) -> Option<Extent>
     ensures value { result ≡ extent_of design.now }

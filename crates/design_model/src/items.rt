@@ -33,7 +33,7 @@ impl<T> Model for Items<T> {
 }
 
 impl<T> Items<T> {
-    /// The empty list, which takes no memory.
+    /// Returns the empty list, which has no memory allocated.
     pub fn new(alloc: Global) -> Self
         ensures { result ≡ [] }
     {
@@ -42,14 +42,14 @@ impl<T> Items<T> {
         }
     }
 
-    /// The list of a vector's items.
+    /// Returns the list of the items of a vector.
     pub fn from_vec(held: Vec<T>) -> Self
         ensures { result ≡ held.items }
     {
         Items { held }
     }
 
-    /// The items as a vector; this takes no memory.
+    /// Returns the items as a vector, without allocating.
     pub fn into_vec(self) -> Vec<T>
         ensures { result.items ≡ self }
     {
@@ -77,7 +77,7 @@ impl<T> Items<T> {
 }
 
 impl<T: Drop> Items<T> {
-    /// Adds an item at the end. A refusal leaves the list as it was.
+    /// Adds an item at the end. An error leaves the list unchanged.
     pub fn push(&mut self, item: T) -> Result<(), Memory>
         ensures ok { OnOk result (self.new ≡ self.old ++ item ∷ []) }
         ensures err { OnErr result (self.new ≡ self.old) }
@@ -88,7 +88,7 @@ impl<T: Drop> Items<T> {
 }
 
 impl<T: Copy> Items<T> {
-    /// Adds all items of a slice at the end. A refusal leaves the list as it was.
+    /// Adds all items of a slice at the end. An error leaves the list unchanged.
     pub fn append(&mut self, more: &[T]) -> Result<(), Memory>
         ensures ok { OnOk result (self.new ≡ self.old ++ more.now) }
         ensures err { OnErr result (self.new ≡ self.old) }

@@ -1,5 +1,5 @@
-//! Embroidery designs: points, commands, the acts that a design's commands come to, and the list
-//! types that the crates above share.
+//! Embroidery designs: points, commands, the acts computed from them, and the list types that the crates
+//! above share.
 #![tactic(auto)]
 
 mod act;

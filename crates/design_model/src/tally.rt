@@ -1,4 +1,4 @@
-/// How many commands a design has, and how many acts of each kind they come to.
+/// The number of commands of a design, and of its acts of each kind.
 #[derive(Clone, Copy, Debug, PartialEq, Eq)]
 pub struct Counts {
     pub commands: u32,

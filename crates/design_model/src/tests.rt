@@ -220,7 +220,8 @@ fn labelled(alloc: Global) -> Design {
     design
 }
 
-/// The same with 10,000 commands: 2,500 times a jump, two needles, and a trim, but a stop at three places.
+/// A design with a label, three threads and 10,000 commands: 2,500 times a jump, two needles, and a trim, but a
+/// stop in three cases.
 fn large(alloc: Global) -> Result<Design, ModelFault> {
     let mut design = labelled(alloc);
     for round in 0..2500u32 {

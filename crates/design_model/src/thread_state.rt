@@ -6,8 +6,8 @@ ghost use Rattle.design_model.specs.declared.command.Command.{Command as Command
 use crate::act::Act;
 use crate::command::Command;
 
-/// What the acts of a design's next commands depend on: whether the thread is loose, and whether a
-/// jump came since the last act.
+/// The state that determines the acts of the next commands: whether the thread is loose, and whether a jump
+/// followed the last act.
 #[derive(Clone, Copy, Debug, PartialEq, Eq)]
 pub struct ThreadState {
     pub loose: bool,
@@ -15,7 +15,7 @@ pub struct ThreadState {
 }
 
 impl ThreadState {
-    /// The state before the first command: a loose thread, and no jump.
+    /// Returns the state before the first command: a loose thread, and no jump.
     pub fn new() -> Self
         ensures { result ≡ record { loose = true; jumped = false } }
     {
@@ -25,7 +25,7 @@ impl ThreadState {
         }
     }
 
-    /// The act of the next command, if it is one.
+    /// Reads the next command and returns its act, if it has one.
     pub fn step(&mut self, command: Command) -> Option<Act>
         ensures { (n : ℕ) (rest : List CommandValue) →
             acts_from n self.old.loose self.old.jumped (command ∷ rest)
@@ -51,7 +51,8 @@ impl ThreadState {
     }
 
     /// The act of a trim or a stop, if it is one: a trim of a loose thread isn't.
-    // These are few. Apart from the walks' loops, which then need no table of jumps.
+    // Trims and stops are rare. Outside the loops they need no jump table there.
+    /// Returns the act of a trim or a stop; a trim of a loose thread has none.
     #[cold]
     #[inline(never)]
     fn release(&mut self, command: Command) -> Option<Act>

@@ -4,21 +4,21 @@ ghost use Rattle.std.specs.Str.{all_ascii_digits};
 ghost use Rattle.std.specs.Str.Parse.{digits_value};
 ghost use Rattle.design_model.specs.WholeNumbers.{is_numeral as is_a_numeral, signed as signed_by, signed_whole, whole_of};
 
-/// The greatest size of a whole number that a word may spell.
+/// The maximum absolute value of a whole number in a text.
 pub const MAX_WHOLE: u32 = 999_999_999;
 
-/// What a word says as a whole number.
+/// The result of reading a text as a whole number.
 #[derive(Clone, Copy, Debug, PartialEq, Eq)]
 pub enum Whole {
-    /// It is not an optional `-` and then one or more digits.
+    /// The text is not an optional `-` and then one or more digits.
     NotANumber,
-    /// It is a number whose size passes 999,999,999.
+    /// The absolute value exceeds 999,999,999.
     Outside,
-    /// This number.
+    /// The number.
     Value(i32),
 }
 
-/// The whole number that a word of any length spells. This takes no memory.
+/// Reads a text of any length as a whole number. Allocates nothing.
 pub fn parse_whole(word: &[u8]) -> Whole
     ensures { result ≡ whole_of word.now }
 {
@@ -28,7 +28,7 @@ pub fn parse_whole(word: &[u8]) -> Whole
     }
 }
 
-/// What stands behind a minus sign at the beginning.
+/// Returns the bytes after a leading minus sign, if there is one.
 fn after_minus(word: &[u8]) -> Option<&[u8]>
     ensures some { IfSome result (λ digits. word.now ≡ 45 ∷ digits.now) }
     ensures none { IfNone result (whole_of word.now ≡ signed_whole false word.now) }
@@ -76,7 +76,7 @@ fn are_digits(bytes: &[u8]) -> bool
     true
 }
 
-/// What the digits write, or one more than the greatest whole number where that is less.
+/// Returns the number that digits write, capped at `MAX_WHOLE` + 1.
 #[tactic(auto, using(crate::proofs::WholeLemmas::capped_more, crate::proofs::WholeLemmas::digit_among))]
 fn capped_value(digits: &[u8]) -> u32
     requires { all_ascii_digits digits.now ≡ true }
@@ -89,7 +89,7 @@ fn capped_value(digits: &[u8]) -> u32
     value
 }
 
-/// The same with one digit more at the end.
+/// Returns the capped value with one more digit at the end.
 fn capped_with(value: u32, digit: u8) -> u32
     requires digit { is_ascii_digit digit ≡ true }
     requires value { value ≤ MAX_WHOLE + 1 }

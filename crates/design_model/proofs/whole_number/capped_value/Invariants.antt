@@ -3,6 +3,6 @@ use Rattle.std.specs.Str.Parse.{digits_value}
 use Rattle.design_model.specs.declared.whole_number.TheConstants.{MAX_WHOLE}
 use Rattle.design_model.proofs.whole_number.capped_value.Given as goal
 
--- what the digits so far write
+-- The number that the digits read so far write.
 abbrev pub invariant-loop-digit : goal.invariant-loop-digit
 invariant-loop-digit l = l.value ≡ min (digits_value 10 (take l.digit-index l.digits)) (MAX_WHOLE + 1)
