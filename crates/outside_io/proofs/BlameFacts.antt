@@ -1,4 +1,4 @@
--- What is laid at whom, and what answers tell.
+-- Worked values of blamed calls, and of the results of calls.
 use Rattle.std.proofs.Common.{◌≡◌, ℕ, ◌<◌, ◌≤◌, List, [], ◌∷◌, length, Option, Some, None, Ok, Err, option_map, refl, sym, ap, arith, inr, ⊎_elim, true≢false}
 use Rattle.outside_io.specs.declared.blame.Kind.{Kind}
 use Rattle.outside_io.specs.declared.blame.Kind.TheVariants as kind
@@ -28,18 +28,18 @@ known_write = refl
 pub known_noted : noted (noted no_faults (read_of (97 ∷ []))) (write_of (98 ∷ [])) ≡ record { count = 2; last = Some (write_of (98 ∷ [])) }
 known_noted = refl
 
--- a count rises, or stands at the greatest
+-- A count rises, or is at its maximum.
 pub known_still : Rose 18446744073709551615 18446744073709551615
 known_still = inr refl
 
 pub known_not_risen : Rose 1 1 → ⊥
 known_not_risen rose = ⊎_elim (λ more. omega (arith, more)) (λ end. omega (arith, end)) rose
 
--- what a store shows that tells no files
+-- The view of a store that hides its files.
 abbrev sight : ℕ → Option Blame → StoreSight
 sight faults blame = record { files = None; faults = faults; blame = blame }
 
--- a call that failed is counted, and the blame is its own; no other answer counts
+-- A failed call is counted and blamed; no other result is.
 pub known_read_failed : ReadCause {T = ℕ} (97 ∷ []) (sight 1 None) (sight 2 (Some (write_of (97 ∷ [])))) (Err stop.Failed) → ⊥
 known_read_failed faults = other (ap (option_map (λ (call : Blame). call.kind)) faults.blame)
   where
@@ -100,7 +100,7 @@ known_past part = few part.left
     few : 2 ≤ 1 → ⊥
     few is = omega (arith, is)
 
--- each name has a file of two bytes: where no byte more comes these are the file
+-- Each name has a file of two bytes: if no further byte is read, these are the entire file.
 abbrev files : Files
 files name = Some (1 ∷ 2 ∷ [])
 
@@ -110,11 +110,11 @@ known_not_whole part = whole (part.end refl files refl)
     whole : ◌≡◌ {A = Option (List ℕ)} (Some (1 ∷ 2 ∷ [])) (Some (1 ∷ [])) → ⊥
     whole is = cc
 
--- the files are told, and no call has failed
+-- Visible files, and no failed call.
 abbrev told : StoreSight
 told = record { files = Some files; faults = 1; blame = None }
 
--- a file is missing where the files are told and it isn't among them
+-- A file is missing if files are visible and it isn't among them.
 pub known_untold : Lacks None [] → ⊥
 known_untold lacks = true≢false (sym lacks.told)
 
@@ -143,7 +143,7 @@ known_within_limit answer = known_not_longer (answer.0 files refl)
 pub known_not_missing : ReadsWhole [] 2 told told (Err get.Missing) → ⊥
 known_not_missing answer = known_there answer.0
 
--- and so are its parts
+-- A part of a file is missing if the file is.
 pub known_next_over : ReadsNext [] 1 2 told told (2 ∷ 9 ∷ []) (Ok 2) → ⊥
 known_next_over answer = over answer.1
   where
@@ -153,7 +153,7 @@ known_next_over answer = over answer.1
 pub known_next_within : ReadsNext [] 0 2 told told [] (Err get.TooLong) → ⊥
 known_next_within answer = known_not_longer (answer.1 [] refl (λ shown same content is. refl) files refl)
 
--- no other file changes, and what is untold stays so
+-- No other file changes, and hidden files remain hidden.
 pub known_changed : ChangesOnly (Some (λ name. None)) (Some files) (97 ∷ []) → ⊥
 known_changed changes = new (changes [] (λ is. cc))
   where
@@ -163,7 +163,7 @@ known_changed changes = new (changes [] (λ is. cc))
 pub known_told : ChangesOnly None (Some files) [] → ⊥
 known_told changes = changes
 
--- a sink that shows these bytes after so many faults
+-- A sink with these bytes visible, after n faults.
 abbrev sink : ℕ → List ℕ → SinkSight
 sink faults bytes = record { taken = Some bytes; faults = faults }
 

@@ -1,4 +1,4 @@
--- Worked values of what whole files and sinks answer.
+-- Worked values of the results of reading entire files, and of sinks.
 use Rattle.std.proofs.Common.{◌≡◌, [], ◌∷◌, Some, None, Ok, Err, refl}
 use Rattle.outside_io.specs.declared.whole_files.GetFault.TheVariants as fault
 use Rattle.outside_io.specs.Causes.{whole_answer, with_more}
@@ -17,7 +17,7 @@ known_empty = refl
 pub known_missing : whole_answer None 3 ≡ Err fault.Missing
 known_missing = refl
 
--- bytes are added at the end, where they are told
+-- Bytes are added at the end, if they are visible.
 pub known_more : with_more (Some (1 ∷ 2 ∷ [])) (3 ∷ []) ≡ Some (1 ∷ 2 ∷ 3 ∷ [])
 known_more = refl
 

@@ -5,7 +5,7 @@ use Rattle.std.specs.Str.{bytes_eq}
 use Rattle.outside_io.specs.Files.{Files, WhereTold}
 use Rattle.outside_io.specs.MemEntries.{EntryValue, entry_in, file_in, put_in, with_content, with_file, with_room}
 
--- what holds of the files that are told holds where they are told
+-- A fact of visible files holds wherever they are visible.
 pub where_told : (P : Files → Type 0) (files : Files) → P files → WhereTold (Some files) P
 where_told P files holds told is = let same : files ≡ told = cc in subst P same holds
 
@@ -14,11 +14,11 @@ by_test : {P : Type 0} (b : Bool) → (b ≡ true → P) → (b ≡ false → P)
 by_test true yes_case no_case = yes_case refl
 by_test false yes_case no_case = no_case refl
 
--- different names are told apart
+-- The test of equal names fails for different names.
 unlike : (a b : List ℕ) → a ≢ b → bytes_eq a b ≡ false
 unlike a b differs = by_test (bytes_eq a b) (λ is. absurd (differs ((bytes_eq-Decides a b).0 is))) (λ is. is)
 
--- equal names aren't told apart
+-- The test of equal names succeeds for equal names.
 told_apart : (a b : List ℕ) → a ≡ b → bytes_eq a b ≡ false → ⊥
 told_apart a b same differs = let test : bytes_eq a b ≡ true = (bytes_eq-Decides a b).1 same in cc
 
@@ -55,7 +55,7 @@ pub file_in-put_in_other : (entries : List EntryValue) (entry : EntryValue) (oth
     file_in (put_in entries entry) other ≡ file_in entries other
 file_in-put_in_other entries entry other differs = rw (entry_in-put_in_other entries entry other differs)
 
--- the file whose content was set holds it
+-- The file whose content was set contains it.
 pub file_in-with_content : (entries before : List EntryValue) (name content : List ℕ) →
     entries ≡ with_content before name content → file_in entries name ≡ Some content
 file_in-with_content entries before name content is = rw is (file_in-put_in before _ name refl)

@@ -15,7 +15,7 @@ pub record Passed (entries : List EntryValue) (name : List ℕ) (place : ℕ) : 
   pub replaced : (entry : EntryValue) → entry.name ≡ name →
       put_in entries entry ≡ take place entries ++ put_in (drop place entries) entry
 
--- an entry that has its name stands in the first place
+-- An entry of that name at index 0 is found there.
 found-here : (entry : EntryValue) (rest : List EntryValue) (name : List ℕ) →
     bytes_eq entry.name name ≡ true → entry_in (entry ∷ rest) name ≡ Some entry
 found-here entry rest name is = rw is

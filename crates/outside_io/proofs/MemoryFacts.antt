@@ -38,7 +38,7 @@ pub known_overflow : overflows two (97 ∷ []) (5 ∷ 6 ∷ []) ≡ true
 unfolding two
 known_overflow = refl
 
--- a file that is set anew keeps the larger room, and a longer one raises it
+-- A file that is set again keeps the larger room, and a longer one raises it.
 pub known_kept_room : room_in (with_file two (97 ∷ []) (9 ∷ [])) (97 ∷ []) ≡ Some 3
 unfolding two
 known_kept_room = refl
@@ -47,7 +47,7 @@ pub known_raised_room : room_in (with_file two (98 ∷ []) (4 ∷ 5 ∷ 6 ∷ []
 unfolding two
 known_raised_room = refl
 
--- a new name stands at the end, with its file and just the room for it
+-- A new name is added at the end, with its file and exactly the room for it.
 pub known_new_room : room_in (with_file two (99 ∷ []) (4 ∷ [])) (99 ∷ []) ≡ Some 1
 unfolding two
 known_new_room = refl
@@ -62,7 +62,7 @@ pub known_emptied : room_in (with_content two (97 ∷ []) []) (97 ∷ []) ≡ So
 unfolding two
 known_emptied = refl
 
--- bytes are added behind those of the file, and the other name keeps its room and has no file
+-- Bytes are appended to the file, and the other name keeps its room and has no file.
 pub known_added : file_in (with_added two (97 ∷ []) (5 ∷ [])) (97 ∷ []) ≡ Some (1 ∷ 2 ∷ 5 ∷ [])
 unfolding two
 known_added = refl

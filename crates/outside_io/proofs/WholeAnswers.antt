@@ -1,4 +1,4 @@
--- Where no count rises, the file decides what the reading of it answers.
+-- If no fault is counted, the file determines the result of reading it.
 use Rattle.std.proofs.Common.{◌≡◌, ℕ, ◌≤◌, List, length, Some, None, Ok, Err, Option, Result, true, false, ◌∙◌, ap, arith, inl, inr}
 use Rattle.std.specs.Bool.{nat_le}
 use Rattle.outside_io.specs.declared.whole_files.GetFault.{GetFault}
@@ -24,7 +24,7 @@ longer_answer None limit longer = absurd longer
 longer_answer (Some content) limit longer =
     let test : nat_le (length content) limit ≡ false = grind arith in rw test
 
--- each answer that can come then is the file's, or want of memory
+-- Each possible result is then that of the file, or out of memory.
 pub decided : (name : List ℕ) (limit : ℕ) (old new : StoreSight) (result : Result (List ℕ) GetFault) →
     ReadsWhole name limit old new result → IsQuiet old.faults new.faults →
     WhereTold old.files (λ told. IsSaid wants_memory (whole_answer (told name) limit) result)

@@ -1,4 +1,4 @@
--- What the bytes that were read so far say of a file that is told.
+-- The relation between the bytes read so far and a visible file.
 use Rattle.std.proofs.Common.{◌≡◌, ℕ, ◌+◌, ◌<◌, ◌≤◌, ◌++◌, List, length, take, drop, min, Some, None, Option, refl, sym, ◌∙◌, ap, arith, length-append, length-drop}
 use Rattle.std.proofs.Math.Seq.{take-add}
 use Rattle.std.proofs.lemmas.List.{take_all, length-take, length-take-le}
@@ -10,7 +10,7 @@ use Rattle.outside_io.specs.Sights.{StoreSight}
 pub stays_on : {old mid new : StoreSight} → Stays old mid → Stays mid new → Stays old new
 stays_on first next = record { count = next.count ∙ first.count; blame = next.blame ∙ first.blame }
 
--- the end was met, so the bytes are the whole content
+-- At the end of the file, the bytes are the entire content.
 pub whole_at_end : (file : Option (List ℕ)) (bytes buffer : List ℕ) (offset count : ℕ) → Begins file bytes →
     offset ≡ length bytes → ReadsFrom file offset buffer count → 0 < length buffer → count ≡ 0 → file ≡ Some bytes
 whole_at_end None bytes buffer offset count begins place reads room none = absurd reads
@@ -33,7 +33,7 @@ begins_more (Some whole) bytes buffer after offset count begins place reads with
     ∙ ap (λ n. length bytes + n) (length-take-le count buffer within) in
     rw (total, take-add (length bytes) count content) cc
 
--- more bytes than the limit were read, so the content is longer
+-- If more bytes than the limit were read, the content is longer.
 pub longer_than : (file : Option (List ℕ)) (bytes buffer after : List ℕ) (offset count limit : ℕ) → Begins file bytes →
     offset ≡ length bytes → ReadsFrom file offset buffer count → count ≤ length buffer →
     after ≡ bytes ++ take count buffer → limit < length after → IsLonger file limit

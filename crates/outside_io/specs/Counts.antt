@@ -1,20 +1,19 @@
--- Counts of faults and of calls: 64-bit numbers that never fall, and that stand still once they
--- have reached the greatest one.
+-- Counts of faults and calls: 64-bit numbers that never fall, and stop at their maximum.
 use Rattle.std.specs.Prelude.{◌≡◌, ◌≢◌, ℕ, ◌+◌, ◌<◌, ◌⊎◌, min}
 
--- where a count stands still
+-- The maximum of a count: the largest 64-bit number.
 abbrev pub GREATEST_COUNT : ℕ
 GREATEST_COUNT = 18446744073709551615
 
--- the count after one more
+-- The count after one more.
 abbrev pub counted_on : ℕ → ℕ
 counted_on count = min (count + 1) GREATEST_COUNT
 
--- "the count rose": it did, or it stands at the greatest
+-- A count that rose, or has reached its maximum.
 abbrev pub Rose : ℕ → ℕ → Type 0
 Rose before now = (before < now) ⊎ (now ≡ GREATEST_COUNT)
 
--- "no count rises": it is as it was, and doesn't stand at the greatest
+-- A count with no new fault: it is unchanged, and below its maximum.
 pub record IsQuiet (before now : ℕ) : Type 0 where
   pub same : now ≡ before
   pub below : now ≢ GREATEST_COUNT

@@ -1,4 +1,4 @@
--- What it means to read a file part by part.
+-- Reading a file part by part.
 use Rattle.std.specs.Prelude.{◌≡◌, ℕ, ◌+◌, ◌≤◌, List, ◌++◌, length, take, Option, Some, Result, Ok, Err}
 use Rattle.outside_io.specs.declared.whole_files.GetFault.{GetFault}
 use Rattle.outside_io.specs.declared.whole_files.GetFault.TheVariants as fault
@@ -7,22 +7,22 @@ use Rattle.outside_io.specs.Causes.{Faults, IsLonger, Stays}
 use Rattle.outside_io.specs.Files.{Files, HoldsNow, Lacks, WhereTold}
 use Rattle.outside_io.specs.Sights.{StoreSight}
 
--- the bytes are the first ones of the content, where there is one
+-- The bytes are a prefix of a content, if there is one.
 abbrev pub Begins : Option (List ℕ) → List ℕ → Type 0
 Begins file bytes = (content : List ℕ) → file ≡ Some content → bytes ≡ take (length bytes) content
 
--- where the files are told, the bytes are the first ones of the named one
+-- The bytes are a prefix of the named file, if files are visible.
 abbrev pub IsBegun : Option Files → List ℕ → List ℕ → Type 0
 IsBegun files name bytes = WhereTold files (λ told. Begins (told name) bytes)
 
--- a part of a file: so many first bytes of the buffer stand behind those before; where there are
--- none, these are the file
+-- The next part of a file: the first `count` bytes of the buffer follow the bytes before. A count
+-- of 0 means that the bytes before are the entire file.
 pub record IsNextPart (files : Option Files) (name before buffer : List ℕ)
     (count : ℕ) : Type 0 where
   pub on : IsBegun files name (before ++ take count buffer)
   pub end : count ≡ 0 → HoldsNow files name before
 
--- what an answer to reading the next part at an offset means, whatever was read before
+-- The results of reading the next part of a file at an offset, whatever was read before.
 abbrev pub ReadsNext : List ℕ → (at limit : ℕ) → StoreSight → StoreSight → List ℕ
     → Result ℕ GetFault → Type 0
 ReadsNext name at limit old new buffer (Ok count) = Stays old new × (at + count ≤ limit)

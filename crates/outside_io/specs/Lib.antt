@@ -1,6 +1,6 @@
 pub mod Counts
 pub mod Blames
--- read these three first: what files are, what a store and a sink show, and what each answer tells
+-- Read Files, Views and Causes first: files, the views of stores and sinks, and the results of calls.
 pub mod Files
 pub mod Sights
 pub mod Causes

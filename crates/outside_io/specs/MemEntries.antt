@@ -1,34 +1,34 @@
--- What a store in memory keeps of each name: its file, where there is one, and its room.
+-- The entries of a store in memory: for each name its file, if any, and its room.
 use Rattle.std.specs.Prelude.{ℕ, ◌+◌, Bool, List, [], ◌∷◌, ◌++◌, length, Option, Some, if◌then◌else◌, nat_lt, max, unwrap_or, option_map, option_and_then, find, bytes_eq}
 
--- a name, the content of its file, where there is one, and its room in bytes
+-- An entry: a name, the content of its file, if any, and its room in bytes.
 pub record EntryValue : Type 0 where
   pub name : List ℕ
   pub content : Option (List ℕ)
   pub room : ℕ
 
--- the entry of a name, where there is one
+-- The entry of a name, if there is one.
 abbrev pub entry_in : List EntryValue → List ℕ → Option EntryValue
 entry_in entries name = find (λ e. bytes_eq e.name name) entries
 
--- the content of the file of that name, where there is one
+-- The content of the file of a name, if there is one.
 abbrev pub file_in : List EntryValue → List ℕ → Option (List ℕ)
 file_in entries name = option_and_then (λ e. e.content) (entry_in entries name)
 
--- the room of a name, where it has room
+-- The room of a name, if it has an entry.
 abbrev pub room_in : List EntryValue → List ℕ → Option ℕ
 room_in entries name = option_map (λ e. e.room) (entry_in entries name)
 
--- the entries with this one in the place of the one of its name, else at the end
+-- The entries with one entry replaced by name, or added at the end.
 abbrev pub put_in : List EntryValue → EntryValue → List EntryValue
 put_in [] entry = entry ∷ []
 put_in (e ∷ rest) entry = if bytes_eq e.name entry.name then entry ∷ rest else e ∷ put_in rest entry
 
--- a room that is at least so large
+-- The room raised to at least a minimum.
 abbrev pub raised : Option ℕ → ℕ → ℕ
 raised room least = max (unwrap_or room 0) least
 
--- the entries where the file of that name has this content, in the room that the name has
+-- The entries in which the named file has this content, and its room is unchanged.
 abbrev pub with_content : List EntryValue → List ℕ → List ℕ → List EntryValue
 with_content entries name content =
     put_in entries (record {
@@ -38,12 +38,12 @@ with_content entries name content =
           unwrap_or (room_in entries name) 0;
     })
 
--- the entries where these bytes stand behind the content of the file of that name
+-- The entries in which these bytes are appended to the named file.
 abbrev pub with_added : List EntryValue → List ℕ → List ℕ → List EntryValue
 with_added entries name bytes = with_content entries name
     (unwrap_or (file_in entries name) [] ++ bytes)
 
--- the entries where the file of that name has this content, and room for it
+-- The entries in which the named file has this content, and room for it.
 abbrev pub with_file : List EntryValue → List ℕ → List ℕ → List EntryValue
 with_file entries name content =
     put_in entries (record {
@@ -53,7 +53,7 @@ with_file entries name content =
           raised (room_in entries name) (length content);
     })
 
--- the entries where the name has at least that room
+-- The entries in which the name has at least that room.
 abbrev pub with_room : List EntryValue → List ℕ → ℕ → List EntryValue
 with_room entries name room =
     put_in entries (record {
@@ -63,7 +63,7 @@ with_room entries name room =
           raised (room_in entries name) room;
     })
 
--- the bytes don't fit behind the content of the file of that name
+-- The test whether the bytes exceed the room of the named file.
 abbrev pub overflows : List EntryValue → List ℕ → List ℕ → Bool
 overflows entries name bytes =
     nat_lt (unwrap_or (room_in entries name) 0)

@@ -1,13 +1,13 @@
--- Sinks in memory: the bytes so far, the room for them, the numbers of the puts that are to fail,
--- the number of puts so far, and the faults.
+-- Sinks in memory: the bytes taken, the room for them, the numbers of the puts that shall fail, and
+-- the counts of puts and faults.
 use Rattle.std.specs.Prelude.{◌≡◌, ℕ, ◌+◌, Bool, true, false, ◌||◌, List, [], ◌++◌, length, Some, Result, Ok, Err, nat_lt}
 use Rattle.outside_io.specs.declared.store.Failed.{Failed}
 use Rattle.outside_io.specs.Counts.{counted_on}
 use Rattle.outside_io.specs.MemStores.{is_listed}
 use Rattle.outside_io.specs.Sights.{SinkSight}
 
--- the bytes and their room, the numbers of the puts that are to fail, the
--- puts and the faults so far
+-- A sink: the bytes and their room, the numbers of the puts that shall fail, and the counts of puts
+-- and faults.
 pub record MemSinkValue : Type 0 where
   pub bytes : List ℕ
   pub room : ℕ
@@ -15,20 +15,20 @@ pub record MemSinkValue : Type 0 where
   pub calls : ℕ
   pub faults : ℕ
 
--- what the sink shows: all its bytes, and the faults so far
+-- The view of a sink: all its bytes, and its fault count.
 abbrev pub sink_seen : MemSinkValue → SinkSight
 sink_seen sink = record { taken = Some sink.bytes; faults = sink.faults }
 
--- no bytes, no faults, and nothing that is to fail
+-- The sink without bytes, faults and puts that shall fail.
 abbrev pub empty_sink : ℕ → MemSinkValue
 empty_sink room = record { bytes = []; room = room; failing = []; calls = 0; faults = 0 }
 
--- the put of these bytes is to fail: its number is listed, or they would pass the room
+-- The test whether the next put fails: its number is listed, or the bytes exceed the room.
 abbrev pub refuses : MemSinkValue → List ℕ → Bool
 refuses sink bytes =
     is_listed sink.failing sink.calls || nat_lt sink.room (length sink.bytes + length bytes)
 
--- what each answer to a put means; a failed put adds nothing
+-- The results of a put. A failed put adds nothing.
 abbrev pub MemPuts : {T : Type 0} → MemSinkValue → MemSinkValue → List ℕ → Result T Failed → Type 0
 MemPuts old new bytes (Ok _) =
     (refuses old bytes ≡ false)

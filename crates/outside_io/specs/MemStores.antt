@@ -1,5 +1,5 @@
--- Stores in memory: an entry for each name that has a file or room, the numbers of the calls that
--- are to fail, the number of calls so far, and the faults.
+-- Stores in memory. A store has an entry for each name with a file or room, the numbers of the
+-- calls that shall fail, and the counts of calls and faults.
 use Rattle.std.specs.Prelude.{◌≡◌, ℕ, ◌==◌, Bool, true, false, not, ◌||◌, List, [], ◌++◌, length, take, drop, Option, Some, None, Result, Ok, Err, is_some, min, unwrap_or}
 use Rattle.std.specs.List.{list_any}
 use Rattle.outside_io.specs.declared.store.Failed.{Failed}
@@ -11,7 +11,8 @@ use Rattle.outside_io.specs.Files.{Files}
 use Rattle.outside_io.specs.MemEntries.{EntryValue, file_in, overflows, room_in, with_added, with_content, with_file, with_room}
 use Rattle.outside_io.specs.Sights.{StoreSight}
 
--- the entries, the numbers of the calls that are to fail, the calls and the faults so far
+-- A store: the entries, the numbers of the calls that shall fail, and the counts of calls and
+-- faults.
 pub record MemStoreValue : Type 0 where
   pub entries : List EntryValue
   pub failing : List ℕ
@@ -19,43 +20,43 @@ pub record MemStoreValue : Type 0 where
   pub faults : ℕ
   pub blame : Option Blame
 
--- no files, no room, no faults, and nothing that is to fail
+-- The store without files, room, faults and calls that shall fail.
 abbrev pub empty_store : MemStoreValue
 empty_store = record { entries = []; failing = []; calls = 0; faults = 0; blame = None }
 
--- the files of a store
+-- The files of a store.
 abbrev pub files_of : MemStoreValue → Files
 files_of store name = file_in store.entries name
 
--- what the store tells: all its files
+-- The files of a store, all of which are visible.
 abbrev pub told_by : MemStoreValue → Option Files
 told_by store = Some (files_of store)
 
--- what the store shows
+-- The view of a store: its files, its fault count and its blamed call.
 abbrev pub store_seen : MemStoreValue → StoreSight
 store_seen store = record { files = told_by store; faults = store.faults; blame = store.blame }
 
--- the room of each name
+-- The room of each name.
 abbrev pub rooms_of : MemStoreValue → List ℕ → Option ℕ
 rooms_of store name = room_in store.entries name
 
--- the number of the next call is one of those that are to fail
+-- The test whether the next call is one of those that shall fail.
 abbrev pub is_listed : List ℕ → ℕ → Bool
 is_listed failing calls = list_any (λ n. n == counted_on calls) failing
 
--- the store after the file of that name was set
+-- The store after its named file was set.
 abbrev pub file_set : MemStoreValue → List ℕ → List ℕ → MemStoreValue
 file_set store name content = record store { entries = with_file store.entries name content }
 
--- the store after the room of that name was raised
+-- The store after the room of a name was raised.
 abbrev pub room_raised : MemStoreValue → List ℕ → ℕ → MemStoreValue
 room_raised store name room = record store { entries = with_room store.entries name room }
 
--- the store after a call that didn't fail, and left these entries
+-- The store after a successful call that resulted in these entries.
 abbrev pub after_call : MemStoreValue → List EntryValue → MemStoreValue
 after_call store entries = record store { entries = entries; calls = counted_on store.calls }
 
--- the store after that call, which failed
+-- The store after a failed call.
 abbrev pub after_fault : MemStoreValue → Blame → MemStoreValue
 after_fault store call = record store {
   calls = counted_on store.calls;
@@ -63,8 +64,8 @@ after_fault store call = record store {
   blame = Some call;
 }
 
--- what each answer to a read means; it fails where its number is listed, and nowhere else. Bytes of
--- the content from the offset on stand at the buffer's front, and the others of the buffer stay
+-- The results of a read. A read fails exactly if its number is listed. The bytes of the content
+-- from the offset on are copied to the front of the buffer; the rest of the buffer is unchanged.
 abbrev pub MemReads : MemStoreValue → MemStoreValue → List ℕ → ℕ → (before after : List ℕ)
     → Result ℕ ReadStop → Type 0
 MemReads old new name offset before after (Ok count) =
@@ -80,7 +81,7 @@ MemReads old new name offset before after (Err stop.Failed) =
     (is_listed old.failing old.calls ≡ true) × (new ≡ after_fault old (read_of name))
     × (after ≡ before)
 
--- what each answer to a create means; it fails where its number is listed or the name has no room
+-- The results of a create. A create fails exactly if its number is listed or the name has no room.
 abbrev pub MemCreates : {T : Type 0} → MemStoreValue → MemStoreValue → List ℕ → Result T Failed
     → Type 0
 MemCreates old new name (Ok _) =
@@ -90,7 +91,8 @@ MemCreates old new name (Err _) =
     ((is_listed old.failing old.calls || not (is_some (rooms_of old name))) ≡ true)
     × (new ≡ after_fault old (write_of name))
 
--- what each answer to an append means; it fails where its number is listed or the room is too small
+-- The results of an append. An append fails exactly if its number is listed or the room is too
+-- small.
 abbrev pub MemAppends : {T : Type 0} → MemStoreValue → MemStoreValue → List ℕ → List ℕ
     → Result T Failed → Type 0
 MemAppends old new name bytes (Ok _) =

@@ -1,8 +1,8 @@
--- Where an entry stands among the entries of a store in memory.
+-- The index of an entry among the entries of a store in memory.
 use Rattle.std.specs.Prelude.{◌≡◌, ℕ, ◌<◌, List, [], ◌∷◌, ◌++◌, length, None, slice_get, slice_set, IfSome}
 use Rattle.outside_io.specs.MemEntries.{EntryValue, entry_in, put_in}
 
--- the entry of that name stands at that index: it is found there, and replaced there
+-- The index of the entry of a name: the entry is found there, and replaced there.
 pub record IsPlace (entries : List EntryValue) (name : List ℕ) (place : ℕ) : Type 0 where
   pub within : place < length entries
   pub found : entry_in entries name ≡ slice_get entries place
@@ -10,7 +10,7 @@ pub record IsPlace (entries : List EntryValue) (name : List ℕ) (place : ℕ) :
   pub replaced : (entry : EntryValue) → entry.name ≡ name → put_in entries entry
       ≡ slice_set entries place entry
 
--- no entry has that name: a new one is put at the end
+-- No entry has that name: a new one is added at the end.
 pub record IsFree (entries : List EntryValue) (name : List ℕ) : Type 0 where
   pub missing : entry_in entries name ≡ None
   pub added : (entry : EntryValue) → entry.name ≡ name → put_in entries entry

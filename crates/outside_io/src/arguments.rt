@@ -2,7 +2,7 @@ use std::alloc::{Alloc, AllocError};
 use std::rt::Env;
 use std::{env, io};
 
-/// The words after the program's name. Words that are no text ask for nothing, as no words do.
+/// Returns the arguments after the name of the program. Arguments that are not UTF-8 count as no arguments.
 pub fn program_words<R: Env + Alloc>(rt: &R) -> Result<Vec<String<R::A>, R::A>, AllocError> {
     match read_words(rt) {
         Ok(words) => Ok(words),

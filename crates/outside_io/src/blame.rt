@@ -7,7 +7,7 @@ use crate::limits::MAX_NAME;
 use arrayvec::ArrayVec;
 use std::marker::Model;
 
-/// The kind of a store's call.
+/// The kind of a call to a store.
 #[derive(Clone, Copy, Debug, PartialEq, Eq)]
 pub enum Kind {
     /// A `read_at`.
@@ -16,7 +16,7 @@ pub enum Kind {
     Write,
 }
 
-/// How many calls have failed, up to the greatest count, and the last of them.
+/// A log of failed calls: their number, up to the maximum count, and the last of them.
 #[derive(Drop)]
 pub(crate) struct FaultLog {
     count: u64,
@@ -36,7 +36,7 @@ impl Model for FaultLog {
 }
 
 impl FaultLog {
-    /// No call has failed.
+    /// Returns the log without failed calls.
     pub(crate) fn new() -> Self
         ensures { result ≡ no_faults }
     {
@@ -47,7 +47,7 @@ impl FaultLog {
         }
     }
 
-    /// Notes that a call of that kind on that name failed.
+    /// Records a failed call of that kind on that file name.
     pub(crate) fn note(&mut self, kind: Kind, name: &str)
         requires { length name.now ≤ MAX_NAME }
         ensures value { self.new ≡ noted self.old (call_of kind name.now) }

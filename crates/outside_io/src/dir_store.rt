@@ -18,7 +18,7 @@ use std::marker::Model;
 use std::rt::Files;
 use std::{fs, io};
 
-/// A file that was read from its beginning up to an offset, and may be read on from there.
+/// An open file that was read from its beginning up to an offset, where reading can continue.
 #[derive(Drop)]
 struct Opened<F: Drop> {
     name: ArrayVec<u8, MAX_NAME>,
@@ -26,9 +26,9 @@ struct Opened<F: Drop> {
     at: u64,
 }
 
-/// Real files, which the store doesn't tell. Each error of the system is a fault, a missing file and
-/// want of memory among them. A file that is read in order is opened once. A file that is made takes the
-/// place of the old one at the store's next call, once the bytes that this call adds to it are down.
+/// Real files, which are hidden from contracts. Each error of the system is a fault, including a missing file
+/// and out of memory. A file that is read in order is opened once. A created file replaces the old one at the
+/// next call of the store, after the bytes that this call appends are on disk.
 #[derive(Drop)]
 pub struct DirStore<'a, R: Files> {
     alloc: Global,
@@ -47,7 +47,7 @@ impl<'a, R: Files> Model for DirStore<'a, R> {
 }
 
 impl<'a, R: Files> DirStore<'a, R> {
-    /// The files of the running program's system. No faults so far.
+    /// Returns a store over the files of the system, without faults.
     pub fn new(alloc: Global, rt: &'a R) -> Self
         ensures { result ≡ no_faults }
     {
@@ -124,7 +124,7 @@ impl<'a, R: Files> Store for DirStore<'a, R> {
     }
 }
 
-/// Lets a file that was begun take its place, and reads.
+/// Completes a pending file, then reads.
 fn read_next<R: Files>(
     rt: &R,
     begun: &mut Option<NewFile<R::File>>,
@@ -140,7 +140,7 @@ fn read_next<R: Files>(
     read_from(rt, opened, name, at, buf)
 }
 
-/// Lets a file that was begun take its place, and begins that of the name.
+/// Completes a pending file, then begins the named one.
 fn begin_next<R: Files>(
     alloc: Global,
     rt: &R,
@@ -154,7 +154,7 @@ fn begin_next<R: Files>(
     Ok(())
 }
 
-/// Adds all the bytes to the file of the name, and lets one that was begun take its place.
+/// Appends all the bytes to the named file, and completes a pending file.
 fn add_next<R: Files>(
     rt: &R,
     begun: &mut Option<NewFile<R::File>>,
@@ -169,7 +169,7 @@ fn add_next<R: Files>(
     add_to_file(rt, name, bytes)
 }
 
-/// A file that was begun takes its place.
+/// Completes a pending file, if there is one: it replaces the old file.
 fn settle<R: Files>(rt: &R, begun: &mut Option<NewFile<R::File>>) -> io::Result<()> {
     match begun.take() {
         Some(new) => new.take_place(rt, &[]),
@@ -177,8 +177,8 @@ fn settle<R: Files>(rt: &R, begun: &mut Option<NewFile<R::File>>) -> io::Result<
     }
 }
 
-/// Reads on where the opened file stands there, and else from a file that it opens. A file that gave
-/// bytes is kept open.
+/// Continues in the open file if it is at that offset, else opens the file. A file that returned bytes is
+/// kept open.
 fn read_from<R: Files>(
     rt: &R,
     opened: &mut Option<Opened<R::File>>,
@@ -202,7 +202,7 @@ fn read_from<R: Files>(
     Ok(count)
 }
 
-/// Reads where the file stands.
+/// Reads from the current offset of an open file.
 fn read_on<F: Read + Drop>(reading: &mut Opened<F>, buf: &mut [u8]) -> io::Result<usize>
     ensures { IfOk result (λ count. count ≤ length buf.new) }
 {
@@ -227,7 +227,7 @@ fn open_at<R: Files>(rt: &R, name: &str, at: u64) -> io::Result<Opened<R::File>>
     })
 }
 
-/// Adds all the bytes at the end of a file that is there.
+/// Appends all the bytes to an existing file.
 fn add_to_file<R: Files>(rt: &R, name: &str, bytes: &[u8]) -> io::Result<()> {
     let mut options = File::options();
     options.append(true);

@@ -7,7 +7,7 @@ use crate::entry::Entry;
 use design_model::Memory;
 use std::alloc::Global;
 
-/// The index of the entry of that name.
+/// Returns the index of the entry of that name.
 fn place_of(entries: &[Entry], name: &[u8]) -> Option<usize>
     ensures some { IfSome result (λ place. IsPlace entries.now name.now place) }
     ensures none { IfNone result (IsFree entries.now name.now) }
@@ -20,7 +20,7 @@ fn place_of(entries: &[Entry], name: &[u8]) -> Option<usize>
     None
 }
 
-/// The content of the file of that name.
+/// Returns the content of the named file, if there is one.
 pub(crate) fn content_of<'a>(entries: &'a [Entry], name: &[u8]) -> Option<&'a [u8]>
     ensures some { IfSome result (λ content. file_in entries.now name.now ≡ Some content.now) }
     ensures none { IfNone result (file_in entries.now name.now ≡ None) }
@@ -31,7 +31,7 @@ pub(crate) fn content_of<'a>(entries: &'a [Entry], name: &[u8]) -> Option<&'a [u
     }
 }
 
-/// Makes the file of that name empty where the name has room, and answers whether it has.
+/// Makes the named file empty if the name has room, and returns whether it has.
 pub(crate) fn make_file(entries: &mut Vec<Entry>, name: &[u8]) -> bool
     ensures has_room { result ≡ is_some (room_in entries.old.items name.now) }
     ensures made { OnTrue result (entries.new.items ≡ with_content entries.old.items name.now []) }
@@ -47,7 +47,7 @@ pub(crate) fn make_file(entries: &mut Vec<Entry>, name: &[u8]) -> bool
     }
 }
 
-/// Adds bytes at the end of the file of that name where they fit, and answers whether they do.
+/// Appends bytes to the named file if they fit, and returns whether they do.
 pub(crate) fn add_to_file(entries: &mut Vec<Entry>, name: &[u8], bytes: &[u8]) -> bool
     requires { IsSome (file_in entries.old.items name.now) }
     ensures fits { result ≡ not (overflows entries.old.items name.now bytes.now) }
@@ -68,7 +68,7 @@ pub(crate) fn add_to_file(entries: &mut Vec<Entry>, name: &[u8], bytes: &[u8]) -
     }
 }
 
-/// Raises the room of a name. A refusal leaves the entries as they were.
+/// Raises the room of a name. An error leaves the entries unchanged.
 pub(crate) fn raise_room(
     alloc: Global,
     entries: &mut Vec<Entry>,
@@ -90,7 +90,7 @@ pub(crate) fn raise_room(
     }
 }
 
-/// Sets the file of a name, and raises its room. A refusal leaves the entries as they were.
+/// Sets the file of a name, and raises its room. An error leaves the entries unchanged.
 pub(crate) fn set_file(
     alloc: Global,
     entries: &mut Vec<Entry>,

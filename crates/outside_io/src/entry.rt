@@ -4,7 +4,7 @@ use design_model::Memory;
 use std::alloc::Global;
 use std::marker::Model;
 
-/// A name with room for a file, and the file, once it was made. The content has memory for the room.
+/// A name with room for a file, and the file, once it was created. Memory for the room is allocated.
 #[derive(Debug, Drop)]
 pub(crate) struct Entry {
     name: Vec<u8>,
@@ -29,7 +29,7 @@ impl Model for Entry {
 }
 
 impl Entry {
-    /// A name with that room, and no file.
+    /// Returns a name with that room, and no file.
     pub(crate) fn new(alloc: Global, name: &[u8], room: usize) -> Result<Self, Memory>
         ensures { IfOk result (λ entry. entry
             ≡ record { name = name.now; content = None; room = room }) }
@@ -42,14 +42,14 @@ impl Entry {
         })
     }
 
-    /// The name is this one.
+    /// Returns whether the entry has this name.
     pub(crate) fn is_named(&self, name: &[u8]) -> bool
         ensures { result ≡ bytes_eq self.now.name name.now }
     {
         self.name.as_slice() == name
     }
 
-    /// The content of the file, where there is one.
+    /// Returns the content of the file, if there is one.
     pub(crate) fn content(&self) -> Option<&[u8]>
         ensures some { IfSome result (λ content. self.now.content ≡ Some content.now) }
         ensures none { IfNone result (self.now.content ≡ None) }
@@ -61,7 +61,7 @@ impl Entry {
         }
     }
 
-    /// Raises the room where it is less. A refusal leaves it.
+    /// Raises the room to at least `room`. An error leaves it unchanged.
     pub(crate) fn raise(&mut self, room: usize) -> Result<(), Memory>
         ensures ok { OnOk result (self.new ≡ record self.old { room = max self.old.room room }) }
         ensures err { OnErr result (self.new ≡ self.old) }
@@ -81,7 +81,7 @@ impl Entry {
         self.is_made = true;
     }
 
-    /// The bytes have room behind the file's content.
+    /// Returns whether the bytes fit after the content of the file.
     pub(crate) fn fits(&self, bytes: &[u8]) -> bool
         requires { IsSome self.now.content }
         ensures { result ≡ nat_le (length (unwrap_or self.now.content []) + length bytes.now)
@@ -90,7 +90,7 @@ impl Entry {
         bytes.len() <= self.room - self.content.len()
     }
 
-    /// Adds the bytes at the file's end.
+    /// Appends the bytes to the file.
     pub(crate) fn add(&mut self, bytes: &[u8])
         requires made { IsSome self.old.content }
         requires fits { length (unwrap_or self.old.content []) + length bytes.now ≤ self.old.room }

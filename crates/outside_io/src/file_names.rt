@@ -3,7 +3,7 @@ ghost use Rattle.outside_io.specs.Files.{is_name as may_be_name};
 
 use crate::limits::MAX_NAME;
 
-/// Says whether a word may stand as a file's name.
+/// Returns whether an argument can be a file name.
 pub fn is_name(word: &str) -> bool
     ensures { result ≡ may_be_name word.now }
 {

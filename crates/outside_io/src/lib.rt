@@ -1,5 +1,5 @@
-//! The outside of the program: stores of named files and sinks of bytes as traits, in memory and
-//! real, and the reading and writing of a whole file.
+//! The outside of the program: stores of named files and sinks of bytes, as traits, in memory and real.
+//! Entire files are read and written here.
 #![tactic(auto)]
 
 mod arguments;

@@ -5,21 +5,21 @@ use std::path::{Path, PathBuf};
 use std::rt::Files;
 use std::{fs, io};
 
-/// How many links are followed.
+/// The maximum number of links followed.
 const MAX_LINKS: usize = 40;
 
-/// What stands at a path.
+/// The kind of file at a path.
 enum Found {
     /// A link to another path.
     Link,
-    /// A regular file, or none.
+    /// A regular file, or no file.
     Regular,
-    /// Anything else.
+    /// Any other file.
     Special,
 }
 
-/// The path to which the links of a name lead, where a regular file stands there, or none. For anything
-/// else, as a pipe or a file that is named by the number under which it is open, there is no path.
+/// Returns the path to which the links of a name lead, if a regular file or no file is there. There is no
+/// path for any other file, as a pipe or a file that is named by its descriptor.
 pub(crate) fn regular_path<R: Files>(
     alloc: Global,
     rt: &R,
@@ -57,7 +57,7 @@ fn found_in(seen: &Metadata) -> Found {
     }
 }
 
-/// The call failed, and in that way.
+/// Returns whether the call failed with an error of that kind.
 pub(crate) fn failed_as<T>(answer: &io::Result<T>, kind: ErrorKind) -> bool {
     match answer {
         Ok(_) => false,
@@ -65,7 +65,7 @@ pub(crate) fn failed_as<T>(answer: &io::Result<T>, kind: ErrorKind) -> bool {
     }
 }
 
-/// The path that the link at a path says, from the folder in which it stands.
+/// Returns the target of the link at a path, relative to the folder of the link.
 fn linked<R: Files>(alloc: Global, rt: &R, path: Path<'_>) -> io::Result<PathBuf> {
     let said = rt.read_link(alloc, path.as_str())?;
     let mut folder = path.to_path_buf(alloc)?;

@@ -9,8 +9,8 @@ use design_model::Memory;
 use std::alloc::Global;
 use std::marker::Model;
 
-/// Bytes in memory, which the sink tells. It counts its puts from 1 and fails those whose numbers are
-/// listed. A put takes no memory: the bytes stay within the room. A failed put adds nothing.
+/// Bytes in memory, which are visible to contracts. The sink counts its puts from 1 and fails those whose
+/// numbers are listed. A put allocates nothing: the bytes stay within the room. A failed put adds nothing.
 #[derive(Debug, Drop)]
 pub struct MemSink {
     bytes: Vec<u8>,
@@ -38,8 +38,8 @@ impl Model for MemSink {
 }
 
 impl MemSink {
-    /// No bytes, no faults, and nothing that is to fail. The memory for the room, a number of bytes,
-    /// is taken at once.
+    /// Returns a sink without bytes, faults and puts that shall fail. Allocates the room, a number of bytes,
+    /// at once.
     pub fn new(alloc: Global, room: u32) -> Result<Self, Memory>
         ensures { IfOk result (λ sink. sink ≡ empty_sink room) }
     {
@@ -52,14 +52,14 @@ impl MemSink {
         })
     }
 
-    /// The bytes so far.
+    /// Returns the bytes taken.
     pub fn taken(&self) -> &[u8]
         ensures { result.now ≡ self.now.bytes }
     {
         self.bytes.as_slice()
     }
 
-    /// Adds a number to those of the puts that are to fail. A refusal changes nothing.
+    /// Adds a number to those of the puts that shall fail. An error changes nothing.
     pub fn fail_at(&mut self, call: u64) -> Result<(), Memory>
         ensures ok { OnOk result (self.new ≡ record self.old
             { failing = self.old.failing ++ call ∷ [] }) }
@@ -69,7 +69,7 @@ impl MemSink {
         Ok(())
     }
 
-    /// Counts a put, and answers whether it is to fail.
+    /// Counts a put, and returns whether it shall fail.
     fn begins_to_refuse(&mut self, bytes: &[u8]) -> bool
         ensures refused { result ≡ refuses self.old bytes.now }
         ensures counted { self.new ≡ record self.old { calls = counted_on self.old.calls } }
@@ -84,7 +84,7 @@ impl Sink for MemSink {
 
     ghost sight = { sink_seen };
 
-    /// Adds the bytes, which takes no memory.
+    /// Adds the bytes, without allocating.
     fn put(&mut self, bytes: &[u8]) -> Result<(), Failed>
         ensures took { Took (sink_seen self.old) (sink_seen self.new) bytes.now result }
         ensures cause { PutCause (sink_seen self.old) (sink_seen self.new) result }

@@ -13,9 +13,9 @@ use design_model::Memory;
 use std::alloc::Global;
 use std::marker::Model;
 
-/// Files in memory, which the store tells. It counts its calls of `Store` from 1 and fails those whose
-/// numbers are listed. These calls take no memory: a name has room, which is a number of bytes, and
-/// its file grows within it. A failed call changes no file.
+/// Files in memory, which are visible to contracts. The store counts its calls of `Store` from 1 and fails
+/// those whose numbers are listed. A call of `Store` allocates nothing: a name has room, which is a number of
+/// bytes, and its file grows within it. A failed call changes no file.
 #[derive(Drop)]
 pub struct MemStore {
     alloc: Global,
@@ -40,7 +40,7 @@ impl Model for MemStore {
 }
 
 impl MemStore {
-    /// No files, no room, no faults, and nothing that is to fail.
+    /// Returns a store without files, room, faults and calls that shall fail.
     pub fn new(alloc: Global) -> Self
         ensures { result ≡ empty_store }
     {
@@ -53,7 +53,7 @@ impl MemStore {
         }
     }
 
-    /// Sets one file, and raises the room of its name to its length. A refusal changes nothing.
+    /// Sets one file, and raises the room of its name to its length. An error changes nothing.
     pub fn put_file(&mut self, name: &str, bytes: &[u8]) -> Result<(), Memory>
         ensures ok { OnOk result (self.new ≡ file_set self.old name.now bytes.now) }
         ensures file { OnOk result (files_of self.new name.now ≡ Some bytes.now) }
@@ -64,7 +64,7 @@ impl MemStore {
         Ok(())
     }
 
-    /// Raises the room of a name to `room` bytes. Files stay. A refusal changes nothing.
+    /// Raises the room of a name to `room` bytes. Files are unchanged. An error changes nothing.
     pub fn prepare(&mut self, name: &str, room: u32) -> Result<(), Memory>
         requires { room ≤ MAX_FILE }
         ensures ok { OnOk result (self.new ≡ room_raised self.old name.now room) }
@@ -80,7 +80,7 @@ impl MemStore {
         Ok(())
     }
 
-    /// The content of the named file.
+    /// Returns the content of the named file.
     pub fn file(&self, name: &str) -> Option<&[u8]>
         ensures some { IfSome result (λ content. files_of self.now name.now ≡ Some content.now) }
         ensures none { IfNone result (files_of self.now name.now ≡ None) }
@@ -88,7 +88,7 @@ impl MemStore {
         content_of(self.entries.as_slice(), name.as_bytes())
     }
 
-    /// Adds a number to those of the calls that are to fail. A refusal changes nothing.
+    /// Adds a number to those of the calls that shall fail. An error changes nothing.
     pub fn fail_at(&mut self, call: u64) -> Result<(), Memory>
         ensures ok { OnOk result (self.new ≡ record self.old
             { failing = self.old.failing ++ call ∷ [] }) }
@@ -98,7 +98,7 @@ impl MemStore {
         Ok(())
     }
 
-    /// Counts a call, and answers whether its number is listed.
+    /// Counts a call, and returns whether its number is listed.
     fn begins_to_fail(&mut self) -> bool
         ensures listed { result ≡ is_listed self.old.failing self.old.calls }
         ensures counted { self.new ≡ record self.old { calls = counted_on self.old.calls } }
@@ -113,7 +113,7 @@ impl Store for MemStore {
 
     ghost sight = { store_seen };
 
-    /// Reads as many bytes as the buffer holds or the file has left, whichever is less.
+    /// Reads as many bytes as fit into the buffer or remain in the file, whichever is fewer.
     fn read_at(&mut self, name: &str, at: u64, buf: &mut [u8]) -> Result<usize, ReadStop>
         requires name { IsName name.now }
         requires offset { at ≤ MAX_FILE }
@@ -133,7 +133,7 @@ impl Store for MemStore {
         }
     }
 
-    /// Makes the file empty, where the name has room.
+    /// Makes the file empty, if the name has room.
     fn create(&mut self, name: &str) -> Result<(), Failed>
         requires name { IsName name.now }
         ensures empty { OnOk result (HoldsNow (store_seen self.new).files name.now []) }
@@ -149,7 +149,7 @@ impl Store for MemStore {
         Ok(())
     }
 
-    /// Adds the bytes, where they fit into the room of the name.
+    /// Appends the bytes, if they fit into the room of the name.
     fn append(&mut self, name: &str, bytes: &[u8]) -> Result<(), Failed>
         requires name { IsName name.now }
         requires there { IsThere (store_seen self.old).files name.now }
@@ -168,8 +168,7 @@ impl Store for MemStore {
     }
 }
 
-/// Copies the content's bytes from the offset on, as many as the buffer holds or there are, and
-/// answers how many.
+/// Copies bytes of the content from the offset on, up to the length of the buffer, and returns their number.
 fn copy_from(content: &[u8], at: u64, buffer: &mut [u8]) -> usize
     requires { at ≤ MAX_FILE }
     ensures count { result ≡ min (length buffer.old) (length (drop at content.now)) }

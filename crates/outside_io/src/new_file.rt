@@ -12,10 +12,10 @@ use std::path::{Path, PathBuf};
 use std::rt::Files;
 use std::{fs, io};
 
-/// How many programs may make new files in one folder at once.
+/// The maximum number of programs that can create files in one folder at the same time.
 const MAX_BESIDE: u32 = 10_000;
 
-/// A file that was begun under a name, and takes bytes once.
+/// A created file, which takes its bytes in one call.
 #[derive(Drop)]
 pub(crate) struct NewFile<F: Drop> {
     name: ArrayVec<u8, MAX_NAME>,
@@ -23,16 +23,17 @@ pub(crate) struct NewFile<F: Drop> {
     to: Option<Move>,
 }
 
-/// That a file moves from beside a place to it once its bytes are down. Until then the old one stays.
+/// The replacement of a file: a new file beside it is renamed to its path once the bytes are on disk. Until
+/// then the old file is unchanged.
 #[derive(Drop)]
 struct Move {
     beside: PathBuf,
     place: PathBuf,
 }
 
-/// Begins the file of a name anew. One that can't be kept beside the old one is made empty at once: what is
-/// no regular file, has several names or another owner than new files have, or stands in a folder that
-/// takes no new file.
+/// Creates the named file. If no new file can be created beside the old one, the old one is made empty at
+/// once. Such are files that are not regular, have several names or another owner than new files have. A file
+/// in a folder that accepts no new file is another.
 pub(crate) fn begin<R: Files>(alloc: Global, rt: &R, name: &str) -> io::Result<NewFile<R::File>>
     requires { length name.now ≤ MAX_NAME }
 {
@@ -65,7 +66,7 @@ fn named<F: Drop>(name: &str, file: F, to: Option<Move>) -> NewFile<F>
     }
 }
 
-/// The folder takes no new file, or none of that length.
+/// Returns whether the folder accepts no new file, or none with a name of that length.
 fn is_refused<T>(answer: &io::Result<T>) -> bool {
     failed_as(answer, ErrorKind::PermissionDenied) || failed_as(answer, ErrorKind::InvalidFilename)
 }
@@ -92,7 +93,7 @@ fn begin_beside<R: Files>(alloc: Global, rt: &R, name: &str) -> io::Result<Optio
     }
 }
 
-/// What is known of the file at that path, which may be written, where there is one.
+/// Returns the metadata of the writable file at that path, if there is one.
 fn old_file<R: Files>(rt: &R, path: &str) -> io::Result<Option<Metadata>> {
     let mut options = File::options();
     options.write(true);
@@ -103,7 +104,7 @@ fn old_file<R: Files>(rt: &R, path: &str) -> io::Result<Option<Metadata>> {
     Ok(Some(opened?.metadata()?))
 }
 
-/// An empty file beside that path, under the first name that is free.
+/// Creates an empty file beside that path, under the first free name.
 fn file_beside<R: Files>(alloc: Global, rt: &R, path: Path<'_>) -> io::Result<(PathBuf, R::File)> {
     for number in 0..MAX_BESIDE {
         let name = format!(in alloc; ".stitch-{number}")?;
@@ -117,12 +118,12 @@ fn file_beside<R: Files>(alloc: Global, rt: &R, path: Path<'_>) -> io::Result<(P
 }
 
 impl<F: io::Read + io::Write + io::Seek + OpenFile + Drop> NewFile<F> {
-    /// It was begun under that name.
+    /// Returns whether the file was created under that name.
     pub(crate) fn is_named(&self, name: &str) -> bool {
         self.name.as_slice() == name.as_bytes()
     }
 
-    /// Writes these bytes, and then takes its place. Where that fails an old file that it was to follow stays.
+    /// Writes these bytes, then replaces the old file. An error leaves the old file unchanged.
     pub(crate) fn take_place<R: Files>(mut self, rt: &R, bytes: &[u8]) -> io::Result<()> {
         match self.write_and_move(rt, bytes) {
             Ok(()) => Ok(()),
@@ -146,8 +147,8 @@ impl<F: io::Read + io::Write + io::Seek + OpenFile + Drop> NewFile<F> {
         }
     }
 
-    /// Gives the file the permissions of the old one. It can't take after one that has several names, or
-    /// another owner or group.
+    /// Copies the permissions of the old file. Returns false for a file that has several names, or another
+    /// owner or group.
     fn takes_after(&self, old: Option<Metadata>) -> io::Result<bool> {
         let Some(old) = old else {
             return Ok(true);
@@ -162,7 +163,7 @@ impl<F: io::Read + io::Write + io::Seek + OpenFile + Drop> NewFile<F> {
         Ok(true)
     }
 
-    /// Removes the file that stands beside a place.
+    /// Removes the new file that is beside the old one.
     fn forget<R: Files>(self, rt: &R) {
         if let Some(to) = &self.to {
             let _ = fs::remove_file(rt, to.beside.as_str());

@@ -9,8 +9,8 @@ use crate::writing::write_all;
 use std::io::Write;
 use std::marker::Model;
 
-/// A stream of the system, as standard output. The sink tells no bytes; what its writer holds grows by
-/// what is put, where that is known.
+/// A stream of the system, as standard output, whose bytes are hidden from contracts. The bytes of its writer
+/// grow by what is put, if they are known.
 #[derive(Drop)]
 pub struct StdSink<W: Write + Drop> {
     writer: W,
@@ -26,7 +26,7 @@ impl<W: Write + Drop> Model for StdSink<W> {
 }
 
 impl<W: Write + Drop> StdSink<W> {
-    /// A sink over that stream. No faults so far.
+    /// Returns a sink over that stream, without faults.
     pub fn new(writer: W) -> Self
         ensures { result ≡ record { held = W.contents writer; faults = 0 } }
     {

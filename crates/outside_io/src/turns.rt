@@ -4,10 +4,10 @@ ghost use Rattle.std.specs.Io.KnownBytes.{WriteAppends};
 use std::io;
 use std::io::{ErrorKind, Read, Write};
 
-/// How often a call is made again that a signal interrupts.
+/// The maximum number of times that an interrupted call is repeated.
 const TURNS: u64 = u64::MAX;
 
-/// Reads once, and again where a signal interrupts the call.
+/// Reads once, and again if a signal interrupts the call.
 pub(crate) fn read_some<R: Read>(reader: &mut R, buf: &mut [u8]) -> io::Result<usize>
     ensures { ReadsAtMost result buf.new }
 {
@@ -20,7 +20,7 @@ pub(crate) fn read_some<R: Read>(reader: &mut R, buf: &mut [u8]) -> io::Result<u
     Err(ErrorKind::Interrupted.into())
 }
 
-/// Writes once, and again where a signal interrupts the call.
+/// Writes once, and again if a signal interrupts the call.
 pub(crate) fn write_some<W: Write>(writer: &mut W, bytes: &[u8]) -> io::Result<usize>
     ensures bound { WritesAtMost result bytes.now }
     ensures bytes { WriteAppends (W.contents writer.old) (W.contents writer.new) result bytes.now }

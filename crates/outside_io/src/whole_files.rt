@@ -10,10 +10,10 @@ use crate::store::{Failed, ReadStop, Store};
 use design_model::{Bytes, Memory};
 use std::alloc::Global;
 
-/// How many bytes a read asks for.
+/// The number of bytes requested by one read.
 pub const READ_SIZE: usize = 16_384;
 
-/// Why a whole file wasn't read.
+/// Why a file was not read.
 #[derive(Clone, Copy, Debug, PartialEq, Eq)]
 pub enum GetFault {
     /// No file has the name.
@@ -22,7 +22,7 @@ pub enum GetFault {
     Failed,
     /// The file is longer than the limit.
     TooLong,
-    /// Memory was wanted and not found.
+    /// Out of memory.
     Memory,
 }
 
@@ -36,8 +36,8 @@ impl From<Memory> for GetFault {
     }
 }
 
-/// The named file, where it has at most `limit` bytes. A failed read comes before the other answers,
-/// since the file is read in order. All files stay.
+/// Returns the content of the named file, if it has at most `limit` bytes. The file is read in order: a
+/// failed read is reported before a later fault. All files are unchanged.
 pub fn read_whole<S: Store>(
     alloc: Global,
     store: &mut S,
@@ -48,7 +48,7 @@ pub fn read_whole<S: Store>(
     requires limit { limit ≤ MAX_FILE }
     ensures reads { ReadsWhole name.now limit (S.sight store.old) (S.sight store.new) result }
     ensures same { (S.sight store.new).files ≡ (S.sight store.old).files }
-    // Where no count rises, the file decides, or want of memory comes.
+    // If no fault is counted, the file determines the result, or the call is out of memory.
     ensures decided { IsQuiet (S.sight store.old).faults (S.sight store.new).faults →
         WhereTold (S.sight store.old).files
         (λ told. IsSaid wants_memory (whole_answer (told name.now) limit) result) }
@@ -78,8 +78,8 @@ fn read_in_order<S: Store>(
     }
 }
 
-/// Reads the next part of a file, from that offset on, into the buffer, and answers how many bytes it has; 0 is
-/// the file's end. A file that has more than `limit` bytes is refused by its first part that goes beyond.
+/// Reads the next part of a file, from the offset `at` on, into the buffer, and returns its length; 0 is the
+/// end of the file. The first part that exceeds `limit` bytes is reported as `TooLong`.
 pub fn read_next<S: Store>(
     store: &mut S,
     name: &str,
@@ -105,7 +105,7 @@ pub fn read_next<S: Store>(
     Ok(count)
 }
 
-/// Writes a whole file: makes it empty, and adds all the bytes at once.
+/// Writes an entire file: makes it empty, and appends all the bytes at once.
 pub fn write_whole<S: Store>(store: &mut S, name: &str, bytes: &[u8]) -> Result<(), Failed>
     requires { IsName name.now }
     ensures holds { OnOk result (HoldsNow (S.sight store.new).files name.now bytes.now) }

@@ -6,8 +6,8 @@ ghost use Rattle.outside_io.specs.Streams.{AddsUpTo};
 use crate::turns::write_some;
 use std::io::Write;
 
-/// Writes all the bytes, and answers whether the stream took them. A write that takes nothing fails;
-/// then the stream took some first bytes.
+/// Writes all the bytes, and returns whether the stream took them. A write that takes nothing is a failure;
+/// the stream then took a prefix of the bytes.
 #[tactic(auto, using(crate::proofs::StreamLemmas::adds_none, crate::proofs::StreamLemmas::adds_no_more, crate::proofs::StreamLemmas::adds_all))]
 pub(crate) fn write_all<W: Write>(writer: &mut W, bytes: &[u8]) -> bool
     ensures all { OnTrue result

@@ -1,6 +1,6 @@
 use Rattle.std.specs.Io.KnownBytes.{Keeps}
 use Rattle.outside_io.proofs.turns.write_some.Given as goal
 
--- what the writer holds stays
+-- The bytes of the writer are unchanged.
 abbrev pub invariant-loop : goal.invariant-loop
 invariant-loop g l = Keeps (g.W.Write.contents l.fn.writer) (g.W.Write.contents l.writer)

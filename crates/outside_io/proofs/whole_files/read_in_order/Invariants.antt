@@ -3,7 +3,7 @@ use Rattle.outside_io.specs.Causes.{Stays}
 use Rattle.outside_io.specs.FileParts.{IsBegun}
 use Rattle.outside_io.proofs.whole_files.read_in_order.Given as goal
 
--- what was read so far are the first bytes of the file, where it is told
+-- The bytes read so far are a prefix of the file, if it is visible.
 abbrev pub invariant-loop-bytes : goal.invariant-loop-bytes
 invariant-loop-bytes g l = record {
   same : (g.S.Store.sight l.store).files ≡ (g.S.Store.sight l.fn.store).files;
