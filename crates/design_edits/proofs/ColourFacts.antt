@@ -4,7 +4,7 @@ use Rattle.design_model.specs.declared.command.Command.TheVariants.{Stop}
 use Rattle.design_model.specs.Designs.{DesignValue}
 use Rattle.design_edits.specs.Colours.{place_count, recoloured}
 
--- a design with those threads and so many stops
+-- A design with those threads and n stops.
 abbrev pub stopping : List ℕ → ℕ → DesignValue
 stopping threads stops = record { label = []; threads = threads; commands = replicate stops Stop }
 
@@ -19,7 +19,7 @@ known_most_places = refl
 pub known_filled : recoloured 3 7 (stopping (9 ∷ []) 3) ≡ stopping (9 ∷ 2 ∷ 3 ∷ 7 ∷ []) 3
 known_filled = refl
 
--- a kept number is changed, and those behind it stay
+-- A stored number is changed, and those after it are unchanged.
 pub known_changed : recoloured 1 7 (stopping (9 ∷ 8 ∷ 6 ∷ []) 3) ≡ stopping (9 ∷ 7 ∷ 6 ∷ []) 3
 known_changed = refl
 

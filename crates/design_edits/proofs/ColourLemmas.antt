@@ -12,7 +12,7 @@ use Rattle.std.specs.List.{range_with_len}
 use Rattle.design_model.specs.Designs.{DesignValue, thread_of, with_thread, with_thread_at}
 use Rattle.design_edits.specs.Colours.{Recolours, recoloured, threads_from, threads_up_to}
 
--- the thread of a block that keeps none
+-- The thread of a block that has no stored number.
 abbrev pub thread_by_place : ℕ → ℕ
 thread_by_place block = 1 + block % 64
 
@@ -23,7 +23,7 @@ thread_is d block = unwrap_or-slice_get d.threads block (thread_by_place block)
 thread_past : (d : DesignValue) (block : ℕ) → length d.threads ≤ block → thread_of d block ≡ thread_by_place block
 thread_past d block past = thread_is d block ∙ get_or-eq_default d.threads (thread_by_place block) past
 
--- behind the kept numbers all threads are those
+-- The threads after the stored numbers are those of their blocks.
 threads_past : (d : DesignValue) (block count : ℕ) → length d.threads ≤ block
     → threads_from d block count ≡ map thread_by_place (range_with_len block count)
 threads_past d block zero past = refl

@@ -19,7 +19,7 @@ known_most = refl
 pub known_shift : shift_point (negsuc 4) (pos 70) (at (pos 1) (pos 2)) ≡ at (negsuc 3) (pos 72)
 known_shift = refl
 
--- a quarter turn takes a point on the right downwards
+-- A quarter turn maps a point on the right to the bottom.
 pub known_quarter : turn_point 1 (at (pos 30) (pos 0)) ≡ at (pos 0) (pos 30)
 known_quarter = refl
 

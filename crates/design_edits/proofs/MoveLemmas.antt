@@ -29,7 +29,7 @@ gone_on : (n : ℕ) (inside : Bool) (rest : Option ℕ) → cond (not inside) (S
 gone_on n true rest none = (refl, none)
 gone_on n false rest none = cc
 
--- a map that keeps points within each limit leaves no command outside
+-- A map that keeps points within each limit keeps all commands in range.
 module _ (f : Point → Point)
     (stays : (limit : ℕ) (p : Point) → IsTrue (is_within limit p) → IsTrue (is_within limit (f p))) where
   stays_in_range : (c : Command) → IsTrue (is_in_range c) → IsTrue (is_in_range (with_mapped_point f c))
@@ -64,7 +64,7 @@ mirror_stays : (a : Axis) (limit : ℕ) (p : Point) → IsTrue (is_within limit 
 mirror_stays axis.X limit p within = grind (arith, nat_tests, size-neg)
 mirror_stays axis.Y limit p within = grind (arith, nat_tests, size-neg)
 
--- so no point of a design leaves its range in a turn or a mirroring
+-- No point of a design leaves its range in a turn or a mirroring.
 pub turn_in_range : (quarters : ℕ) (d : DesignValue) → KeepsLimits d
     → first_outside (with_mapped_points (turn_point quarters) d).commands ≡ None
 turn_in_range quarters d limits = none_outside (turn_point quarters) (turn_stays quarters) 1 d.commands limits.in_range

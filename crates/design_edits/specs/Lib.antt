@@ -1,4 +1,4 @@
--- read this one first: what a shift, a turn and a mirroring do
+-- Read Moves first: shifts, turns and mirrorings.
 pub mod Moves
 pub mod Shifts
 pub mod Motions

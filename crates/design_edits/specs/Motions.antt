@@ -1,4 +1,4 @@
--- Moves as values. Only clauses inside this crate cite it.
+-- Motions as values. No public clause refers to this file.
 use Rattle.std.specs.Prelude.{Bool, true, ◌&&◌, nat_le, unsigned_abs}
 use Rattle.design_model.specs.declared.point.Point.{Point}
 use Rattle.design_edits.specs.declared.motion.Motion.{Motion}
@@ -6,13 +6,13 @@ use Rattle.design_edits.specs.declared.motion.Motion.TheVariants as motion
 use Rattle.design_edits.specs.declared.motion.TheConstants.{MAX_SHIFT}
 use Rattle.design_edits.specs.Moves.{mirror_point, shift_point, turn_point}
 
--- the map over points that a motion is
+-- The map over points that a motion is.
 abbrev pub moved : Motion → Point → Point
 moved (motion.Shift dx dy) = shift_point dx dy
 moved (motion.Turn quarters) = turn_point quarters
 moved (motion.Mirror a) = mirror_point a
 
--- a shift is no larger than may be asked for
+-- The test whether a motion is within MAX_SHIFT; turns and mirrorings always are.
 abbrev pub is_small : Motion → Bool
 is_small (motion.Shift dx dy) = nat_le (unsigned_abs dx) MAX_SHIFT && nat_le
     (unsigned_abs dy) MAX_SHIFT

@@ -6,8 +6,8 @@ ghost use Rattle.design_edits.specs.Colours.{RecolourGives, Recolours, place_cou
 use crate::edit_fault::EditFault;
 use design_model::{Design, MAX_THREADS, counts};
 
-/// Gives the block of a place, counted from 0, that thread. The numbers of the blocks before it that
-/// are not kept are kept from then on.
+/// Sets the thread of the block at `place`, which counts from 0. The threads of the blocks before it are
+/// stored too.
 #[tactic(auto, using(crate::proofs::ColourLemmas::place_kept, crate::proofs::ColourLemmas::recolours_by))]
 pub fn recolour(design: &mut Design, place: u32, thread: u8) -> Result<(), EditFault>
     ensures value { RecolourGives place thread design.old result design.new }
@@ -22,14 +22,14 @@ pub fn recolour(design: &mut Design, place: u32, thread: u8) -> Result<(), EditF
     Ok(())
 }
 
-/// The number of places that a thread may be given to.
+/// Returns the number of blocks whose thread can be set.
 fn place_count(design: &Design) -> u32
     ensures { result ≡ number_of_places design.now }
 {
     counts(design).stops.min(MAX_THREADS as u32 - 1) + 1
 }
 
-/// Keeps the threads of the blocks up to a place.
+/// Stores the threads of the blocks up to a place.
 #[tactic(auto, using(crate::proofs::ColourLemmas::keeps_on))]
 fn keep_threads(design: &mut Design, place: u32)
     requires { place < MAX_THREADS }
@@ -40,7 +40,7 @@ fn keep_threads(design: &mut Design, place: u32)
     }
 }
 
-/// Keeps the thread of the next block.
+/// Stores the thread of the next block.
 fn keep_next(design: &mut Design)
     requires { length design.old.threads < MAX_THREADS }
     ensures { design.new ≡ with_thread design.old

@@ -1,16 +1,16 @@
 ghost use Rattle.design_edits.specs.Laws.{FourQuarterTurnsRestore, OppositeShiftRestores, TwoMirroringsRestore};
 
-/// Four quarter turns leave a design as it was.
+/// States that four quarter turns restore a design.
 pub fn four_quarter_turns_restore()
     ensures { FourQuarterTurnsRestore }
 {}
 
-/// Two equal mirrorings leave a design as it was.
+/// States that two mirrorings of the same axis restore a design.
 pub fn two_mirrorings_restore()
     ensures { TwoMirroringsRestore }
 {}
 
-/// A shift and its opposite leave a design as it was.
+/// States that a shift and its opposite restore a design.
 pub fn an_opposite_shift_restores()
     ensures { OppositeShiftRestores }
 {}

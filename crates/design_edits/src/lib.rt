@@ -1,4 +1,4 @@
-//! Edits of a design in place: shifts, turns, mirrorings and other threads. None takes memory.
+//! Edits of a design in place: shifts, turns, mirrorings and other threads. No edit allocates.
 #![tactic(auto)]
 
 mod axis;

@@ -7,7 +7,7 @@ ghost use Rattle.design_edits.specs.Motions.{is_small, moved};
 use crate::axis::Axis;
 use design_model::Point;
 
-/// The greatest size of a shift on each axis, in tenths of a millimetre.
+/// The maximum absolute value of a shift on each axis, in tenths of a millimetre.
 pub const MAX_SHIFT: u32 = 60_000;
 
 /// A move of all points of a design.
@@ -19,7 +19,7 @@ pub enum Motion {
 }
 
 impl Motion {
-    /// Where a point is after it.
+    /// Returns the point after the motion.
     pub fn of(self, point: Point) -> Point
         requires small { IsTrue (is_small self) }
         requires point { IsTrue (is_within JUMP_LIMIT point) }

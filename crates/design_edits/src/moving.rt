@@ -12,8 +12,8 @@ use crate::edit_fault::EditFault;
 use crate::motion::{MAX_SHIFT, Motion};
 use design_model::{Command, Design};
 
-/// Moves each point by (`dx`, `dy`), in tenths of a millimetre. Where a point would leave its
-/// range the design stays as it was, and `Range` names the first such command.
+/// Moves each point by (`dx`, `dy`), in tenths of a millimetre. If a point would be out of its range, the
+/// design is unchanged, and `Range` has the number of the first such command.
 pub fn shift(design: &mut Design, dx: i32, dy: i32) -> Result<(), EditFault>
     requires dx { unsigned_abs dx ≤ MAX_SHIFT }
     requires dy { unsigned_abs dy ≤ MAX_SHIFT }
@@ -27,7 +27,8 @@ pub fn shift(design: &mut Design, dx: i32, dy: i32) -> Result<(), EditFault>
     Ok(())
 }
 
-/// Turns about the origin by so many quarters, clockwise as it is seen. No point leaves its range.
+/// Turns the design about the origin by `quarters` quarter turns, clockwise as seen. No point leaves its
+/// range.
 pub fn turn(design: &mut Design, quarters: u32)
     requires { quarters ≤ 3 }
     ensures { design.new ≡ turned quarters design.old }
@@ -35,14 +36,14 @@ pub fn turn(design: &mut Design, quarters: u32)
     move_points(design, Motion::Turn { quarters });
 }
 
-/// Gives each point's number on that axis the other sign. No point leaves its range.
+/// Negates the coordinate of each point on an axis. No point leaves its range.
 pub fn mirror(design: &mut Design, axis: Axis)
     ensures { design.new ≡ mirrored axis design.old }
 {
     move_points(design, Motion::Mirror(axis));
 }
 
-/// The number of the first command whose point would be out of its range.
+/// Returns the number of the first command whose moved point would be out of its range.
 fn first_outside(commands: &[Command], motion: Motion) -> Option<u32>
     requires small { IsTrue (is_small motion) }
     requires count { length commands.now ≤ MAX_COMMANDS }
@@ -71,7 +72,7 @@ fn moved_command(command: Command, motion: Motion) -> Command
     }
 }
 
-/// Moves each point, where all moved points are in their ranges.
+/// Moves each point. All moved points are in their ranges.
 fn move_points(design: &mut Design, motion: Motion)
     requires small { IsTrue (is_small motion) }
     requires in_range { KeepsLimits design.old

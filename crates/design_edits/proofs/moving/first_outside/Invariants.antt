@@ -5,7 +5,7 @@ use Rattle.design_edits.specs.Motions.{moved}
 use Rattle.design_edits.specs.Moves.{first_outside, with_mapped_point}
 use Rattle.design_edits.proofs.moving.first_outside.Given as goal
 
--- none so far is outside, so the first is among those that are left
+-- None of the commands so far is out of range: the first is among the remaining ones.
 abbrev pub invariant-loop-command : goal.invariant-loop-command
 invariant-loop-command l = record {
   number : l.number ≡ l.command-index;
