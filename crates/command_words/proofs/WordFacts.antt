@@ -1,4 +1,4 @@
--- Worked values of what words spell and ask for.
+-- Worked values of parsed arguments.
 use Rattle.std.proofs.Common.{◌≡◌, pos, negsuc, true, false, [], ◌∷◌, Some, None, map, replicate, refl}
 use Rattle.std.specs.Prelude.{codes}
 use Rattle.design_edits.specs.declared.axis.Axis.TheVariants.{X, Y}
@@ -86,7 +86,7 @@ known_sign_behind = refl
 pub known_other_name : edit_spelled (codes "turns=1") ≡ None
 known_other_name = refl
 
--- words spell edits in their order, where each spells one
+-- Arguments parse to edits in their order, if each of them is an edit.
 pub known_no_edits : edits_spelled [] ≡ Some []
 known_no_edits = refl
 
@@ -207,7 +207,7 @@ known_hoop_few = refl
 pub known_hoop_many : asked_of (codes "hoop" ∷ codes "a.dst" ∷ codes "1000" ∷ codes "900" ∷ codes "800" ∷ []) ≡ None
 known_hoop_many = refl
 
--- no word, and words that no command has
+-- No argument, and arguments of no command.
 pub known_no_word : asked_of [] ≡ None
 known_no_word = refl
 
@@ -217,7 +217,7 @@ known_other_command = refl
 pub known_large_letter : asked_of (codes "Show" ∷ codes "a.dst" ∷ []) ≡ None
 known_large_letter = refl
 
--- a check reads three files, in this order, and takes no more and no fewer words
+-- A check has exactly three file names, in this order.
 pub known_check : asked_of (codes "check" ∷ codes "a.rw" ∷ codes "b.dst" ∷ codes "c" ∷ [])
     ≡ Some (check (codes "a.rw") (codes "b.dst") (codes "c"))
 known_check = refl
@@ -258,7 +258,7 @@ pub known_double : asked_of (codes "double" ∷ codes "a" ∷ codes "b" ∷ code
     ≡ Some (double (codes "a") (codes "b") (codes "c"))
 known_double = refl
 
--- and no more and no fewer words
+-- Any other number of arguments is no request.
 pub known_other_counts : map asked_of (
     (codes "migrate" ∷ codes "a" ∷ [])
     ∷ (codes "migrate" ∷ codes "a" ∷ codes "b" ∷ codes "c" ∷ [])
@@ -269,7 +269,7 @@ pub known_other_counts : map asked_of (
     ∷ (codes "sample" ∷ codes "7" ∷ codes "a" ∷ codes "b" ∷ []) ∷ []) ≡ replicate 7 None
 known_other_counts = refl
 
--- a word without a byte names no file, wherever it stands
+-- An empty argument is no file name, at any position.
 pub known_unnamed : map asked_of (
     (codes "route" ∷ [] ∷ codes "b" ∷ codes "c" ∷ [])
     ∷ (codes "route" ∷ codes "a" ∷ [] ∷ codes "c" ∷ [])

@@ -1,4 +1,4 @@
--- Words that are too few or too many spell nothing.
+-- Too few or too many arguments are no request.
 use Rattle.std.proofs.Common.{◌≡◌, ◌<◌, ℕ, true, false, nat_lt, List, [], ◌∷◌, length, map, Option, Some, None, refl, arith}
 use Rattle.std.proofs.lemmas.Bool.{ltb-true}
 use Rattle.std.specs.Prelude.{is_some}
@@ -6,7 +6,7 @@ use Rattle.command_words.specs.Changes.{Change}
 use Rattle.command_words.specs.Requests.{asked_edit, asked_hoop, asked_sample}
 use Rattle.command_words.specs.Words.{before_edits}
 
--- words that are too few or too many for a hoop
+-- Too few or too many arguments of a hoop.
 pub few_no_hoop : {X : Type 0} (f : X → List ℕ) (words : List X) → nat_lt (length words) 3 ≡ true
     → None ≡ asked_hoop (map f words)
 few_no_hoop f [] few = refl
@@ -43,7 +43,7 @@ few_no_edit f [] few = refl
 few_no_edit f (a ∷ []) few = refl
 few_no_edit f (a ∷ b ∷ rest) few = absurd (omega (arith, few))
 
--- an edit before others that is spelled decides nothing
+-- A valid edit in front of others: the others determine whether all are valid.
 pub spelled_before : (first : Option Change) (later : Option (List Change)) (change : Change) → Some change ≡ first
     → is_some later ≡ is_some (before_edits first later)
 spelled_before (Some change) (Some changes) other is = refl

@@ -1,9 +1,9 @@
--- The changes of a design that words ask for.
+-- The changes of a design that arguments request.
 use Rattle.std.specs.Prelude.{ℕ, ℤ}
 use Rattle.design_edits.specs.declared.axis.Axis.{Axis}
 
--- a change: long stitches are split, long floats are cut, the design is moved or turned or
--- mirrored, or a block, counted from 1, gets another thread
+-- A change: split long stitches, cut long floats, shift, turn or mirror the design, or set the
+-- thread of a block, counted from 1.
 pub data Change : Type 0 where
   split : Change
   cut : Change

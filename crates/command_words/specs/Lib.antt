@@ -1,6 +1,6 @@
 pub mod Changes
 pub mod Words
--- read this one first: what each request asks, and which words ask for it
+-- Read Requests first: the requests, and the arguments that represent them.
 pub mod Requests
 pub mod SoundRequests
 pub mod Edits

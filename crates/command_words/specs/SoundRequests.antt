@@ -1,4 +1,4 @@
--- What a request of the program asks, and what is known of its words.
+-- The requests of the program as values, and the conditions that their arguments satisfy.
 use Rattle.std.specs.Prelude.{ℕ, ◌≤◌, List, [], map, IsSome, string_bytes, unwrap_or}
 use Rattle.outside_io.specs.Files.{IsName}
 use Rattle.command_words.specs.declared.request_words.TheConstants.{MAX_SAMPLE}
@@ -10,7 +10,7 @@ use Rattle.command_words.specs.declared.requests.Request.TheVariants as request
 use Rattle.command_words.specs.Requests.{Asked, check, convert, double, edit, hoop, migrate, route, sample, show, trace}
 use Rattle.command_words.specs.Words.{edits_spelled}
 
--- what a request of the program asks; the words of an edit that spell none ask for none
+-- The value of a request. Arguments that are not all edits count as no edits.
 abbrev pub asked_by : Request → Asked
 asked_by (request.Route names) = route names.drawing.now names.out.now names.cert.now
 asked_by (request.Check names) = check names.drawing.now names.file.now names.cert.now
@@ -24,28 +24,28 @@ asked_by (request.Migrate input output) = migrate input.now output.now
 asked_by (request.Trace file drawing) = trace file.now drawing.now
 asked_by (request.Double names) = double names.drawing.now names.out.now names.cert.now
 
--- the words of two files are names
+-- The two arguments of `convert` or `edit` are file names.
 pub record BothAreNames (names : Names) : Type 0 where
   pub input : IsName names.input.now
   pub output : IsName names.output.now
 
--- the words spell edits
+-- Arguments that are edits.
 abbrev pub SpellEdits : List (List ℕ) → Type 0
 SpellEdits words = IsSome (edits_spelled words)
 
--- the three words of a route or of a double run are names
+-- The three arguments of `route` or `double` are file names.
 pub record AreNames (names : RouteNames) : Type 0 where
   pub drawing : IsName names.drawing.now
   pub out : IsName names.out.now
   pub cert : IsName names.cert.now
 
--- the three words of a check are names
+-- The three arguments of `check` are file names.
 pub record AreCheckNames (names : CheckNames) : Type 0 where
   pub drawing : IsName names.drawing.now
   pub file : IsName names.file.now
   pub cert : IsName names.cert.now
 
--- the words of a request that name files are names, and those that spell edits do
+-- A valid request: its file names are within the limits, and its edits and numbers are valid.
 abbrev pub IsSound : Request → Type 0
 IsSound (request.Route names) = AreNames names
 IsSound (request.Check names) = AreCheckNames names

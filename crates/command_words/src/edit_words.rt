@@ -14,13 +14,13 @@ pub enum Edit {
     Shift(Point),
     /// Turn about the origin, clockwise by quarters.
     Turn { quarters: u32 },
-    /// Change the sign of all numbers of an axis.
+    /// Negate all coordinates of an axis.
     Mirror(Axis),
-    /// Give the block of that place, counted from 1, a thread.
+    /// Set the thread of a block, numbered from 1.
     Thread { place: u32, thread: u8 },
 }
 
-/// The edit that a word spells: `shift=DX,DY`, `turn=Q`, `mirror=x`, `mirror=y` or `thread=P,T`.
+/// Parses an edit: `shift=DX,DY`, `turn=Q`, `mirror=x`, `mirror=y` or `thread=P,T`.
 pub fn edit_spelled(word: &[u8]) -> Option<Edit>
     ensures value { option_map change_by result ≡ edit_spelled_by word.now }
     ensures small { IfSome result IsSmallEdit }
@@ -108,7 +108,7 @@ fn thread_spelled(value: &[u8]) -> Option<Edit>
     })
 }
 
-/// The parts of a text before and after its first such byte, if it has one.
+/// Splits a text at the first occurrence of a byte, if there is one.
 fn parted_at(text: &[u8], separator: u8) -> Option<(&[u8], &[u8])>
     ensures { option_map (λ parts. (parts.0.now, parts.1.now)) result ≡ parted separator text.now }
 {

@@ -1,5 +1,5 @@
-//! What the words after the program's name ask for: requests, the names in them, and edits of a
-//! design. None takes memory.
+//! The requests that the arguments of the program represent: commands, file names, and edits of a design. No
+//! function allocates.
 #![tactic(auto)]
 
 mod edit_words;

@@ -4,7 +4,7 @@ ghost use Rattle.command_words.specs.Words.{bounded as bounded_by, number_within
 
 use design_model::{Whole, parse_whole};
 
-/// The number that a word spells, where it is at most `most` in size.
+/// Parses an integer whose absolute value is at most `most`.
 pub(crate) fn sized(most: u32, word: &[u8]) -> Option<i32>
     ensures value { result ≡ sized_by most (whole_of word.now) }
     ensures most { IfSome result (λ number. unsigned_abs number ≤ most) }
@@ -15,7 +15,7 @@ pub(crate) fn sized(most: u32, word: &[u8]) -> Option<i32>
     }
 }
 
-/// The number that a word spells, where it is from `least` to `most`.
+/// Parses a natural number from `least` to `most`.
 pub(crate) fn bounded(least: u32, most: u32, word: &[u8]) -> Option<u32>
     ensures value { result ≡ bounded_by least most (whole_of word.now) }
     ensures least { IfSome result (λ number. least ≤ number) }

@@ -8,16 +8,16 @@ use crate::number_words::bounded;
 use crate::requests::{CheckNames, Names, Request, RouteNames};
 use outside_io::is_name;
 
-/// The greatest side of a hoop, in tenths of a millimetre.
+/// The maximum side of a hoop, in tenths of a millimetre.
 pub const MAX_SIDE: u32 = 60_000;
 
-/// The greatest number of a sample drawing.
+/// The maximum number of a sample drawing.
 pub const MAX_SAMPLE: u32 = 999_999;
 
-/// The request that the words spell: `route DRAWING OUT CERT`, `check DRAWING FILE CERT`,
-/// `convert IN OUT [--split] [--cut]`, `show FILE`, `edit IN OUT EDIT...`, `hoop FILE WIDTH HEIGHT`,
-/// `sample N DRAWING`, `migrate DRAWING OUT`, `trace FILE DRAWING` or `double DRAWING OUT CERT`. It takes no
-/// memory.
+/// Parses the arguments: `route DRAWING OUT CERT`, `check DRAWING FILE CERT`, `convert IN OUT [--split]
+/// [--cut]`, `show FILE`, `edit IN OUT EDIT...`, `hoop FILE WIDTH HEIGHT`, `sample N DRAWING`, `migrate
+/// DRAWING OUT`, `trace FILE DRAWING` or `double DRAWING OUT CERT`. Returns `None` for other arguments.
+/// Allocates nothing.
 pub fn request(words: &[String]) -> Option<Request<'_>>
     ensures value { option_map asked_by result
         ≡ asked_of (map (λ word. string_bytes word) words.now) }
@@ -130,7 +130,7 @@ fn convert_request(words: &[String]) -> Option<Request<'_>>
     }
 }
 
-/// Whether stitches are to be split and floats to be cut.
+/// Parses the flags of `convert`: whether to split stitches, and whether to cut floats.
 fn refits(flags: &[String]) -> Option<(bool, bool)>
     ensures { result ≡ refits_spelled (map (λ word. string_bytes word) flags.now) }
 {
@@ -189,7 +189,7 @@ fn edit_request(words: &[String]) -> Option<Request<'_>>
     }
 }
 
-/// Says whether each word spells an edit.
+/// Returns whether each argument is an edit.
 fn are_edits(words: &[String]) -> bool
     ensures { result ≡ is_some (edits_spelled (map (λ word. string_bytes word) words.now)) }
 {

@@ -1,9 +1,9 @@
-/// What the words after the program's name ask for. Each name of a file has from 1 to 4,096 bytes.
+/// A request of the arguments. Each file name has from 1 to 4,096 bytes.
 #[derive(Clone, Copy, Debug)]
 pub enum Request<'a> {
     /// Sew a drawing as one running thread.
     Route(RouteNames<'a>),
-    /// Say whether a certificate proves that a design sews a drawing by least walks.
+    /// Check whether a certificate proves that a design sews a drawing by walks of the least cost.
     Check(CheckNames<'a>),
     /// Write a design in another format, with long stitches split or long floats cut.
     Convert {
@@ -11,14 +11,14 @@ pub enum Request<'a> {
         splits: bool,
         cuts: bool,
     },
-    /// Print what a file holds.
+    /// Print a report on the contents of a file.
     Show(&'a str),
-    /// Write a design after edits, each of which is spelled by one word.
+    /// Write a design after edits, one for each argument.
     Edit {
         names: Names<'a>,
         edits: &'a [String],
     },
-    /// Say whether a design fits into a hoop, whose sides are in tenths of a millimetre.
+    /// Check whether a design fits a hoop, whose sides are in tenths of a millimetre.
     Hoop {
         file: &'a str,
         width: u32,
@@ -43,7 +43,7 @@ pub enum Request<'a> {
     Double(RouteNames<'a>),
 }
 
-/// The files of a route: the drawing that is read, the design and the certificate that are written.
+/// The files of `route` and `double`: the drawing to read, the design and the certificate to write.
 #[derive(Clone, Copy, Debug)]
 pub struct RouteNames<'a> {
     pub drawing: &'a str,
@@ -51,7 +51,7 @@ pub struct RouteNames<'a> {
     pub cert: &'a str,
 }
 
-/// The files of a check, all of which are read: the drawing, the design and the certificate.
+/// The files of `check`, all of which are read: the drawing, the design and the certificate.
 #[derive(Clone, Copy, Debug)]
 pub struct CheckNames<'a> {
     pub drawing: &'a str,
@@ -59,7 +59,7 @@ pub struct CheckNames<'a> {
     pub cert: &'a str,
 }
 
-/// The file that is read, and the design that is written.
+/// The files of `convert` and `edit`: the design to read, and the design to write.
 #[derive(Clone, Copy, Debug)]
 pub struct Names<'a> {
     pub input: &'a str,
