@@ -1,4 +1,4 @@
--- Worked values of what changes of a design come to.
+-- Worked values of the results of changes.
 use Rattle.std.proofs.Common.{◌≡◌, ℤ, pos, negsuc, inl, inr, [], ◌∷◌, Some, Ok, Err, refl}
 use Rattle.command_words.specs.Changes.{mirror, shift, thread, turn}
 use Rattle.design_edits.specs.declared.axis.Axis.TheVariants.{X, Y}
@@ -11,7 +11,7 @@ use Rattle.design_changes.specs.ChangedDesigns.{Becomes, BecomesAll, shifted_unl
 abbrev place : ℤ → ℤ → Point
 place x y = record { x = x; y = y }
 
--- two blocks, of which none keeps a thread
+-- Two blocks, neither of which has a stored thread number.
 abbrev two_blocks : DesignValue
 two_blocks = record empty_design { commands = Stitch (place (pos 0) (pos 0)) ∷ Stop ∷ Stitch (place (pos 5) (pos 0)) ∷ [] }
 

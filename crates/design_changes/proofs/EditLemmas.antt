@@ -7,7 +7,7 @@ use Rattle.design_model.specs.Designs.{DesignValue}
 use Rattle.design_changes.specs.declared.change_faults.ChangeFault.{ChangeFault}
 use Rattle.design_changes.specs.ChangedDesigns.{Becomes, BecomesAll}
 
--- what the words that are left make of the design now, all words make of the first
+-- The result of the remaining edits on the current design is that of all edits on the first design.
 pub record GoesOn (words left : List (List ℕ)) (first now : DesignValue) : Type 0 where
   pub spelled : IsSome (edits_spelled left)
   pub rest : (limit : ℕ) (r : Result DesignValue ChangeFault) → BecomesAll limit (unwrap_or (edits_spelled left) []) now r
@@ -16,7 +16,7 @@ pub record GoesOn (words left : List (List ℕ)) (first now : DesignValue) : Typ
 pub goes_first : (words : List (List ℕ)) (d : DesignValue) → IsSome (edits_spelled words) → GoesOn words words d d
 goes_first words d spelled = record { spelled = spelled; rest = λ limit r becomes. becomes }
 
--- edits before others are spelled by each
+-- The edits of a list of arguments: the first, followed by the others.
 first_spelled : (first : Option Change) (later : Option (List Change)) → IsSome (before_edits first later) → IsSome first
 first_spelled (Some change) later some = refl
 first_spelled None later some = some

@@ -1,4 +1,4 @@
--- What one change answers. No public clause cites this file.
+-- The results of one change. No public clause refers to this file.
 use Rattle.std.specs.Prelude.{ℕ, Result, Ok, Err}
 use Rattle.command_words.specs.Changes.{Change, cut, split}
 use Rattle.design_model.specs.Designs.{DesignValue}
@@ -7,12 +7,12 @@ use Rattle.step_splitter.specs.declared.refitting.RefitMode.TheVariants as mode
 use Rattle.design_changes.specs.declared.change_faults.ChangeFault.{ChangeFault}
 use Rattle.design_changes.specs.ChangedDesigns.{Becomes}
 
--- the change that a refit is
+-- The change that a refit is.
 abbrev pub refit_change : RefitMode → Change
 refit_change mode.Split = split
 refit_change mode.Cut = cut
 
--- what one edit makes of a design in place
+-- The result of one edit of a design in place.
 abbrev pub EditsTo : {T : Type 0} → ℕ → Change → DesignValue → Result T ChangeFault → DesignValue
     → Type 0
 EditsTo limit change old (Ok _) new = Becomes limit change old (Ok new)

@@ -1,4 +1,4 @@
--- What a design that was read becomes by changes, before it is written, or why it is refused.
+-- The changes of a design between reading and writing, and the faults for which they are refused.
 use Rattle.std.specs.Prelude.{◌≡◌, ◌⊎◌, ℕ, ◌-◌, nat_lt, List, [], ◌∷◌, Option, Some, None, Result, Ok, Err, if◌then◌else◌}
 use Rattle.command_words.specs.Changes.{Change, cut, mirror, shift, split, thread, turn}
 use Rattle.design_edits.specs.Colours.{place_count, recoloured}
@@ -11,24 +11,25 @@ use Rattle.step_splitter.specs.Refits.{Refits}
 use Rattle.design_changes.specs.declared.change_faults.ChangeFault.{ChangeFault}
 use Rattle.design_changes.specs.declared.change_faults.ChangeFault.TheVariants as reason
 
--- what a refit at that limit makes of a design
+-- The result of refitting a design to that limit.
 abbrev pub RefitsTo : RefitMode → ℕ → DesignValue → Result DesignValue ChangeFault → Type 0
 RefitsTo m limit d (Ok refitted) = Refits m limit d (Ok refitted)
 RefitsTo m limit d (Err (reason.RefitTooMany number)) =
     Refits m limit d (Err (fault.TooMany number))
 RefitsTo m limit d (Err _) = ⊥
 
--- a shifted design, unless the point of a command would be out of range
+-- The shifted design, or a fault for the first command whose point would be out of range.
 abbrev pub shifted_unless : Option ℕ → DesignValue → Result DesignValue ChangeFault
 shifted_unless None moved = Ok moved
 shifted_unless (Some number) moved = Err (reason.MovedOut number)
 
--- a design with a thread for a block counted from 1, unless it has no such place for a thread
+-- The design with another thread for a block, numbered from 1, or a fault if there is no such
+-- colour place.
 abbrev pub threaded : ℕ → ℕ → DesignValue → Result DesignValue ChangeFault
 threaded place number d = if nat_lt (place - 1) (place_count d)
     then Ok (recoloured (place - 1) number d) else Err (reason.NoPlace place (place_count d))
 
--- what a change makes of a design, refits being at that limit
+-- The result of one change of a design. Refits are to that limit.
 abbrev pub Becomes : ℕ → Change → DesignValue → Result DesignValue ChangeFault → Type 0
 Becomes limit split d r = RefitsTo mode.Split limit d r
 Becomes limit cut d r = RefitsTo mode.Cut limit d r
@@ -38,7 +39,7 @@ Becomes limit (turn quarters) d r = r ≡ Ok (turned quarters d)
 Becomes limit (mirror axis) d r = r ≡ Ok (mirrored axis d)
 Becomes limit (thread place number) d r = r ≡ threaded place number d
 
--- what changes in order make of a design: the first that is refused decides
+-- The result of changes in order. The first refused change determines the fault.
 abbrev pub BecomesAll : ℕ → List Change → DesignValue → Result DesignValue ChangeFault → Type 0
 BecomesAll limit [] d r = r ≡ Ok d
 BecomesAll limit (change ∷ later) d r =

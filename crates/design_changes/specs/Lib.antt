@@ -1,6 +1,6 @@
--- words of the crate below that public clauses cite
+-- Definitions of the crate below that public clauses use.
 pub use Rattle.command_words.specs.Changes
--- read this one first: what changes make of a design, and which are refused
+-- Read ChangedDesigns first: the results of changes, and their faults.
 pub mod ChangedDesigns
 pub mod Changings
 pub mod ChangeSteps

@@ -1,11 +1,11 @@
 /// Why a change of a design is refused.
 #[derive(Clone, Copy, Debug, PartialEq, Eq)]
 pub enum ChangeFault {
-    /// A refit makes more commands than a design may have, past the act of that command.
+    /// A refit exceeds the maximum number of commands, at the act of that command.
     RefitTooMany { number: u32 },
-    /// The point of that command would leave its range.
+    /// The point of that command would be out of its range.
     MovedOut { number: u32 },
-    /// The design has no such place for a thread, counted from 1, but so many.
+    /// The design has `count` colour places, fewer than `place`, which counts from 1.
     NoPlace { place: u32, count: u32 },
 }
 
@@ -14,6 +14,6 @@ pub enum ChangeFault {
 pub enum Unchanged {
     /// A change is refused.
     For(ChangeFault),
-    /// Memory was wanted and not found.
+    /// Out of memory.
     Memory,
 }

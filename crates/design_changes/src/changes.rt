@@ -9,16 +9,16 @@ use design_model::Design;
 use std::alloc::Global;
 use step_splitter::MAX_STEP;
 
-/// What is done to a design before it is written.
+/// The changes of a design between reading and writing.
 #[derive(Clone, Copy, Debug)]
 pub enum Changes<'a> {
-    /// Stitches beyond the output's limit are split, and floats are cut, where each is asked for.
+    /// Split stitches beyond the limit of the output, and cut floats, as requested.
     Refits { splits: bool, cuts: bool },
-    /// The edits that the words spell, in order.
+    /// The edits that the arguments represent, in order.
     Edits(&'a [String]),
 }
 
-/// The design after changes in order, where refits are at that limit.
+/// Returns the design after changes in order. Refits are to that limit.
 pub fn changed(
     alloc: Global,
     design: Design,

@@ -12,7 +12,7 @@ use command_words::{Edit, edit_spelled};
 use design_edits::{EditFault, mirror, recolour, shift, turn};
 use design_model::{Design, Point};
 
-/// The design after the edits that the words spell, in order.
+/// Returns the design after the edits that the arguments represent, in order.
 pub(crate) fn edited(design: Design, words: &[String]) -> Result<Design, Unchanged>
     requires { SpellEdits (map (λ word. string_bytes word) words.now) }
     ensures { (limit : ℕ) → ChangesTo limit
@@ -28,7 +28,7 @@ pub(crate) fn edited(design: Design, words: &[String]) -> Result<Design, Unchang
     Ok(edited)
 }
 
-/// Edits a design as a word says.
+/// Applies the edit that an argument represents.
 fn apply_word(design: &mut Design, word: &[u8]) -> Result<(), ChangeFault>
     requires { IsSome (edit_spelled_by word.now) }
     ensures { (limit : ℕ) → IfSome (edit_spelled_by word.now)

@@ -1,5 +1,5 @@
-//! What a design becomes before it is written: by refits to a limit, or by the edits that words spell, one
-//! after another.
+//! The changes of a design between reading and writing: refits to a limit, or edits that arguments represent,
+//! one after another.
 #![tactic(auto)]
 
 mod change_faults;

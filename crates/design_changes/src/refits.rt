@@ -9,8 +9,7 @@ use design_model::Design;
 use std::alloc::Global;
 use step_splitter::{MAX_STEP, RefitFault, RefitMode, refit};
 
-/// The design with its long stitches split, where that is asked for, and then with its floats cut,
-/// where that is.
+/// Returns the design with its long stitches split, if requested, and then with its floats cut, if requested.
 pub(crate) fn refitted(
     alloc: Global,
     design: Design,
