@@ -22,7 +22,7 @@ square = record {
       ∷ Jump (place (negsuc 1) (negsuc 1)) ∷ Trim ∷ Jump (place (pos 0) (pos 0)) ∷ [];
 }
 
--- two blocks, of which the first alone keeps a thread
+-- Two blocks, of which only the first has a stored thread number.
 abbrev two_blocks : DesignValue
 two_blocks = record {
   label = codes "AB";

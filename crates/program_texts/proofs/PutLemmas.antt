@@ -45,7 +45,7 @@ fed-append before mid after a b first second =
     second ∙ (ap (λ (s : SinkSight). fed s b) first
     ∙ ap (λ (t : Option (List ℕ)). seen_sink t before.faults) (with_more-append before.taken a b))
 
--- a put that failed, in the words of sights
+-- A failed put, in terms of views.
 pub broke_of : (before after : SinkSight) (bytes : List ℕ) → (count : ℕ) × (after.taken ≡ with_more before.taken (take count bytes))
     → Rose before.faults after.faults → Broke before after bytes
 broke_of before after bytes (count, taken) rose = record {
@@ -56,7 +56,7 @@ broke_of before after bytes (count, taken) rose = record {
   rose = rose;
 }
 
--- some pieces of a text were put, and once those that are left are put too, the whole is; so it is where one breaks
+-- Some pieces of a text were put: the entire text is put once the remaining pieces are, and fails if one of them does.
 pub record PutsOn (whole left : List ℕ) (before now : SinkSight) : Type 0 where
   pub ok : (after : SinkSight) → after ≡ fed now left → after ≡ fed before whole
   pub err : (after : SinkSight) → Broke now after left → Broke before after whole
@@ -77,7 +77,7 @@ pub puts_broke : (whole left piece rest : List ℕ) (before now next : SinkSight
 puts_broke whole left piece rest before now next on is broke =
     on.err next (subst (λ (xs : List ℕ). Broke now next xs) (sym is) (broke-more now next piece rest broke))
 
--- the status that is planned where a text was put, and `Fault` where it wasn't, tell that text
+-- The planned status if a text was put, and `Fault` if not, report that text.
 pub told_by : {T : Type 0} (text : List ℕ) (before after : SinkSight) (planned : Status) (put : Result T Failed) (s : Status)
     → Puts text before after put → OnOk put (s ≡ planned) → OnErr put (s ≡ status.Fault)
     → Tells text planned before after s
@@ -120,7 +120,7 @@ pub puts_err : {T : Type 0} (bytes : List ℕ) (before after : SinkSight) (fault
 puts_err bytes before after fault (Ok _) never broke = absurd never
 puts_err bytes before after fault (Err _) is broke = record { ok = tt; err = broke }
 
--- the line could not be put, and so the piece wasn't either
+-- The line could not be put: then the piece was not put.
 pub gather_broke : {T : Type 0} (text line piece new_line : List ℕ) (before after : SinkSight) (fault : Failed) (result : Result T Failed)
     → IsErrAnd result (λ (f : Failed). f ≡ fault) → text ≡ line → Broke before after text
     → Gathers (line ++ piece) new_line before after result

@@ -1,4 +1,4 @@
--- Each line of a check that says no, to the letter.
+-- Each line of a failed check, byte by byte.
 use Rattle.std.proofs.Common.{◌≡◌, ◌++◌, refl}
 use Rattle.std.specs.Fmt.{digits}
 use Rattle.std.specs.Prelude.{codes}
@@ -59,7 +59,7 @@ pub known_total : cuts_no 4 (cut.Total 15 26)
 unfolding digits
 known_total = refl
 
--- the count of the certificate comes first, then that of the drawing
+-- The count of the certificate is first, then that of the drawing.
 pub known_counts : counts_no (codes "2") (codes "31")
     ≡ codes "stitch: no: certificate has 2 pieces, drawing has 31" ++ line_end
 known_counts = refl

@@ -30,7 +30,7 @@ pub known_double : double_report (record { block = 1; piece = 1; lines = 3; cost
 unfolding digits
 known_double = refl
 
--- no two of the numbers are equal, so that none stands for another
+-- Distinct numbers, which cannot be exchanged unnoticed.
 abbrev sample : Summary
 sample = record {
   number = 7;

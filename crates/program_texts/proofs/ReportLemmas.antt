@@ -41,7 +41,7 @@ reports_short whole so_far number rest left on none =
     none_from [] cs is = refl
     none_from (p ∷ ps) cs is = ap (λ (ds : List PieceCert). reports_from number (p ∷ ps) ds) is
 
--- the blocks of the pieces behind one, and how many these are
+-- The blocks of the pieces after one, and their number.
 pub blocks_behind : (rest more : List Piece) (p : Piece) → All (λ (q : Piece). q.block < 255) rest → rest ≡ p ∷ more
     → All (λ (q : Piece). q.block < 255) more
 blocks_behind rest more p all is =

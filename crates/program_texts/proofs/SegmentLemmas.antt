@@ -3,7 +3,7 @@ use Rattle.std.proofs.Common.{◌≡◌, ◌-◌, List, [], ◌∷◌, length, r
 use Rattle.design_model.specs.declared.point.Point.{Point}
 use Rattle.line_sections.specs.Sections.{segments_from, segments_of}
 
--- a line has one segment for each point behind the first
+-- A line has one segment for each point after the first.
 pub segments_led : (p : Point) (rest : List Point) → length (segments_from p rest) ≡ length rest
 segments_led p [] = refl
 segments_led p (q ∷ rest) = omega (arith, segments_led q rest)

@@ -38,7 +38,7 @@ pub known_many_chains : trace_line (codes "a") (trace.Limit kind.TooManyLines)
     ≡ codes "stitch: a: more than 1024 lines" ++ line_end
 known_many_chains = refl
 
--- want of memory is no refusal, and has its own line wherever it is told
+-- Out of memory is no refusal, and has its own line everywhere.
 pub known_wants : read_line (codes "a") read.Memory ∷ write_line (codes "a") 121 write.Memory ∷ trace_line (codes "a") trace.Memory ∷ []
     ≡ replicate 3 (codes "stitch: out of memory" ++ line_end)
 known_wants = refl
@@ -86,7 +86,7 @@ known_no_junction = refl
 pub known_end_repeated : draw_text kind.EndRepeated ≡ codes "start or end repeated"
 known_end_repeated = refl
 
--- a block without a line is told at the line that opened it
+-- A block without a line is reported at the line that opened it.
 pub known_draw_line : draw_line (codes "a.rw") (record { number = 2; kind = kind.EmptyBlock })
     ≡ codes "stitch: a.rw: line 2: block without a line" ++ line_end
 unfolding digits

@@ -1,4 +1,4 @@
--- Worked values of what is told of a traced drawing.
+-- Worked values of the report on a traced drawing.
 use Rattle.std.proofs.Common.{◌≡◌, ℤ, pos, [], ◌∷◌, ◌++◌, refl}
 use Rattle.std.specs.Fmt.{digits}
 use Rattle.std.specs.Prelude.{codes}

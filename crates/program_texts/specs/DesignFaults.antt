@@ -1,4 +1,5 @@
--- The lines that tell why a design was not read, not written or not traced.
+-- The lines for a design that was not read, not written or not traced. Out of memory has a line of
+-- its own.
 use Rattle.std.specs.Prelude.{ℕ, List, codes, decimal}
 use Rattle.format_traits.specs.declared.fault.ReadFault.{ReadFault}
 use Rattle.format_traits.specs.declared.fault.ReadFault.TheVariants as read
@@ -11,7 +12,7 @@ use Rattle.program_texts.specs.Messages.{memory_line}
 use Rattle.program_texts.specs.LimitLines.{long_text}
 use Rattle.program_texts.specs.TextFaults.{draw_text}
 
--- why a file was not read; want of memory has a line of its own
+-- The line for a file that was not read.
 abbrev pub read_line : List ℕ → ReadFault → List ℕ
 read_line name (read.Short at) = byte_line name at (codes "file too short")
 read_line name (read.Signature at) = byte_line name at (codes "signature not known")
@@ -21,8 +22,7 @@ read_line name (read.Range at) = byte_line name at (codes "point out of range")
 read_line name (read.TooMany at) = byte_line name at (codes "more than 1000000 commands")
 read_line name read.Memory = memory_line
 
--- why a design was not written, the limit of its format being that; want of
--- memory has a line of its own
+-- The line for a design that was not written by a format with that limit.
 abbrev pub write_line : List ℕ → ℕ → WriteFault → List ℕ
 write_line name limit (write.StitchTooLong number) = long_text name (decimal number) (decimal limit)
 write_line name limit (write.FloatTooLong number) =
@@ -33,7 +33,7 @@ write_line name limit (write.TooLong number) =
     command_line name number (codes "more than 1000000 commands written")
 write_line name limit write.Memory = memory_line
 
--- why a design has no traced drawing; want of memory has a line of its own
+-- The line for a design that has no traced drawing.
 abbrev pub trace_line : List ℕ → TraceFault → List ℕ
 trace_line name trace.NoLinks = line_about name (codes "nothing is sewn")
 trace_line name (trace.LinkTooLong number) =

@@ -1,4 +1,4 @@
--- What the program prints of a design that was read, and of one that was written.
+-- The reports on a design that was read, and on one that was written.
 use Rattle.std.specs.Prelude.{ℕ, ◌+◌, Bool, List, [], ◌∷◌, ◌++◌, Option, Some, None, codes, decimal, if◌then◌else◌}
 use Rattle.std.specs.Fmt.{signed_decimal}
 use Rattle.design_model.specs.declared.bounds.Extent.{Extent}
@@ -11,52 +11,52 @@ use Rattle.design_model.specs.Extents.{extent_of}
 use Rattle.format_traits.specs.declared.loaded.Loaded.{Loaded}
 use Rattle.design_model.specs.TextLines.{line_end}
 
--- a word and a number
+-- A label and a number.
 abbrev pub number_text : List ℕ → ℕ → List ℕ
 number_text word n = word ++ decimal n
 
--- a line of a word and a number
+-- A line of a label and a number.
 abbrev pub number_line : List ℕ → ℕ → List ℕ
 number_line word n = number_text word n ++ line_end
 
--- the coordinates of a point
+-- The coordinates of a point.
 abbrev pub point_text : Point → List ℕ
 point_text p = signed_decimal p.x ++ (codes " " ++ signed_decimal p.y)
 
--- the least and the greatest coordinates of the needles
+-- The line of the minimum and maximum coordinates of the needles.
 abbrev pub extent_line : Option Extent → List ℕ
 extent_line None = codes "extent none" ++ line_end
 extent_line (Some extent) = codes "extent " ++ (point_text extent.min
     ++ (codes " " ++ (point_text extent.max ++ line_end)))
 
--- whether the file has an end
+-- The line about the end of the file: whether it has one.
 abbrev pub ended_line : Bool → List ℕ
 ended_line ended = (if ended then codes "ended yes" else codes "ended no") ++ line_end
 
--- the lines of the counts
+-- The lines of the counts.
 abbrev pub count_lines : Counts → List ℕ
 count_lines counts = number_line (codes "commands ") counts.commands
     ++ (number_line (codes "needles ") counts.needles
     ++ (number_line (codes "trims ") counts.trims
     ++ number_line (codes "stops ") counts.stops))
 
--- a block by its number from 1, its thread, and its number of needles
+-- The line of a block: its number, counted from 1, its thread, and its number of needles.
 abbrev pub block_line : ℕ → ℕ → ℕ → List ℕ
 block_line number thread needles = number_text (codes "block ") number
     ++ (number_text (codes " thread ") thread ++ number_line (codes " needles ") needles)
 
--- the lines of the blocks from that place on
+-- The lines of the blocks, the first of which has that index.
 abbrev pub block_lines : DesignValue → ℕ → List ℕ → List ℕ
 block_lines d place [] = []
 block_lines d place (needles ∷ later) =
     block_line (place + 1) (thread_of d place) needles ++ block_lines d (place + 1) later
 
--- the format and the label
+-- The lines of the format and the label.
 abbrev pub title_lines : List ℕ → List ℕ → List ℕ
 title_lines ending label = codes "format " ++ (ending ++ (line_end
     ++ (codes "label [" ++ (label ++ (codes "]" ++ line_end)))))
 
--- the whole report on a file of the format with that ending
+-- The entire report on a file, given the file name ending of its format.
 abbrev pub show_report : List ℕ → Loaded → List ℕ
 show_report ending loaded = title_lines ending loaded.design.label
     ++ (count_lines (counts_of loaded.design)
@@ -64,7 +64,7 @@ show_report ending loaded = title_lines ending loaded.design.label
     ++ (ended_line loaded.ended
     ++ block_lines loaded.design 0 (needles_of_blocks loaded.design))))
 
--- the report on a design that was written
+-- The report on a design that was written.
 abbrev pub written_report : Counts → List ℕ
 written_report counts = number_text (codes "needles ") counts.needles
     ++ (number_text (codes " trims ") counts.trims ++ number_line (codes " stops ") counts.stops)

@@ -1,24 +1,25 @@
--- The report of double walks over pieces, each of which retraces what its lines cost.
+-- The report of double walks over pieces. A double walk retraces the cost of the lines of its
+-- piece.
 use Rattle.std.specs.Prelude.{ℕ, List, [], ◌∷◌, ◌++◌, codes, decimal, sum_by, length}
 use Rattle.design_model.specs.TextLines.{line_end}
 use Rattle.program_texts.specs.declared.reports.PieceReport.{PieceReport}
 use Rattle.program_texts.specs.Reports.{penetrations_of, piece_place, totals_line}
 
--- what a piece costs, and how often the needle goes down
+-- The cost of a piece, and its number of penetrations.
 abbrev pub double_cost : PieceReport → List ℕ
 double_cost piece = codes " cost " ++ (decimal piece.cost
     ++ (codes " penetrations " ++ (decimal (penetrations_of piece) ++ line_end)))
 
--- the line of a piece
+-- The line of a piece.
 abbrev pub double_line : PieceReport → List ℕ
 double_line piece = piece_place piece ++ double_cost piece
 
--- the lines of the pieces
+-- The lines of pieces.
 abbrev pub double_lines : List PieceReport → List ℕ
 double_lines [] = []
 double_lines (piece ∷ rest) = double_line piece ++ double_lines rest
 
--- the report: a line for each piece, and the sums
+-- The report: a line for each piece, and the totals.
 abbrev pub double_report : List PieceReport → List ℕ
 double_report pieces = double_lines pieces ++ totals_line (length pieces)
     (sum_by penetrations_of pieces)

@@ -1,5 +1,5 @@
 pub mod TextLines
--- read these first: what it is to tell a text, and what the program tells where it did nothing
+-- Read Puts and Messages first: how a line is reported, and the lines about failures.
 pub mod Puts
 pub mod Messages
 pub mod UsageText
@@ -7,7 +7,7 @@ pub mod LimitLines
 pub mod TextFaults
 pub mod DesignFaults
 pub mod Reasons
--- the reports
+-- The reports.
 pub mod Reports
 pub mod PieceReports
 pub mod PieceSums

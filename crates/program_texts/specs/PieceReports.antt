@@ -1,4 +1,4 @@
--- What a report says of pieces, each with its certificate. Costs count steps.
+-- The data of the lines about pieces, each with its certificate. Costs count steps.
 use Rattle.std.specs.Prelude.{ℕ, ◌+◌, List, [], ◌∷◌, length}
 use Rattle.cut_certificate.specs.declared.certificate.PieceCert.{PieceCert}
 use Rattle.line_graph.specs.PieceGraphs.{PieceValue}
@@ -7,7 +7,7 @@ use Rattle.program_texts.specs.declared.reports.PieceReport.{PieceReport}
 use Rattle.line_graph.specs.declared.piece.Piece.{Piece}
 use Rattle.line_graph.specs.CutPieces.{graph_of}
 
--- what the report says of a piece with that number
+-- The data of the line about a piece with that number.
 abbrev pub piece_report : PieceValue → ℕ → PieceCert → PieceReport
 piece_report p number cert = record {
   block = p.block + 1;
@@ -17,7 +17,7 @@ piece_report p number cert = record {
   retraced = cert.retraced;
 }
 
--- what the report says of pieces, each with its certificate, numbered from that number on
+-- The data of the lines about pieces, numbered from `number` on.
 abbrev pub reports_from : ℕ → List Piece → List PieceCert → List PieceReport
 reports_from number [] certs = []
 reports_from number (p ∷ pieces) [] = []

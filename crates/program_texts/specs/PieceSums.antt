@@ -1,5 +1,5 @@
--- What is told of the pieces of a sample drawing, summed. Costs count steps, weights of cuts
--- halves of a step.
+-- The sums over the pieces of a sample drawing. Costs count steps, weights of cuts halves of a
+-- step.
 use Rattle.std.specs.Prelude.{ℕ, ◌*◌, List, length, sum_by}
 use Rattle.line_graph.specs.declared.piece.Piece.{Piece}
 use Rattle.line_graph.specs.CutPieces.{graph_of}
@@ -8,22 +8,24 @@ use Rattle.program_texts.specs.declared.reports.PieceReport.{PieceReport}
 use Rattle.program_texts.specs.declared.summary.Summary.{Summary}
 use Rattle.program_texts.specs.Reports.{penetrations_of}
 
--- how many junctions a piece has, and how many of them are odd
+-- The number of junctions of a piece.
 abbrev pub junction_count : PieceValue → ℕ
 junction_count p = length p.junctions
 
+-- The number of odd junctions of a piece.
 abbrev pub odd_count : PieceValue → ℕ
 odd_count p = length (odd_junctions p)
 
--- the junctions of pieces
+-- The total number of junctions of pieces.
 abbrev pub junction_sum : List Piece → ℕ
 junction_sum pieces = sum_by (λ p. junction_count (graph_of p)) pieces
 
--- their odd junctions
+-- The total number of odd junctions of pieces.
 abbrev pub odd_sum : List Piece → ℕ
 odd_sum pieces = sum_by (λ p. odd_count (graph_of p)) pieces
 
--- what is told of so many lines in pieces, by what a report says of them
+-- The summary of a sample drawing with that number of lines, computed from its pieces and their
+-- reports.
 abbrev pub summed : (number lines : ℕ) → List Piece → List PieceReport → Summary
 summed number lines pieces reports = record {
   number = number;

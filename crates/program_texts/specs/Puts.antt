@@ -1,4 +1,4 @@
--- What it comes to when bytes are put into a sink.
+-- Puts: bytes added to a sink.
 use Rattle.std.specs.Prelude.{◌≡◌, ◌⊎◌, ℕ, List, ◌++◌, Result, OnErr, OnOk}
 use Rattle.outside_io.specs.declared.store.Failed.{Failed}
 use Rattle.outside_io.specs.Causes.{with_more}
@@ -7,11 +7,11 @@ use Rattle.outside_io.specs.Sights.{SinkSight}
 use Rattle.program_texts.specs.declared.status.Status.{Status}
 use Rattle.program_texts.specs.declared.status.Status.TheVariants as status
 
--- what a sink shows once it took these bytes too and no put failed
+-- The view of a sink after these bytes were taken without a fault.
 abbrev pub fed : SinkSight → List ℕ → SinkSight
 fed before bytes = record { taken = with_more before.taken bytes; faults = before.faults }
 
--- a put failed on the way of these bytes: some first ones were taken, and the count rose
+-- A failed put: a prefix of the bytes was taken, and the fault count rose.
 pub record Broke (before after : SinkSight) (bytes : List ℕ) : Type 0 where
   pub first : List ℕ
   pub rest : List ℕ
@@ -19,14 +19,14 @@ pub record Broke (before after : SinkSight) (bytes : List ℕ) : Type 0 where
   pub taken : after.taken ≡ with_more before.taken first
   pub rose : Rose before.faults after.faults
 
--- what an answer to putting these bytes means
+-- The result of putting these bytes.
 pub record Puts {T : Type 0} (bytes : List ℕ) (before after : SinkSight)
     (result : Result T Failed) : Type 0 where
   pub ok : OnOk result (after ≡ fed before bytes)
   pub err : OnErr result (Broke before after bytes)
 
--- the text is on the standard error and the status is as planned; or it could not be put there,
--- and the status is `Fault`
+-- The outcome of reporting a line: it is on the standard error and the status is the planned one,
+-- or the put failed and the status is `Fault`.
 abbrev pub Tells : List ℕ → Status → SinkSight → SinkSight → Status → Type 0
 Tells text planned err err' s =
     ((s ≡ planned) × (err' ≡ fed err text)) ⊎ ((s ≡ status.Fault) × Broke err err' text)

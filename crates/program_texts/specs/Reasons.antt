@@ -1,5 +1,5 @@
--- Why a check says no, as a line on the standard error. Pieces, passes, cuts, junctions, lines and
--- acts are told by number, from 1.
+-- The lines for a failed check. Pieces, passes, cuts, junctions, lines and acts are numbered from
+-- 1; numbers are given as digits.
 use Rattle.std.specs.Prelude.{ℕ, List, [], ◌++◌, codes, decimal}
 use Rattle.cut_certificate.specs.declared.faults.CutFault.{CutFault}
 use Rattle.cut_certificate.specs.declared.faults.CutFault.TheVariants as cut
@@ -7,34 +7,34 @@ use Rattle.cut_certificate.specs.declared.faults.WalkFault.{WalkFault}
 use Rattle.cut_certificate.specs.declared.faults.WalkFault.TheVariants as walk
 use Rattle.design_model.specs.TextLines.{line_end}
 
--- a text, a number and what follows
+-- A text, a number and a further text.
 abbrev pub with_number : (text digits rest : List ℕ) → List ℕ
 with_number text digits rest = text ++ (digits ++ rest)
 
--- a line about a piece
+-- The text about a fault in a piece.
 abbrev pub piece_no : (piece text : List ℕ) → List ℕ
 piece_no piece text = with_number (codes "stitch: no: piece ") piece text
 
--- a line about a piece without a further number
+-- The line about a fault in a piece, without further numbers.
 abbrev pub plain_no : (piece text : List ℕ) → List ℕ
 plain_no piece text = piece_no piece (text ++ line_end)
 
--- a line about a piece with one further number
+-- The line about a fault in a piece, with one further number.
 abbrev pub one_no : (piece before number after : List ℕ) → List ℕ
 one_no piece before number after = piece_no piece (with_number before number (after ++ line_end))
 
--- a line about a piece with two further numbers
+-- The line about a fault in a piece, with two further numbers.
 abbrev pub two_no : (piece before one between two after : List ℕ) → List ℕ
 two_no piece before one between two after =
     piece_no piece (with_number before one (with_number between two (after ++ line_end)))
 
--- a line about a piece with three further numbers
+-- The line about a fault in a piece, with three further numbers.
 abbrev pub three_no : (piece before one between two behind three : List ℕ) → List ℕ
 three_no piece before one between two behind three =
     piece_no piece (with_number before one (with_number between two
     (with_number behind three line_end)))
 
--- what is wrong with the walk of a piece
+-- The line about a fault in the walk of a piece.
 abbrev pub walk_no : ℕ → WalkFault → List ℕ
 walk_no piece (walk.Stranger pass) =
     one_no (decimal piece) (codes ": pass ") (decimal pass) (codes " is not a line of the piece")
@@ -48,7 +48,7 @@ walk_no piece walk.Open = plain_no (decimal piece) (codes ": walk is not closed"
 walk_no piece (walk.Missing line) =
     one_no (decimal piece) (codes ": line ") (decimal line) (codes " is not sewn")
 
--- what is wrong with the cuts of a piece
+-- The line about a fault in the cuts of a piece.
 abbrev pub cuts_no : ℕ → CutFault → List ℕ
 cuts_no piece (cut.Stranger number junction) =
     two_no (decimal piece) (codes ": cut ") (decimal number)
@@ -61,11 +61,11 @@ cuts_no piece (cut.Overload line load allowed) =
 cuts_no piece (cut.Total sum needed) = two_no (decimal piece) (codes ": cuts give ") (decimal sum)
     (codes " halves, needed ") (decimal needed) []
 
--- a line about the counts of pieces, the numbers as digits
+-- The line about a certificate with a wrong number of pieces.
 abbrev pub counts_no : (found drawn : List ℕ) → List ℕ
 counts_no found drawn = with_number (codes "stitch: no: certificate has ") found
     (with_number (codes " pieces, drawing has ") drawn line_end)
 
--- a line about an act, the number as digits
+-- The line about an act of the design that differs from the sewn walks.
 abbrev pub act_no : List ℕ → List ℕ
 act_no number = with_number (codes "stitch: no: act ") number (codes " differs" ++ line_end)

@@ -1,11 +1,11 @@
--- The lines that tell what is wrong with the text of a drawing.
+-- The lines about faults in the text of a drawing.
 use Rattle.std.specs.Prelude.{ℕ, List, codes, decimal}
 use Rattle.line_graph.specs.declared.draw_kind.DrawKind.{DrawKind}
 use Rattle.line_graph.specs.declared.draw_kind.DrawKind.TheVariants as kind
 use Rattle.drawing_text.specs.declared.draw_fault.DrawFault.{DrawFault}
 use Rattle.program_texts.specs.TextLines.{line_at}
 
--- what is wrong with a drawing text; a refusal is never for want of memory
+-- The text of a fault in a drawing text. A refused drawing text never has the fault `Memory`.
 abbrev pub draw_text : DrawKind → List ℕ
 draw_text kind.BadHeader = codes "not a redwork drawing"
 draw_text kind.BadWord = codes "word not understood"
@@ -23,6 +23,6 @@ draw_text kind.NoJunction = codes "not a junction"
 draw_text kind.EndRepeated = codes "start or end repeated"
 draw_text kind.Memory = codes "out of memory"
 
--- a line about a line of a drawing text, counted from 1
+-- The line about a fault in a drawing text; its lines are numbered from 1.
 abbrev pub draw_line : List ℕ → DrawFault → List ℕ
 draw_line name fault = line_at name (codes ": line ") (decimal fault.number) (draw_text fault.kind)

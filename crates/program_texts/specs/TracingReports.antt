@@ -4,15 +4,16 @@ use Rattle.line_sections.specs.Sections.{segments_of}
 use Rattle.line_graph.specs.Drawings.{DrawingValue}
 use Rattle.design_model.specs.TextLines.{line_end}
 
--- the line of a tracing: how many blocks and lines there are, and how many links
+-- The line of a tracing: the number of blocks, of lines and of links.
 abbrev pub traced_line : (blocks lines links : ℕ) → List ℕ
 traced_line blocks lines links = codes "blocks " ++ (decimal blocks ++ (codes " lines "
     ++ (decimal lines ++ (codes " links " ++ (decimal links ++ line_end)))))
 
--- how many segments the lines of a drawing have
+-- The number of segments of the lines of a drawing.
 abbrev pub segment_count : DrawingValue → ℕ
 segment_count d = sum_by (λ line. length (segments_of line.points)) d.lines
 
--- the report of the tracing that gave a drawing: its blocks, its lines, and a link for each segment
+-- The report of the tracing that resulted in a drawing: its blocks, its lines, and a link for each
+-- segment.
 abbrev pub tracing_report : DrawingValue → List ℕ
 tracing_report d = traced_line (length d.threads) (length d.lines) (segment_count d)

@@ -1,8 +1,8 @@
--- What the words may be, as the program says it.
+-- The usage text.
 use Rattle.std.specs.Prelude.{ℕ, List, ◌++◌, codes}
 use Rattle.design_model.specs.TextLines.{line_end}
 
--- what the words may be
+-- The usage text: the commands and their arguments.
 abbrev pub usage_text : List ℕ
 usage_text = codes "usage: stitch route DRAWING OUT CERT" ++ line_end
     ++ codes "       stitch check DRAWING FILE CERT" ++ line_end

@@ -11,7 +11,7 @@ use format_traits::{ReadFault, WriteFault};
 use outside_io::Sink;
 use stitch_trace::TraceFault;
 
-/// Tells why a file was not read.
+/// Reports the fault for which a file was not read.
 pub fn tell_read_fault<E: Sink>(err: &mut E, name: &str, fault: ReadFault) -> Status
     ensures { Tells (read_line name.now fault) status.Refused (E.sight err.old)
         (E.sight err.new) result }
@@ -27,7 +27,7 @@ pub fn tell_read_fault<E: Sink>(err: &mut E, name: &str, fault: ReadFault) -> St
     }
 }
 
-/// Tells why a design was not written, by a format with that limit.
+/// Reports the fault for which a design was not written, by a format with that limit.
 pub fn tell_write_fault<E: Sink>(err: &mut E, name: &str, limit: u32, fault: WriteFault) -> Status
     ensures { Tells (write_line name.now limit fault) status.Refused (E.sight err.old)
         (E.sight err.new) result }
@@ -43,7 +43,7 @@ pub fn tell_write_fault<E: Sink>(err: &mut E, name: &str, limit: u32, fault: Wri
     }
 }
 
-/// Tells why a design has no traced drawing.
+/// Reports the fault for which a design has no traced drawing.
 pub fn tell_trace_fault<E: Sink>(err: &mut E, name: &str, fault: TraceFault) -> Status
     ensures { Tells (trace_line name.now fault) status.Refused (E.sight err.old)
         (E.sight err.new) result }

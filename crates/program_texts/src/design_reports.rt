@@ -8,8 +8,8 @@ use format_traits::Loaded;
 use itoa::Buffer;
 use std::alloc::Global;
 
-/// The report on a loaded file of the format with that ending: its label, counts, extent, whether it
-/// had an end, and its blocks.
+/// Returns the report on a file of the format with that ending: its label, counts, extent, whether it has an
+/// end, and its blocks.
 pub fn print_loaded(alloc: Global, ending: &str, loaded: &Loaded) -> Result<Bytes, Memory>
     ensures { IfOk result (λ text. text ≡ show_report ending.now loaded.now) }
 {
@@ -24,7 +24,7 @@ pub fn print_loaded(alloc: Global, ending: &str, loaded: &Loaded) -> Result<Byte
     Ok(text)
 }
 
-/// The report on a design that was written.
+/// Returns the report on a design that was written.
 pub fn print_written(alloc: Global, counts: Counts) -> Result<Bytes, Memory>
     ensures { IfOk result (λ text. text ≡ written_report counts) }
 {
@@ -83,7 +83,7 @@ fn put_ended(text: &mut Bytes, ended: bool) -> Result<(), Memory>
     Ok(())
 }
 
-/// Adds the lines of the blocks, by the number of needles of each.
+/// Appends the lines of the blocks, given the number of needles of each.
 fn put_blocks(text: &mut Bytes, design: &Design, needles: &[u32]) -> Result<(), Memory>
     requires { length needles.now ≤ MAX_COMMANDS + 1 }
     ensures { OnOk result (text.new ≡ text.old ++ block_lines design.now 0 needles.now) }
@@ -113,7 +113,7 @@ fn put_point(text: &mut Bytes, point: Point) -> Result<(), Memory>
     Ok(())
 }
 
-/// Adds a line of a word and a number.
+/// Appends a line of a label and a number.
 fn put_number_line(text: &mut Bytes, word: &[u8], number: u32) -> Result<(), Memory>
     ensures { OnOk result (text.new ≡ text.old ++ number_line word.now number) }
 {

@@ -10,7 +10,7 @@ use design_model::{Bytes, Memory};
 use line_graph::Piece;
 use std::alloc::Global;
 
-/// The report of double walks over pieces, each with its certificate.
+/// Returns the report of double walks over pieces, each with its certificate.
 pub fn print_double(alloc: Global, pieces: &[Piece], certs: &[PieceCert]) -> Result<Bytes, Memory>
     requires blocks { All (λ p. p.block < MAX_BLOCKS) pieces.now }
     requires lines { length pieces.now ≤ MAX_LINES }
@@ -21,7 +21,7 @@ pub fn print_double(alloc: Global, pieces: &[Piece], certs: &[PieceCert]) -> Res
     print_pieces(alloc, reports.as_slice())
 }
 
-/// A line for each piece, and the sums.
+/// Returns a line for each piece, and the totals.
 fn print_pieces(alloc: Global, pieces: &[PieceReport]) -> Result<Bytes, Memory>
     requires { sum_by penetrations_of pieces.now < 2 ^ 32 }
     ensures { IfOk result (λ text. text ≡ double_report pieces.now) }

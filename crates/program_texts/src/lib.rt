@@ -1,5 +1,5 @@
-//! What the program prints: reports for standard output, and the line of each refusal and failure for
-//! standard error.
+//! The texts that the program prints: reports for standard output, and the line of each refusal and failure
+//! for standard error.
 #![tactic(auto)]
 
 mod design_faults;

@@ -8,7 +8,7 @@ use crate::status::Status;
 use itoa::Buffer;
 use outside_io::Sink;
 
-/// Tells that the step of a drawing is above the limit of a format, both in tenths of a millimetre.
+/// Reports that the step of a drawing exceeds the limit of a format, both in tenths of a millimetre.
 pub fn tell_step<E: Sink>(err: &mut E, name: &str, step: u32, limit: u32, ending: &[u8]) -> Status
     ensures { Tells (step_text name.now (decimal step) (decimal limit) ending.now) status.Refused
         (E.sight err.old) (E.sight err.new) result }
@@ -44,7 +44,7 @@ fn tell_step_digits<E: Sink>(
     tell(err, &pieces, Status::Refused)
 }
 
-/// Tells that a command of a design, counted from 1, is too long a stitch for a format.
+/// Reports that a command of a design, numbered from 1, is a stitch too long for a format.
 pub(crate) fn tell_long_stitch<E: Sink>(err: &mut E, name: &str, number: u32, limit: u32) -> Status
     ensures { Tells (long_text name.now (decimal number) (decimal limit)) status.Refused
         (E.sight err.old) (E.sight err.new) result }
@@ -72,7 +72,7 @@ fn tell_long_digits<E: Sink>(err: &mut E, name: &[u8], number: &[u8], limit: &[u
     tell(err, &pieces, Status::Refused)
 }
 
-/// Tells that a design has no such place for a thread, counted from 1, but so many.
+/// Reports a colour place, numbered from 1, that a design does not have, and the number of its places.
 pub fn tell_no_place<E: Sink>(err: &mut E, name: &str, place: u32, count: u32) -> Status
     ensures { Tells (place_text name.now (decimal place) (decimal count)) status.Refused
         (E.sight err.old) (E.sight err.new) result }
@@ -100,7 +100,7 @@ fn tell_place_digits<E: Sink>(err: &mut E, name: &[u8], place: &[u8], count: &[u
     tell(err, &pieces, Status::Refused)
 }
 
-/// Tells by how many tenths of a millimetre a design is too large for a hoop.
+/// Reports by how many tenths of a millimetre a design exceeds a hoop.
 pub fn tell_too_large<E: Sink>(err: &mut E, x: u32, y: u32) -> Status
     ensures { Tells (large_text (decimal x) (decimal y)) status.Refused (E.sight err.old)
         (E.sight err.new) result }

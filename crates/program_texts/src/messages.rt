@@ -10,21 +10,21 @@ use crate::status::Status;
 use crate::usage::usage;
 use outside_io::Sink;
 
-/// Tells what the words may be.
+/// Reports the usage text.
 pub fn tell_usage<E: Sink>(err: &mut E) -> Status
     ensures { Tells usage_text status.Usage (E.sight err.old) (E.sight err.new) result }
 {
     tell(err, &[usage()], Status::Usage)
 }
 
-/// Tells that an input could not be read.
+/// Reports an input file that could not be read.
 pub fn tell_unread<E: Sink>(err: &mut E, name: &str) -> Status
     ensures { Tells (unread_line name.now) status.Fault (E.sight err.old) (E.sight err.new) result }
 {
     tell_name(err, b"stitch: cannot read ", name, Status::Fault)
 }
 
-/// Tells that an output could not be written.
+/// Reports an output file that could not be written.
 pub fn tell_unwritten<E: Sink>(err: &mut E, name: &str) -> Status
     ensures { Tells (unwritten_line name.now) status.Fault (E.sight err.old)
         (E.sight err.new) result }
@@ -32,21 +32,21 @@ pub fn tell_unwritten<E: Sink>(err: &mut E, name: &str) -> Status
     tell_name(err, b"stitch: cannot write ", name, Status::Fault)
 }
 
-/// Tells that the report could not be printed.
+/// Reports that the report could not be printed.
 pub fn tell_unprinted<E: Sink>(err: &mut E) -> Status
     ensures { Tells unprinted_line status.Fault (E.sight err.old) (E.sight err.new) result }
 {
     tell(err, &[b"stitch: cannot print\n"], Status::Fault)
 }
 
-/// Says that memory was wanted and not found, where nothing else can be done.
+/// Reports out of memory.
 pub fn out_of_memory<E: Sink>(err: &mut E) -> Status
     ensures { Tells memory_line status.Memory (E.sight err.old) (E.sight err.new) result }
 {
     tell(err, &[b"stitch: out of memory\n"], Status::Memory)
 }
 
-/// Tells a text that ends with a file's name.
+/// Reports a text that ends with a file name.
 fn tell_name<E: Sink>(err: &mut E, text: &[u8], name: &str, planned: Status) -> Status
     ensures { Tells (text.now ++ (name.now ++ line_end)) planned (E.sight err.old)
         (E.sight err.new) result }

@@ -13,8 +13,8 @@ use line_graph::Piece;
 use odd_paths::{odd, odds_are_even};
 use std::alloc::Global;
 
-/// What is told of the sample drawing of a number, which has so many lines in these pieces, each with its
-/// certificate.
+/// Returns the summary of the sample drawing of a number, given its number of lines and its pieces, each with
+/// its certificate.
 pub fn summary_of(
     alloc: Global,
     number: u32,
@@ -43,7 +43,7 @@ pub fn summary_of(
     })
 }
 
-/// What the lines of pieces cost, and what is retraced.
+/// Returns the total cost of the lines of pieces, and the total retraced cost.
 fn cost_sums(reports: &[PieceReport]) -> (u32, u32)
     requires { sum_by penetrations_of reports.now < 2 ^ 32 }
     ensures cost { result.0 ≡ sum_by (λ r. r.cost) reports.now }

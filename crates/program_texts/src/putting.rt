@@ -8,7 +8,7 @@ use crate::status::Status;
 use arrayvec::ArrayVec;
 use outside_io::{Failed, Sink};
 
-/// The room for a line: the longest name, and what else a line about it says.
+/// The size of the line buffer: the longest file name, and the rest of a line about it.
 const LINE_ROOM: usize = 4_608;
 
 /// Puts one text.
@@ -19,7 +19,7 @@ pub fn put_one<E: Sink>(err: &mut E, text: &[u8]) -> Result<(), Failed>
     Ok(())
 }
 
-/// Puts pieces of a text, in one put where they fit into the room for a line.
+/// Puts the pieces of a text, in one put if they fit into the line buffer.
 fn put_all<E: Sink>(err: &mut E, pieces: &[&[u8]]) -> Result<(), Failed>
     ensures { Puts (concat (map (λ piece. piece.now) pieces.now)) (E.sight err.old)
         (E.sight err.new) result }
@@ -31,7 +31,7 @@ fn put_all<E: Sink>(err: &mut E, pieces: &[&[u8]]) -> Result<(), Failed>
     put_one(err, line.as_slice())
 }
 
-/// Adds a piece to the line. Where it has no room, the line is put, and then the piece.
+/// Appends a piece to the line buffer. If it does not fit, puts the buffer, and then the piece.
 fn gather<E: Sink>(
     err: &mut E,
     line: &mut ArrayVec<u8, LINE_ROOM>,
@@ -46,7 +46,7 @@ fn gather<E: Sink>(
     }
 }
 
-/// Puts the line and then a piece, and empties the line.
+/// Puts the line buffer and then a piece, and empties the buffer.
 fn put_both<E: Sink>(
     err: &mut E,
     line: &mut ArrayVec<u8, LINE_ROOM>,
@@ -60,7 +60,7 @@ fn put_both<E: Sink>(
     put_one(err, piece)
 }
 
-/// Puts the pieces of a text, and answers the status that is planned where that went well.
+/// Puts the pieces of a text, and returns the planned status, or `Fault` if a put failed.
 pub(crate) fn tell<E: Sink>(err: &mut E, pieces: &[&[u8]], planned: Status) -> Status
     ensures { Tells (concat (map (λ piece. piece.now) pieces.now)) planned
         (E.sight err.old) (E.sight err.new) result }
@@ -69,7 +69,7 @@ pub(crate) fn tell<E: Sink>(err: &mut E, pieces: &[&[u8]], planned: Status) -> S
     told(put, planned)
 }
 
-/// The status that is planned, where its text was put.
+/// Returns the planned status, or `Fault` if the put failed.
 fn told(put: Result<(), Failed>, planned: Status) -> Status
     ensures ok { OnOk put (result ≡ planned) }
     ensures err { OnErr put (result ≡ status.Fault) }

@@ -9,7 +9,7 @@ use cut_certificate::{CutFault, WalkFault};
 use itoa::Buffer;
 use outside_io::Sink;
 
-/// Tells that a certificate has so many pieces, and the drawing so many.
+/// Reports the number of pieces of a certificate, and that of the drawing.
 pub fn tell_counts<E: Sink>(err: &mut E, found: u32, drawn: u32) -> Status
     ensures { Tells (counts_no (decimal found) (decimal drawn)) status.Refused (E.sight err.old)
         (E.sight err.new) result }
@@ -35,7 +35,7 @@ fn tell_count_digits<E: Sink>(err: &mut E, found: &[u8], drawn: &[u8]) -> Status
     tell(err, &pieces, Status::Refused)
 }
 
-/// Tells that an act of a design, counted from 1, is not the one that is sewn.
+/// Reports an act of a design, numbered from 1, that differs from the sewn walks.
 pub fn tell_act<E: Sink>(err: &mut E, number: u32) -> Status
     ensures { Tells (act_no (decimal number)) status.Refused (E.sight err.old)
         (E.sight err.new) result }
@@ -52,7 +52,7 @@ fn tell_act_digits<E: Sink>(err: &mut E, number: &[u8]) -> Status
     tell(err, &pieces, Status::Refused)
 }
 
-/// Tells what is wrong with the walk of a piece.
+/// Reports a fault in the walk of a piece.
 pub fn tell_walk<E: Sink>(err: &mut E, piece: u32, fault: WalkFault) -> Status
     ensures { Tells (walk_no piece fault) status.Refused (E.sight err.old)
         (E.sight err.new) result }
@@ -75,7 +75,8 @@ pub fn tell_walk<E: Sink>(err: &mut E, piece: u32, fault: WalkFault) -> Status
     }
 }
 
-/// Tells what cost in steps a piece is said to retrace, and what its walk does.
+/// Reports the retraced cost of a piece, as stated by the certificate and as computed from its walk, in
+/// steps.
 pub fn tell_retraced<E: Sink>(err: &mut E, piece: u32, said: u32, found: u64) -> Status
     ensures { Tells (two_no (decimal piece) (codes ": retraced ") (decimal said)
         (codes " said, ") (decimal found) (codes " found")) status.Refused (E.sight err.old) (E.sight err.new) result }
@@ -89,7 +90,7 @@ pub fn tell_retraced<E: Sink>(err: &mut E, piece: u32, said: u32, found: u64) ->
     tell_two_digits(err, number, b": retraced ", one, b" said, ", two, b" found")
 }
 
-/// Tells what is wrong with the cuts of a piece.
+/// Reports a fault in the cuts of a piece.
 pub fn tell_cuts<E: Sink>(err: &mut E, piece: u32, fault: CutFault) -> Status
     ensures { Tells (cuts_no piece fault) status.Refused (E.sight err.old)
         (E.sight err.new) result }
@@ -200,7 +201,7 @@ fn tell_load_digits<E: Sink>(
     tell(err, &pieces, Status::Refused)
 }
 
-/// Tells of a piece.
+/// Reports a fault in a piece.
 fn tell_plain<E: Sink>(err: &mut E, piece: u32, text: &[u8]) -> Status
     ensures { Tells (plain_no (decimal piece) text.now) status.Refused (E.sight err.old)
         (E.sight err.new) result }
@@ -218,7 +219,7 @@ fn tell_plain_digits<E: Sink>(err: &mut E, piece: &[u8], text: &[u8]) -> Status
     tell(err, &pieces, Status::Refused)
 }
 
-/// Tells of a piece with one further number.
+/// Reports a fault in a piece, with one further number.
 fn tell_one<E: Sink>(err: &mut E, piece: u32, before: &[u8], number: u32, after: &[u8]) -> Status
     ensures { Tells (one_no (decimal piece) before.now (decimal number) after.now) status.Refused
         (E.sight err.old) (E.sight err.new) result }
@@ -244,7 +245,7 @@ fn tell_one_digits<E: Sink>(
     tell(err, &pieces, Status::Refused)
 }
 
-/// Tells of a piece with two further numbers.
+/// Reports a fault in a piece, with two further numbers.
 fn tell_two_digits<E: Sink>(
     err: &mut E,
     piece: &[u8],

@@ -9,8 +9,8 @@ use design_model::{Bytes, Items, Memory};
 use line_graph::Piece;
 use std::alloc::Global;
 
-/// What the report says of a routed piece: the numbers of its block and its own, both from 1, how
-/// many lines it has, their cost, and the cost that is retraced. Costs count steps.
+/// The data of the line about a piece: the numbers of its block and its own, both from 1, and its number of
+/// lines. The cost of the lines and the retraced cost count steps.
 #[derive(Clone, Copy, Debug, PartialEq, Eq)]
 pub struct PieceReport {
     pub block: u32,
@@ -20,7 +20,7 @@ pub struct PieceReport {
     pub retraced: u32,
 }
 
-/// The report of a route over pieces, each with its certificate.
+/// Returns the report of a route over pieces, each with its certificate.
 pub fn print_route(alloc: Global, pieces: &[Piece], certs: &[PieceCert]) -> Result<Bytes, Memory>
     requires blocks { All (λ p. p.block < MAX_BLOCKS) pieces.now }
     requires lines { length pieces.now ≤ MAX_LINES }
@@ -31,7 +31,7 @@ pub fn print_route(alloc: Global, pieces: &[Piece], certs: &[PieceCert]) -> Resu
     print_report(alloc, reports.as_slice())
 }
 
-/// What the report says of pieces, each with its certificate, numbered from 1 on.
+/// Returns the data of the lines about pieces, each with its certificate, numbered from 1 on.
 pub(crate) fn reports_of(
     alloc: Global,
     pieces: &[Piece],
@@ -57,7 +57,7 @@ pub(crate) fn reports_of(
     Ok(reports)
 }
 
-/// What the report says of a piece with that number.
+/// Returns the data of the line about a piece with that number.
 fn report_of(p: &Piece, number: u32, cert: &PieceCert) -> PieceReport
     requires { p.now.block < MAX_BLOCKS }
     ensures { result ≡ piece_report (graph_of p.now) number cert.now }
@@ -71,7 +71,7 @@ fn report_of(p: &Piece, number: u32, cert: &PieceCert) -> PieceReport
     }
 }
 
-/// The report of a route: a line for each piece, and the sums.
+/// Returns the report of a route: a line for each piece, and the totals.
 fn print_report(alloc: Global, pieces: &[PieceReport]) -> Result<Bytes, Memory>
     requires { sum_by penetrations_of pieces.now < 2 ^ 32 }
     ensures { IfOk result (λ text. text ≡ route_report pieces.now) }
@@ -87,7 +87,7 @@ fn print_report(alloc: Global, pieces: &[PieceReport]) -> Result<Bytes, Memory>
     Ok(text)
 }
 
-/// Where a piece stands, and how many lines it has.
+/// Returns the numbers of a block and a piece, and the number of lines of the piece.
 pub(crate) fn piece_place(alloc: Global, report: PieceReport) -> Result<String, Memory>
     ensures { IfOk result (λ text. string_bytes text ≡ piece_place_text report) }
 {
@@ -109,7 +109,7 @@ fn piece_cost(alloc: Global, report: PieceReport) -> Result<String, Memory>
     Ok(text)
 }
 
-/// The line of the sums.
+/// Returns the line of the totals.
 pub(crate) fn totals_line(alloc: Global, pieces: usize, penetrations: u32) -> Result<String, Memory>
     ensures { IfOk result (λ text. string_bytes text ≡ totals_text pieces penetrations) }
 {
@@ -117,7 +117,8 @@ pub(crate) fn totals_line(alloc: Global, pieces: usize, penetrations: u32) -> Re
     Ok(text)
 }
 
-/// The report of a migration: how many lines and pieces a drawing has, and what its lines cost in steps.
+/// Returns the report of a migration: the number of lines and pieces of a drawing, and the cost of its lines
+/// in steps.
 pub fn print_migration(alloc: Global, lines: u32, pieces: usize, cost: u32) -> Result<Bytes, Memory>
     ensures { IfOk result (λ text. text ≡ migrate_report lines pieces cost) }
 {
@@ -134,7 +135,7 @@ fn migration_line(alloc: Global, lines: u32, pieces: usize, cost: u32) -> Result
     Ok(text)
 }
 
-/// A text as bytes.
+/// Copies a text into a list of bytes.
 pub fn bytes_of(alloc: Global, text: &[u8]) -> Result<Bytes, Memory>
     ensures { IfOk result (λ bytes. bytes ≡ text.now) }
 {

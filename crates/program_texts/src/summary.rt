@@ -4,9 +4,9 @@ ghost use Rattle.program_texts.specs.Reports.{summary_counts, summary_costs, sum
 use design_model::{Bytes, Memory};
 use std::alloc::Global;
 
-/// What is told of the sample drawing of a number and of a route of it: how many lines, junctions, odd
-/// junctions and pieces it has, what its lines cost and what the walks retrace, in steps, how often
-/// the needle goes down, and the total of all cuts, in halves of a step.
+/// The summary of the sample drawing of a number, and of a route of it: the numbers of lines, junctions, odd
+/// junctions, pieces and penetrations, and three costs. The cost of the lines and the retraced cost are in
+/// steps, the total weight of all cuts in halves of a step.
 #[derive(Clone, Copy, Debug, PartialEq, Eq)]
 pub struct Summary {
     pub number: u32,
@@ -20,7 +20,7 @@ pub struct Summary {
     pub cuts: u64,
 }
 
-/// The summary, a line for each number.
+/// Returns the text of a summary, a line for each number.
 pub fn print_summary(alloc: Global, s: Summary) -> Result<Bytes, Memory>
     ensures { IfOk result (λ text. text ≡ summary_text s) }
 {

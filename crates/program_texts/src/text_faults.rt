@@ -11,7 +11,7 @@ use itoa::Buffer;
 use line_graph::DrawKind;
 use outside_io::Sink;
 
-/// Tells what is wrong with the text of a drawing.
+/// Reports a fault in the text of a drawing.
 pub fn tell_draw_fault<E: Sink>(err: &mut E, name: &str, fault: DrawFault) -> Status
     ensures { Tells (draw_line name.now fault) status.Refused (E.sight err.old)
         (E.sight err.new) result }
@@ -21,7 +21,7 @@ pub fn tell_draw_fault<E: Sink>(err: &mut E, name: &str, fault: DrawFault) -> St
     tell_at(err, name, b": line ", digits, draw_text(fault.kind))
 }
 
-/// Tells that a line of a text, counted from 1, is none of a certificate.
+/// Reports a line of a text, numbered from 1, at which it is not a certificate.
 pub fn tell_uncertified<E: Sink>(err: &mut E, name: &str, number: u32) -> Status
     ensures { Tells (line_at name.now (codes ": line ") (decimal number)
         (codes "not a certificate"))
@@ -32,7 +32,7 @@ pub fn tell_uncertified<E: Sink>(err: &mut E, name: &str, number: u32) -> Status
     tell_at(err, name, b": line ", digits, b"not a certificate")
 }
 
-/// What is wrong with a drawing text.
+/// Returns the text of a fault in a drawing text.
 pub(crate) fn draw_text(kind: DrawKind) -> &'static [u8]
     ensures { result.now ≡ draw_text_of kind }
 {

@@ -7,7 +7,7 @@ use crate::status::Status;
 use itoa::Buffer;
 use outside_io::Sink;
 
-/// Tells of a file.
+/// Reports a text about a file.
 pub fn tell_about<E: Sink>(err: &mut E, name: &str, text: &[u8]) -> Status
     ensures { Tells (line_about name.now text.now) status.Refused (E.sight err.old)
         (E.sight err.new) result }
@@ -16,7 +16,7 @@ pub fn tell_about<E: Sink>(err: &mut E, name: &str, text: &[u8]) -> Status
     tell(err, &pieces, Status::Refused)
 }
 
-/// Tells of a command of a design, counted from 1.
+/// Reports a text about a command of a design, numbered from 1.
 pub fn tell_command<E: Sink>(err: &mut E, name: &str, number: u32, text: &[u8]) -> Status
     ensures { Tells (command_line name.now number text.now) status.Refused (E.sight err.old)
         (E.sight err.new) result }
@@ -26,7 +26,7 @@ pub fn tell_command<E: Sink>(err: &mut E, name: &str, number: u32, text: &[u8]) 
     tell_at(err, name, b": command ", digits, text)
 }
 
-/// Tells of a byte of a file, counted from 0.
+/// Reports a text about a byte of a file, at an offset from 0.
 pub(crate) fn tell_byte<E: Sink>(err: &mut E, name: &str, offset: u64, text: &[u8]) -> Status
     ensures { Tells (byte_line name.now offset text.now) status.Refused (E.sight err.old)
         (E.sight err.new) result }
@@ -36,7 +36,7 @@ pub(crate) fn tell_byte<E: Sink>(err: &mut E, name: &str, offset: u64, text: &[u
     tell_at(err, name, b": byte ", digits, text)
 }
 
-/// Tells of a place in a file that has a number.
+/// Reports a text about a numbered part of a file.
 pub(crate) fn tell_at<E: Sink>(
     err: &mut E,
     name: &str,

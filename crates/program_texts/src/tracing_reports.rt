@@ -6,8 +6,8 @@ use design_model::{Bytes, Memory, Point};
 use line_graph::Drawing;
 use std::alloc::Global;
 
-/// The report of a tracing: how many blocks and lines its drawing has, and how many links, each a segment
-/// of a line.
+/// Returns the report of a tracing: the number of blocks and lines of its drawing, and of links, each a
+/// segment of a line.
 pub fn print_tracing(alloc: Global, drawing: &Drawing) -> Result<Bytes, Memory>
     ensures { IfOk result (λ text. text ≡ tracing_report drawing.now) }
 {
@@ -29,7 +29,7 @@ fn tracing_line(alloc: Global, blocks: u32, lines: u32, links: usize) -> Result<
     Ok(text)
 }
 
-/// How many segments the lines of a drawing have.
+/// Returns the number of segments of the lines of a drawing.
 fn segments(drawing: &Drawing) -> usize
     ensures { result ≡ segment_count drawing.now }
 {

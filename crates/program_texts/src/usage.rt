@@ -1,7 +1,8 @@
 ghost use Rattle.std.specs.Prelude.{◌≡◌};
 ghost use Rattle.program_texts.specs.UsageText.{usage_text};
 
-/// The usage text, which stands on standard error where the words ask for nothing that the program does.
+/// The usage text, which is reported on standard error if the arguments request nothing that the program
+/// does.
 pub const USAGE: &[u8] = b"usage: stitch route DRAWING OUT CERT
        stitch check DRAWING FILE CERT
        stitch convert IN OUT [--split] [--cut]
@@ -14,7 +15,7 @@ pub const USAGE: &[u8] = b"usage: stitch route DRAWING OUT CERT
        stitch double DRAWING OUT CERT
 ";
 
-/// The usage text.
+/// Returns the usage text.
 pub(crate) fn usage() -> &'static [u8]
     ensures { result.now ≡ usage_text }
 {

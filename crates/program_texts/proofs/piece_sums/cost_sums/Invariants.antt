@@ -2,7 +2,7 @@ use Rattle.std.proofs.Common.{◌≡◌, ◌+◌, ◌<◌, ◌^◌, drop, sum_by
 use Rattle.program_texts.specs.Reports.{penetrations_of}
 use Rattle.program_texts.proofs.piece_sums.cost_sums.Given as goal
 
--- the sums so far and those of the reports that are left are the whole, and no more than the needle goes down
+-- The sums so far and those of the remaining reports are the totals, and at most the number of penetrations.
 abbrev pub invariant-loop-report : goal.invariant-loop-report
 invariant-loop-report l = record {
   cost : l.cost + sum_by (λ r. r.cost) (drop l.report-index l.reports) ≡ sum_by (λ r. r.cost) l.reports;

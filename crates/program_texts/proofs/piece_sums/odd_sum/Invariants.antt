@@ -3,7 +3,7 @@ use Rattle.line_graph.specs.declared.limits.TheConstants.{MAX_LINES}
 use Rattle.program_texts.specs.PieceSums.{odd_sum}
 use Rattle.program_texts.proofs.piece_sums.odd_sum.Given as goal
 
--- the sum so far and that of the pieces that are left are the whole, and a piece adds no more than its lines allow
+-- The sum so far and that of the remaining pieces are the total. A piece adds at most what its lines allow.
 abbrev pub invariant-loop-piece : goal.invariant-loop-piece
 invariant-loop-piece l = record {
   sum : l.sum + odd_sum (drop l.piece-index l.pieces) ≡ odd_sum l.pieces;
