@@ -1,4 +1,4 @@
--- Where no count of faults rises, the words and the files decide.
+-- If no fault is counted, the arguments and the files determine the status.
 use Rattle.std.proofs.Common.{◌≡◌, ℕ, Bool, true, false, ◌≤◌, inl, inr, List, Option, Some, None, Ok, Err, Result, IsSome, length, ap, refl, subst, sym, ◌∙◌, arith}
 use Rattle.std.specs.Prelude.{nat_lt}
 use Rattle.cut_certificate.specs.declared.certificate.PieceCert.{PieceCert}
@@ -52,7 +52,7 @@ no_rise : (before after : ℕ) → IsQuiet before after → Rose before after �
 no_rise before after quiet (inl more) = let same : after ≡ before = quiet.same in omega (arith, same, more)
 no_rise before after quiet (inr greatest) = quiet.below greatest
 
--- in files that are told, a name holds one content
+-- A visible file has one content.
 one_content : (files : Option Files) (name a b : List ℕ) → IsSome files → HoldsNow files name a → HoldsNow files name b → a ≡ b
 one_content None name a b told first second = cc
 one_content (Some files) name a b told first second = same_content (files name) a b (first files refl) (second files refl)
@@ -160,7 +160,7 @@ hoop_exact order (Ok loaded) = fitted (fit_of loaded.design order.width order.he
     fitted (fit.No x y) = tt
 hoop_exact order (Err fault) = tt
 
--- each order's plan is so
+-- The plan of each order has this property.
 order_exact : PiecesAreOne → (order : Order) → IsExact (plan_of order)
 order_exact one (routing order) = λ bytes. sewing_exact IsRouted order (drawing_of bytes)
 order_exact one (checking order) = λ bytes. check_exact one order (drawing_of bytes)
@@ -195,7 +195,7 @@ not_refused (refuses reason) files why exact told never refused = never
 not_refused (accepts Is) files why exact told accepted never = never
 not_refused (decides Is) files why exact told (product, makes) refused = exact product why makes refused
 
--- what comes to a file that is not there is not accepted
+-- A plan that attempts to read a missing file is not accepted.
 not_accepted : (plan : Plan) (files : Option Files) (name : List ℕ) → IsAccepted plan files → ComesTo plan files name
     → Lacks files name → ⊥
 not_accepted (reads name next) files missing (bytes, input, accepted) (inl is) lacks =
@@ -223,14 +223,14 @@ not_both (refuses reason) files why missing refused never lacks = never
 not_both (accepts Is) files why missing refused never lacks = never
 not_both (decides Is) files why missing refused never lacks = never
 
--- what a plan came to, where no count rose
+-- The result of a plan, if no fault is counted.
 data Came (plan : Plan) (files : Option Files) (s : Status) : Type 0 where
   came_done : IsAccepted plan files → s ≡ status.Done → Came plan files s
   came_refused : (why : RefusalValue) → Refuses plan files why → s ≡ status.Refused → Came plan files s
   came_missing : (name : List ℕ) → Misses plan files name → s ≡ status.Fault → Came plan files s
   came_memory : s ≡ status.Memory → Came plan files s
 
--- a plan that halted, where no count rose
+-- A failed plan, if no fault is counted.
 halt_came : (plan : Plan) (before after : Sights) (s : Status) (why : Halt) → IsQuietRun before after
     → Halts plan before.store after.store why → s ≡ status_of why → Came plan before.store.files s
 halt_came plan before after s halt.Unasked quiet never is = absurd never
@@ -248,7 +248,7 @@ came order before after s quiet (made product makes (but_report wrote broke tell
 came order before after s quiet (halted why halts out (inl (is, told))) = halt_came (plan_of order) before after s why quiet halts is
 came order before after s quiet (halted why halts out (inr (is, broke))) = absurd (no_rise _ _ quiet.err broke.rose)
 
--- a status that is planned, and one for want of memory
+-- The planned status, and the one for out of memory.
 or_memory : (wanted : Bool) (fact : Type 0) → fact → UnlessMemory wanted fact
 or_memory true fact holds = tt
 or_memory false fact holds = holds
@@ -284,18 +284,18 @@ fault_or_memory plan files s name (came_refused why refused is) misses =
 fault_or_memory plan files s name (came_missing other others is) misses = or_memory (wants_memory s) (s ≡ status.Fault) is
 fault_or_memory plan files s name (came_memory is) misses = memory_came s status.Fault is
 
--- nothing that is asked for is told so
+-- Arguments that request no order have the status `Usage`.
 usage_told : (before after : Sights) (s : Status) → IsQuietRun before after → Ends None before after s → s ≡ status.Usage
 usage_told before after s quiet (store, out, inl (is, told)) = is
 usage_told before after s quiet (store, out, inr (is, broke)) = absurd (no_rise _ _ quiet.err broke.rose)
 
--- the order that is asked for came to its end
+-- The requested order has an outcome.
 order_came : (asked : Option Order) (order : Order) (before after : Sights) (s : Status) → AsksFor asked order
     → IsQuietRun before after → Ends asked before after s → Came (plan_of order) before.store.files s
 order_came asked order before after s asks quiet ends =
     came order before after s quiet (subst (λ (o : Option Order). Ends o before after s) asks ends)
 
--- where no count rises the words and the files decide
+-- If no fault is counted, the arguments and the files determine the status.
 pub decided : PiecesAreOne → (asked : Option Order) (before after : Sights) (s : Status) → Ends asked before after s
     → IsQuietRun before after → IsDecided asked before.store.files s
 decided one asked before after s ends quiet = record {

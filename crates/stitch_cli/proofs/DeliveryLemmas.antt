@@ -15,7 +15,7 @@ same_files (Some files) = λ name none. refl
 wrote_none : (s : StoreSight) → Wrote [] s s
 wrote_none s = record { held = tt; others = same_files s.files; faults = refl; blame = refl }
 
--- what a file holds stays where others change
+-- The content of a file is unchanged if only others change.
 holds_still : (old new : Option Files) (names : List (List ℕ)) (name content : List ℕ) → ChangesAmong names old new
     → IsNoneOf names name → HoldsNow old name content → HoldsNow new name content
 holds_still None None names name content changes none holds = λ told is. cc
@@ -100,7 +100,7 @@ wrote_up_to o rest name s mid new none holds changes stays wrote = record {
   others = changes_both s.files mid.files new.files o.name (names_of (wrote.done ++ wrote.lost ∷ [])) changes wrote.others;
 }
 
--- some outputs are written, and once those that are left are written too, all are; so it is where one is lost
+-- Some outputs are written: all are once the remaining ones are, and a failed write of one of them is that of all.
 pub record WritesOn (outputs left : List Written) (before now : StoreSight) : Type 0 where
   pub named : AreNamed left
   pub apart : AreApart left

@@ -26,7 +26,7 @@ use Rattle.stitch_cli.proofs.ReportLemmas.{reports_are}
 use Rattle.stitch_cli.proofs.RouteLemmas.{lines_count}
 use Rattle.stitch_cli.proofs.SewnDesigns.{runs_are_plain}
 
--- the design of a double run is plain for a format whose limit the drawing's step keeps
+-- The design of a double run is plain for a format whose limit is at least the step of the drawing.
 pub doubled_plain : (d : DrawingValue) (lines : List (List ℕ)) (routed : Routed) (limit : ℕ) → IsDoubleOver d lines routed
     → 121 ≤ limit → d.step ≤ limit → IsPlain limit routed.design
 doubled_plain d lines routed limit over least within =
@@ -42,7 +42,7 @@ walks_count d (one ∷ lines) [] each = absurd each
 walks_count d (one ∷ lines) (cert ∷ certs) each =
     let later = walks_count d lines certs each.1 in omega (arith, later)
 
--- so these are few
+-- The walks have few passes.
 pub doubles_few : (d : DrawingValue) (pieces slice : List Piece) (routed : Routed) → slice ≡ pieces
     → IsDoubleOver d (lines_of_pieces slice) routed → length pieces ≤ 1024
 doubles_few d pieces slice routed is over =

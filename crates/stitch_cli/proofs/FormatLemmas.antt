@@ -13,14 +13,14 @@ use Rattle.format_traits.specs.Endings.{format_of}
 use Rattle.stitch_cli.specs.Orders.{rewriting_by}
 use Rattle.stitch_cli.specs.Rewrites.{rewrite_plan}
 
--- what stands at a place of a list
+-- The element at an index of a list.
 at_place : {A : Type 0} (f : A → Meaning) (xs : List A) (place : ℕ) → place < length xs
     → (m : Meaning) × (slice_get (map f xs) place ≡ Some m)
 at_place f [] place there = absurd (let no : ⊥ = omega (arith, there) in no)
 at_place f (x ∷ xs) zero there = (f x, refl)
 at_place f (x ∷ xs) (suc place) there = at_place f xs place (omega (arith, there))
 
--- the format at a place is the one that was asked for, also in a list of the same formats
+-- The format at an index is the requested one, also in another list of the same formats.
 pub same_format : (formats formats' : List Meaning) (place : ℕ) (here m : Meaning) → formats' ≡ formats
     → slice_get formats' place ≡ Some here → slice_get formats place ≡ Some m → here ≡ m
 same_format formats formats' place here m same is asked =

@@ -1,4 +1,4 @@
--- Worked values of what is told of a hoop.
+-- Worked values of the results of `hoop`.
 use Rattle.std.proofs.Common.{◌++◌, None, refl}
 use Rattle.std.specs.Prelude.{codes}
 use Rattle.hoop_check.specs.declared.fitting.Fit.TheVariants as fit
@@ -8,7 +8,7 @@ use Rattle.stitch_cli.specs.Plans.{Makes, Refuses}
 use Rattle.stitch_cli.specs.Products.{only_report}
 use Rattle.stitch_cli.specs.Refusals.{too_large}
 
--- a design that fits is told so, and one that doesn't is refused with how much it is too large by
+-- A design that fits is reported, and one that doesn't is refused with the excess.
 pub known_upright : Makes (hoop_fitted fit.Upright) None (only_report (codes "fits upright" ++ line_end))
 known_upright = refl
 

@@ -38,7 +38,7 @@ use Rattle.stitch_cli.specs.Runs.{KeepsOthers}
 use Rattle.stitch_cli.specs.Shows.{show_read}
 use Rattle.stitch_cli.proofs.DeliveryLemmas.{none_before}
 
--- what an order makes stands in the files that it writes
+-- The outputs of the product of an order are the files that the order writes.
 sewing_outputs : (Sewn : Meaning → DrawingValue → (bytes cert report : List ℕ) → Type 0)
     (order : RouteOrder) (files : Option Files) (product : ProductValue)
     (read : Result DrawingValue DrawFault) → Makes (sewing_read Sewn order read) files product
@@ -128,7 +128,7 @@ changes_none old new names same = subst (λ (f : Option Files). ChangesAmong nam
     itself None = tt
     itself (Some files) = λ name none. refl
 
--- a plan that halted changes no file
+-- A failed plan changes no file.
 halted_files : (plan : Plan) (before after : Sights) (why : Halt) → Halts plan before.store after.store why
     → after.store.files ≡ before.store.files
 halted_files plan before after halt.Unasked never = absurd never

@@ -148,7 +148,7 @@ pub known_check_of_no_format : (m : Meaning)
     → order_of (dst_and_exp m) (codes "check" ∷ codes "a" ∷ codes "b.jef" ∷ codes "c.dst" ∷ []) ≡ None
 known_check_of_no_format m = refl
 
--- a sample needs no format; zeros before its number say nothing
+-- A sample needs no format; leading zeros of its number are ignored.
 pub known_sample : (m : Meaning) → order_of (dst_and_exp m) (codes "sample" ∷ codes "0075" ∷ codes "a.rw" ∷ [])
     ≡ Some (sampling (record { number = 75; drawing = codes "a.rw" }))
 known_sample m = refl

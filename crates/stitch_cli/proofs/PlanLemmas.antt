@@ -13,7 +13,7 @@ use Rattle.stitch_cli.specs.Orders.{Order}
 use Rattle.stitch_cli.specs.Plans.{IsInput, Plan, Refuses, reads}
 use Rattle.stitch_cli.specs.Refusals.{RefusalValue, refusal_of}
 
--- what the rest of a plan halts for, the plan does
+-- A failure of the rest of a plan is one of the plan.
 halts_next : (name bytes : List ℕ) (next : List ℕ → Plan) (store store' : StoreSight) (why : Halt)
     → IsInput store.files name bytes → Halts (next bytes) store store' why → Halts (reads name next) store store' why
 halts_next name bytes next store store' halt.Unasked input never = never
@@ -24,7 +24,7 @@ halts_next name bytes next store store' (halt.NotRead lost) input (comes, fault,
 halts_next name bytes next store store' (halt.Refused why) input (refuses, same) = (inr (bytes, input, refuses), same)
 halts_next name bytes next store store' halt.Memory input same = same
 
--- a file is read, and the rest of the plan is prepared from there
+-- A file is read, and the result of the plan is that of its rest.
 prepares_from : (name bytes : List ℕ) (next : List ℕ → Plan) (store store' : StoreSight) (result : Result Product Halt)
     → IsInput store.files name bytes → IsPrepared (next bytes) store store' result → IsPrepared (reads name next) store store' result
 prepares_from name bytes next store store' (Ok product) input (makes, fit, same) = ((bytes, input, makes), fit, same)
@@ -37,13 +37,13 @@ prepares_next name bytes next store mid store' result (input, same) prepares = r
       (subst (λ (s : StoreSight). IsPrepared (next bytes) s store' result) same prepares.is);
 }
 
--- what settles without a file, once one is read
+-- A plan that reads one file, and then no other.
 pub settles_next : (name bytes : List ℕ) (next : List ℕ → Plan) (store store' : StoreSight) (result : Result Product Halt)
     → ReadsInput name store store' (Ok bytes) → Settles (next bytes) result → Prepares (reads name next) store store' result
 settles_next name bytes next store store' result read settles =
     prepares_next name bytes next store store' store' result read (record { is = settles.at store' })
 
--- a file that is not read halts the plan
+-- A file that is not read is a failure of the plan.
 halts_at : (name : List ℕ) (next : List ℕ → Plan) (store store' : StoreSight) (why : Halt)
     → ReadsInput name store store' (Err why) → Halts (reads name next) store store' why
 halts_at name next store store' halt.Unasked never = never
@@ -58,13 +58,13 @@ pub halts_here : (name : List ℕ) (next : List ℕ → Plan) (store store' : St
     → ReadsInput name store store' (Err why) → Prepares (reads name next) store store' (Err why)
 halts_here name next store store' why read = record { is = halts_at name next store store' why read }
 
--- what settles an order answers the words that ask for it
+-- The result of the plan of an order is that of the request.
 pub settled_answers : (asked : Option Order) (order : Order) (store : StoreSight) (result : Result Product Halt) → asked ≡ Some order
     → Settles (plan_of order) result → Answers asked store store result
 settled_answers asked order store result is settles =
     subst (λ (o : Option Order). Answers o store store result) (sym is) (record { is = settles.at store })
 
--- a file that is not read is not taken
+-- A file that is not read is not parsed.
 pub unread_takes : {V F : Type 0} (says : List ℕ → Result V F) (reason : F → RefusalValue) (name : List ℕ) (store store' : StoreSight)
     (why : Halt) → ReadsInput name store store' (Err why) → TakesInput says reason name store store' (Err why)
 unread_takes says reason name store store' halt.Unasked read = read
@@ -73,7 +73,7 @@ unread_takes says reason name store store' (halt.NotRead lost) read = read
 unread_takes says reason name store store' (halt.Refused why) read = inl read
 unread_takes says reason name store store' halt.Memory read = read
 
--- a file is taken, and the rest of the plan is prepared from there
+-- A file is parsed, and the result of the plan is that of its rest.
 pub takes_next : {V F : Type 0} (name : List ℕ) (says : List ℕ → Result V F) (next : Result V F → Plan)
     (store mid store' : StoreSight) (value : V) (result : Result Product Halt) → IsInputAs says name store mid (Ok value)
     → Prepares (next (Ok value)) mid store' result → Prepares (reads name (λ bytes. next (says bytes))) store store' result
@@ -87,7 +87,7 @@ pub settles_taken : {V F : Type 0} (name : List ℕ) (says : List ℕ → Result
 settles_taken name says next store store' value result input settles =
     takes_next name says next store store' store' value result input (record { is = settles.at store' })
 
--- a file that is not taken halts the plan
+-- A file that is not parsed is a failure of the plan.
 untaken_halts : {V F : Type 0} (name : List ℕ) (says : List ℕ → Result V F) (reason : F → RefusalValue) (next : Result V F → Plan)
     (store store' : StoreSight) (why : Halt) → ((files : Option Files) (f : F) → Refuses (next (Err f)) files (reason f))
     → TakesInput says reason name store store' (Err why) → Halts (reads name (λ bytes. next (says bytes))) store store' why

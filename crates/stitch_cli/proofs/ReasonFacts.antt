@@ -1,4 +1,4 @@
--- A line of each kind of reason for which a check says no, to the letter.
+-- A line of each kind of reason for a failed check, byte by byte.
 use Rattle.std.proofs.Common.{◌≡◌, ◌++◌, refl}
 use Rattle.std.specs.Fmt.{digits}
 use Rattle.std.specs.Prelude.{codes}
@@ -9,13 +9,13 @@ use Rattle.route_core.specs.declared.verdict.Reason.TheVariants as reason
 use Rattle.stitch_cli.specs.Refusals.{disproved, uncertified}
 use Rattle.stitch_cli.specs.Texts.{refusal_line}
 
--- a text that is no certificate is told by its line
+-- A text that is not a certificate is reported with its line number.
 pub known_uncertified : refusal_line (uncertified (codes "a.cert") 12)
     ≡ codes "stitch: a.cert: line 12: not a certificate" ++ line_end
 unfolding digits
 known_uncertified = refl
 
--- the count of the certificate comes first, then that of the drawing
+-- The count of the certificate is first, then that of the drawing.
 pub known_counts : refusal_line (disproved (reason.Pieces 2 31))
     ≡ codes "stitch: no: certificate has 2 pieces, drawing has 31" ++ line_end
 unfolding digits
@@ -27,7 +27,7 @@ pub known_strange_pass : refusal_line (disproved (reason.Walk 4 (walk.Stranger 1
 unfolding digits
 known_strange_pass = refl
 
--- what is said comes before what is found
+-- The stated cost is printed before the computed one.
 pub known_retraced : refusal_line (disproved (reason.Retraced 4 15 26))
     ≡ codes "stitch: no: piece 4: retraced 15 said, 26 found" ++ line_end
 unfolding digits

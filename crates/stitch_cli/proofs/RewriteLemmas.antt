@@ -1,4 +1,4 @@
--- What comes of a rewriting, from what comes of its steps.
+-- The result of rewriting, from the results of its steps.
 use Rattle.std.proofs.Common.{◌≡◌, ℕ, Result, Ok, Err, refl, subst, sym}
 use Rattle.design_model.specs.Designs.{DesignValue}
 use Rattle.format_traits.specs.declared.loaded.Loaded.{Loaded}

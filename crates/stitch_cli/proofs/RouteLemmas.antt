@@ -20,7 +20,7 @@ use Rattle.program_texts.specs.Reports.{penetrations_of, route_report}
 use Rattle.stitch_cli.proofs.ReportLemmas.{penetrations_are, reports_are}
 use Rattle.stitch_cli.proofs.SewnDesigns.{runs_are_plain}
 
--- the design of a route is plain for a format whose limit the drawing's step keeps
+-- The design of a route is plain for a format whose limit is at least the step of the drawing.
 pub routed_plain : (d : DrawingValue) (lines : List (List ℕ)) (routed : Routed) (limit : ℕ) → IsRouteOver d lines routed
     → 121 ≤ limit → d.step ≤ limit → IsPlain limit routed.design
 routed_plain d lines routed limit route least within =
@@ -40,7 +40,7 @@ pub lines_count : (pieces : List Piece) → length (lines_of_pieces pieces) ≡ 
 lines_count [] = refl
 lines_count (p ∷ pieces) = let later = lines_count pieces in omega (arith, later)
 
--- so these are few
+-- The walks have few passes.
 pub pieces_few : (d : DrawingValue) (pieces slice : List Piece) (routed : Routed) → slice ≡ pieces
     → IsRouteOver d (lines_of_pieces slice) routed → length pieces ≤ 1024
 pieces_few d pieces slice routed is route =

@@ -1,4 +1,4 @@
--- What the end of a run means.
+-- The outcome of a run.
 use Rattle.std.proofs.Common.{◌≡◌, ℕ, inl, inr, List, Option, Some, None, Ok, Err, Result, refl, subst}
 use Rattle.outside_io.specs.Sights.{SinkSight, StoreSight}
 use Rattle.stitch_cli.specs.declared.halt.Halt.{Halt}
@@ -23,7 +23,7 @@ use Rattle.line_graph.specs.OnePieces.{PiecesAreOne}
 use Rattle.stitch_cli.proofs.DecisionLemmas.{decided}
 use Rattle.stitch_cli.proofs.KeepLemmas.{keeps_others}
 
--- a product that was prepared is delivered from where the store stood before
+-- A product is delivered to the store in its state before the plan.
 pub ends_made : (asked : Option Order) (product : Product) (store mid : StoreSight) (out err : SinkSight) (after : Sights) (s : Status)
     → Answers asked store mid (Ok product) → Delivers (product_of product) (seen mid out err) after s
     → Ends asked (seen store out err) after s
@@ -34,7 +34,7 @@ ends_made (Some order) product store mid out err after s prepared delivers = del
     delivered (makes, fit, same) = made (product_of product) makes
         (subst (λ (t : StoreSight). Delivers (product_of product) (seen t out err) after s) same delivers)
 
--- what halted is told
+-- A failure is reported.
 pub ends_halted : (asked : Option Order) (store store' : StoreSight) (out err err' : SinkSight) (why : Halt) (s : Status)
     → Answers asked store store' (Err why) → Tells (halt_text why) (status_of why) err err' s
     → Ends asked (seen store out err) (seen store' out err') s
@@ -45,13 +45,13 @@ ends_halted None store store' out err err' why s (is, same) tells =
     unasked r one other = cc
 ends_halted (Some order) store store' out err err' why s prepared tells = halted why prepared.is refl tells
 
--- how a run came out: it is done, or it calls for a status and a text
+-- The outcome of a run: it is done, or a status and a text are planned.
 data ComesOut (asked : Option Order) (before after : Sights) (s : Status) : Type 0 where
   is_done : s ≡ status.Done → IsDone asked before after → ComesOut asked before after s
   calls_for : (planned : Status) (text : List ℕ) → CallsFor asked before after planned text
       → Tells text planned before.err after.err s → ComesOut asked before after s
 
--- an order that halted
+-- A failed order.
 halt_out : (order : Order) (before after : Sights) (s : Status) (why : Halt) → Halts (plan_of order) before.store after.store why
     → after.out ≡ before.out → Tells (halt_text why) (status_of why) before.err after.err s
     → ComesOut (Some order) before after s
@@ -179,7 +179,7 @@ fault_means : (asked : Option Order) (before after : Sights) (s : Status) → En
 fault_means asked before after s ends is =
     fault_out asked before after (comes_out asked before after status.Fault (subst (λ (t : Status). Ends asked before after t) is ends))
 
--- how a run ends, in the words of its contract
+-- The outcome of a run, in terms of its contract.
 pub run_ends : PiecesAreOne → (asked : Option Order) (before after : Sights) (s : Status) → Ends asked before after s
     → RunEnds asked before after s
 run_ends one asked before after s ends = record {

@@ -1,4 +1,4 @@
--- Worked values of what a sample tells.
+-- Worked values of the summary of a sample.
 use Rattle.std.proofs.Common.{◌≡◌, ℤ, pos, negsuc, [], ◌∷◌, ◌++◌, refl}
 use Rattle.std.specs.Fmt.{digits}
 use Rattle.std.specs.Prelude.{codes}
@@ -37,7 +37,7 @@ again = record {
   cuts = record { weight = 2; members = 0 ∷ [] } ∷ record { weight = 8; members = 2 ∷ [] } ∷ [];
 }
 
--- no two of the numbers are equal, so that none stands for another
+-- Distinct numbers, which cannot be exchanged unnoticed.
 pub known_summary : summary_text (summary_of 7 kite ((0 ∷ 1 ∷ 2 ∷ 3 ∷ []) ∷ []) (again ∷ []))
     ≡ codes "sample 7" ++ (line_end
     ++ (codes "lines 4" ++ (line_end ++ (codes "junctions 3" ++ (line_end

@@ -89,7 +89,7 @@ all_same : (number lines : ℕ) {j j' o o' p p' c c' r r' n n' w w' : ℕ} → j
 all_same number lines junctions odd pieces cost retraced penetrations cuts =
     rw (junctions, odd, pieces, cost, retraced, penetrations, cuts) refl
 
--- what the steps tell is the summary
+-- The summary that the steps compute is the specified one.
 summary_is : (number : ℕ) (d : DrawingValue) (pieces : List Piece) (certs : List PieceCert) → AreCutFrom d pieces
     → AllZip (IsBest d) (lines_of_pieces pieces) certs
     → summed number (length d.lines) pieces (reports_from 1 pieces certs) ≡ summary_of number d (lines_of_pieces pieces) certs
@@ -101,7 +101,7 @@ summary_is number d pieces certs cut best =
     (lines_count pieces)
     told.cost told.retraced told.penetrations (ap (λ (n : ℕ). 2 * n) told.retraced ∙ sym told.cuts)
 
--- a sample makes its drawing's spelling and the summary
+-- The product of a sample is the canonical text of its drawing and the summary.
 pub sample_makes : (order : SampleOrder) (d : DrawingValue) (pieces : List Piece) (routed : Routed) (s : Summary) (text report : List ℕ)
     (product : ProductValue) → AreCutFrom d pieces → IsRouteOver d (lines_of_pieces pieces) routed
     → s ≡ summed order.number (length d.lines) pieces (reports_from 1 pieces routed.cert.pieces)

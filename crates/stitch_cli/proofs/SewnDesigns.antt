@@ -85,17 +85,17 @@ by_test false jumps = omega arith
 loose_few : (jumps : ℕ) → loose_room jumps ≤ jumps + 2
 loose_few jumps = by_test (nat_le jumps 2) jumps
 
--- the acts of commands are plain whatever number they begin at: with so many stops, and within so much room
+-- The acts of commands are plain whatever their first number: with n stops, and within that room.
 pub record Goes (limit : ℕ) (loose : Bool) (place : Point) (commands : List Command) (stops room : ℕ) : Type 0 where
   pub needles : (n : ℕ) → IsTrue (are_plain_from limit loose place (acts_from n loose false commands))
   pub stops_are : (n : ℕ) → stops_of (acts_from n loose false commands) ≡ stops
   pub room_to : (n : ℕ) → room_from limit loose place (acts_from n loose false commands) ≤ room
 
--- so they are from each place where a needle may be, once the thread is loose
+-- Acts are plain from each point of a needle, once the thread is loose.
 abbrev pub GoesOn : ℕ → List Command → ℕ → ℕ → Type 0
 GoesOn limit commands stops room = (place : Point) → IsNeedlePoint place → Goes limit true place commands stops room
 
--- a stop takes one place
+-- A stop takes one command.
 stops_go : (limit k : ℕ) (place : Point) (rest : List Command) (stops room : ℕ) → Goes limit true place rest stops room
     → Goes limit true place (replicate k Stop ++ rest) (k + stops) (k + room)
 stops_go limit zero place rest stops room goes = record {
@@ -111,7 +111,7 @@ stops_go limit (suc k) place rest stops room goes =
       room_to = λ n. omega (arith, more.room_to (n + 1));
     }
 
--- a trim takes four
+-- A trim takes four commands.
 trim_goes : (limit : ℕ) (place : Point) (rest : List Command) (stops room : ℕ) → Goes limit true place rest stops room
     → Goes limit false place (Trim ∷ rest) stops (4 + room)
 trim_goes limit place rest stops room goes = record {
@@ -120,7 +120,7 @@ trim_goes limit place rest stops room goes = record {
   room_to = λ n. omega (arith, goes.room_to (n + 1));
 }
 
--- each stitch within the limit of the one before takes one
+-- Each stitch within the limit of the one before takes one command.
 stitches_go : (step limit : ℕ) (place : Point) (points : List Point) (rest : List Command) (stops room : ℕ) → step ≤ limit
     → All IsNeedlePoint (place ∷ points) → KeepsClose step place points → GoesOn limit rest stops room
     → Goes limit false place (map (λ q. Stitch q) points ++ Trim ∷ rest) stops (length points + (4 + room))
@@ -140,7 +140,7 @@ stitches_go step limit place (p ∷ points) rest stops room more in_range close 
       room_to = λ n. omega (arith, later.room_to (n + 1));
     }
 
--- the first stitch of a walk takes at most 498, since the thread is loose
+-- The first stitch of a walk takes at most 498 commands, since the thread is loose.
 walk_goes : (step limit : ℕ) (points : List Point) (rest : List Command) (stops room : ℕ) → 121 ≤ limit → step ≤ limit
     → AreNear step points → GoesOn limit rest stops room
     → GoesOn limit (map (λ q. Stitch q) points ++ Trim ∷ rest) stops (length points + (501 + room))

@@ -19,7 +19,7 @@ known_untraced = refl
 pub known_too_long : refusal_line (too_long (codes "a")) ≡ codes "stitch: a: longer than 67108864 bytes" ++ line_end
 known_too_long = refl
 
--- a block without a line is told at the line that opened it
+-- A block without a line is reported at the line that opened it.
 pub known_draw_line : refusal_line (undrawn (codes "a.rw") (record { number = 2; kind = kind.EmptyBlock }))
     ≡ codes "stitch: a.rw: line 2: block without a line" ++ line_end
 unfolding digits
@@ -42,7 +42,7 @@ pub known_long_stitch : refusal_line (unwritten (codes "b") 121 (write.StitchToo
 unfolding digits
 known_long_stitch = refl
 
--- a refit is told of the output, an edit of the input
+-- A refused refit is reported for the output, a refused edit for the input.
 pub known_refit : refusal_line (unchanged (codes "a") (codes "b") (reason.RefitTooMany 5))
     ≡ codes "stitch: b: command 5: too many commands" ++ line_end
 unfolding digits

@@ -1,4 +1,4 @@
--- Only want of memory excuses an answer from what the definitions say, in a run and in what it reads and makes.
+-- Out of memory is the only exception from the specification, in a run and in what it reads and makes.
 use Rattle.std.proofs.Common.{◌≡◌, [], ◌∷◌, true, false, map, refl}
 use Rattle.line_graph.specs.Growing.{wants_memory as draw_wants}
 use Rattle.line_graph.specs.declared.draw_kind.DrawKind.TheVariants as kind
@@ -28,6 +28,6 @@ pub known_traces : map trace_wants (trace.NoLinks ∷ trace.LinkTooLong 7 ∷ tr
     ≡ false ∷ false ∷ false ∷ true ∷ []
 known_traces = refl
 
--- a run that is accepted isn't told as refused, and a refusal isn't told as done
+-- An accepted run is not reported as refused, and a refused run not as done.
 pub known_decided : (IsOrMemory status.Refused status.Done → ⊥) × (IsOrMemory status.Done status.Refused → ⊥)
 known_decided = (λ is. cc, λ is. cc)

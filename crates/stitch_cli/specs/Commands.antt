@@ -11,7 +11,7 @@ use Rattle.stitch_cli.specs.Samples.{sample_plan}
 use Rattle.stitch_cli.specs.Shows.{show_plan}
 use Rattle.stitch_cli.specs.Tracings.{trace_plan}
 
--- what an order does
+-- The plan of an order: which files it reads, and what it accepts or refuses.
 abbrev pub plan_of : Order → Plan
 plan_of (routing order) = route_plan order
 plan_of (checking order) = check_plan order

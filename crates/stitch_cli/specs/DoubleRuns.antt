@@ -1,4 +1,5 @@
--- What the command `double` comes to. Costs count steps.
+-- The command `double`: a drawing is sewn by walks that pass each line once in each direction.
+-- Costs count steps.
 use Rattle.std.specs.Prelude.{◌≡◌, ℕ, List}
 use Rattle.std.specs.List.{AllZip}
 use Rattle.cut_certificate.specs.declared.certificate.PieceCert.{PieceCert}
@@ -13,8 +14,8 @@ use Rattle.stitch_cli.specs.OrderNames.{RouteOrder}
 use Rattle.stitch_cli.specs.Plans.{Plan}
 use Rattle.stitch_cli.specs.Sewings.{SewsIn, piece_reports, sewing_plan}
 
--- a drawing is sewn by double walks over its pieces: its design, its certificate, which has no
--- cuts, and its report
+-- The result of a double run over a drawing: the file of the design, the text of the certificate,
+-- and the report. The certificate has no cuts.
 pub record IsDoubleRun (format : Meaning) (d : DrawingValue)
     (bytes cert report : List ℕ) : Type 0 where
   pub pieces : List (List ℕ)
@@ -25,6 +26,6 @@ pub record IsDoubleRun (format : Meaning) (d : DrawingValue)
   pub cert_is : cert ≡ certificate_text certs
   pub report_is : report ≡ double_report (piece_reports d 1 pieces certs)
 
--- the plan of a double run
+-- The plan of `double`.
 abbrev pub double_plan : RouteOrder → Plan
 double_plan order = sewing_plan IsDoubleRun order

@@ -1,4 +1,4 @@
--- How the inner steps of a run end. No public clause cites this file.
+-- The outcomes of the inner steps of a run. No public clause refers to this file.
 use Rattle.std.specs.Prelude.{◌≡◌, ◌⊎◌, ℕ, List, Option, Some, None, Result, Ok, Err}
 use Rattle.outside_io.specs.Blames.{read_of}
 use Rattle.outside_io.specs.Causes.{Faults}
@@ -20,7 +20,7 @@ use Rattle.stitch_cli.specs.RunSights.{Sights}
 use Rattle.stitch_cli.specs.Texts.{halt_text}
 use Rattle.program_texts.specs.Messages.{unprinted_line, unwritten_line}
 
--- the status of an order that came to no product
+-- The exit status of a failure.
 abbrev pub status_of : Halt → Status
 status_of halt.Unasked = status.Usage
 status_of (halt.Missing name) = status.Fault
@@ -28,7 +28,7 @@ status_of (halt.NotRead name) = status.Fault
 status_of (halt.Refused why) = status.Refused
 status_of halt.Memory = status.Memory
 
--- what each reason means for which a plan came to no product
+-- The meaning of each failure for a plan, and its effect on the store.
 abbrev pub Halts : Plan → StoreSight → StoreSight → Halt → Type 0
 Halts plan store store' halt.Unasked = ⊥
 Halts plan store store' (halt.Missing name) = Misses plan store.files name.now × (store' ≡ store)
@@ -38,33 +38,32 @@ Halts plan store store' (halt.Refused why) = Refuses plan store.files (refusal_o
     × (store' ≡ store)
 Halts plan store store' halt.Memory = store' ≡ store
 
--- a product that can be delivered
+-- A product that can be delivered: its outputs have distinct file names.
 pub record CanBeDelivered (product : ProductValue) : Type 0 where
   pub named : AreNamed product.outputs
   pub apart : AreApart product.outputs
 
--- what a plan comes to by an answer: the product that it makes, or why there is none
+-- The result of a plan: the product that it makes, or a failure.
 abbrev pub IsPrepared : Plan → StoreSight → StoreSight → Result Product Halt → Type 0
 IsPrepared plan store store' (Ok product) = Makes plan store.files (product_of product)
     × CanBeDelivered (product_of product) × (store' ≡ store)
 IsPrepared plan store store' (Err why) = Halts plan store store' why
 
--- the answer to a plan over a store
+-- The result of running a plan over a store.
 pub record Prepares (plan : Plan) (store store' : StoreSight)
     (result : Result Product Halt) : Type 0 where
   pub is : IsPrepared plan store store' result
 
--- the answer to a plan that reads no file
+-- The result of running a plan that reads no file, over any store.
 pub record Settles (plan : Plan) (result : Result Product Halt) : Type 0 where
   pub at : (store : StoreSight) → IsPrepared plan store store result
 
--- what words come to: nothing where they ask for none, and else what the plan
--- of their order comes to
+-- The result of a request: a failure if it requests no order, else the result of its plan.
 abbrev pub Answers : Option Order → StoreSight → StoreSight → Result Product Halt → Type 0
 Answers None store store' result = (result ≡ Err halt.Unasked) × (store' ≡ store)
 Answers (Some order) store store' result = Prepares (plan_of order) store store' result
 
--- the reading of an input's file: its bytes, or why there are none
+-- The result of reading an input file: its bytes, or a failure.
 abbrev pub ReadsInput : List ℕ → StoreSight → StoreSight → Result (List ℕ) Halt → Type 0
 ReadsInput name store store' (Ok bytes) = IsInput store.files name bytes × (store' ≡ store)
 ReadsInput name store store' (Err halt.Unasked) = ⊥
@@ -76,21 +75,22 @@ ReadsInput name store store' (Err (halt.Refused why)) =
     (refusal_of why ≡ too_long name) × IsTooLong store.files name × (store' ≡ store)
 ReadsInput name store store' (Err halt.Memory) = store' ≡ store
 
--- an input's file was read, and its bytes say that
+-- An input file was read, and its bytes parse to that result.
 pub record IsInputAs {V F : Type 0} (says : List ℕ → Result V F) (name : List ℕ)
     (store store' : StoreSight) (answer : Result V F) : Type 0 where
   pub bytes : List ℕ
   pub read : ReadsInput name store store' (Ok bytes)
   pub is : says bytes ≡ answer
 
--- an input's file was read, and is refused for what its bytes say
+-- An input file was read, and its bytes are refused for a fault.
 pub record IsRefusedInput {V F : Type 0} (says : List ℕ → Result V F) (reason : F → RefusalValue)
     (name : List ℕ) (store store' : StoreSight) (why : Refusal) : Type 0 where
   pub fault : F
   pub input : IsInputAs says name store store' (Err fault)
   pub told : refusal_of why ≡ reason fault
 
--- the taking of an input: what its file says, or why there is nothing; a fault is refused
+-- The result of reading and parsing an input file: the value, or a failure. A fault of the parser
+-- is refused.
 abbrev pub TakesInput : {V F : Type 0} → (List ℕ → Result V F) → (F → RefusalValue) → List ℕ
     → StoreSight → StoreSight → Result V Halt → Type 0
 TakesInput says reason name store store' (Ok value) = IsInputAs says name store store' (Ok value)
@@ -104,13 +104,15 @@ TakesInput says reason name store store' (Err (halt.Refused why)) =
     ⊎ IsRefusedInput says reason name store store' why
 TakesInput says reason name store store' (Err halt.Memory) = store' ≡ store
 
--- the report is printed; or it could not be, and its line is told
+-- The outcome of printing the report: it is printed, or the line about the failed print is
+-- reported.
 abbrev pub Prints : List ℕ → SinkSight → SinkSight → SinkSight → SinkSight → Status → Type 0
 Prints report out out' err err' s =
     ((s ≡ status.Done) × (out' ≡ fed out report) × (err' ≡ err))
     ⊎ (Broke out out' report × Tells unprinted_line status.Fault err err' s)
 
--- a product is delivered, or a write or the print of its report failed and its line is told
+-- The outcome of delivering a product: everything is written and printed, or the line about the
+-- failed write or print is reported.
 pub data Delivers (product : ProductValue) (before after : Sights) (s : Status) : Type 0 where
   all : s ≡ status.Done → Wrote product.outputs before.store after.store
       → after.out ≡ fed before.out product.report → after.err ≡ before.err
@@ -123,7 +125,7 @@ pub data Delivers (product : ProductValue) (before after : Sights) (s : Status) 
       → Broke before.out after.out product.report
       → Tells unprinted_line status.Fault before.err after.err s → Delivers product before after s
 
--- an order ends: what its plan makes is delivered, or it came to no product and says why
+-- The outcome of an order: the product of its plan is delivered, or a failure is reported.
 pub data OrderEnds (order : Order) (before after : Sights) (s : Status) : Type 0 where
   made : (product : ProductValue) → Makes (plan_of order) before.store.files product
       → Delivers product before after s → OrderEnds order before after s
@@ -132,7 +134,7 @@ pub data OrderEnds (order : Order) (before after : Sights) (s : Status) : Type 0
       → Tells (halt_text why) (status_of why) before.err after.err s
       → OrderEnds order before after s
 
--- how the program ends, where the words spell this complete request, or none
+-- The outcome of a run, for the requested order or none.
 abbrev pub Ends : Option Order → Sights → Sights → Status → Type 0
 Ends None before after s = (after.store ≡ before.store) × (after.out ≡ before.out)
     × Tells (halt_text halt.Unasked) status.Usage before.err after.err s

@@ -1,4 +1,4 @@
--- What the command `hoop` prints of a file that was read.
+-- The command `hoop`: does a design fit a hoop?
 use Rattle.std.specs.Prelude.{◌≡◌, ◌++◌, Result, Ok, Err, codes}
 use Rattle.format_traits.specs.declared.fault.ReadFault.{ReadFault}
 use Rattle.format_traits.specs.declared.loaded.Loaded.{Loaded}
@@ -11,7 +11,8 @@ use Rattle.stitch_cli.specs.Plans.{Plan, accepts, reads, refuses}
 use Rattle.stitch_cli.specs.Products.{only_report}
 use Rattle.stitch_cli.specs.Refusals.{too_large, unread}
 
--- a design that fits into a hoop is told so; else by how much it is too large
+-- The plan for the result of fitting: a report that it fits, or a refusal with the excess on each
+-- side.
 abbrev pub hoop_fitted : Fit → Plan
 hoop_fitted fit.Upright = accepts (λ product. product
     ≡ only_report (codes "fits upright" ++ line_end))
@@ -19,11 +20,12 @@ hoop_fitted fit.Turned = accepts (λ product. product
     ≡ only_report (codes "fits turned" ++ line_end))
 hoop_fitted (fit.No over_x over_y) = refuses (too_large over_x over_y)
 
--- a file that was read is held against the hoop, and one that was not is refused
+-- The plan for the result of reading the design: a design is compared with the hoop, and a fault is
+-- refused.
 abbrev pub hoop_read : HoopOrder → Result Loaded ReadFault → Plan
 hoop_read order (Ok loaded) = hoop_fitted (fit_of loaded.design order.width order.height)
 hoop_read order (Err fault) = refuses (unread order.file fault)
 
--- the plan of checking whether a file fits into a hoop
+-- The plan of `hoop`: read the design, then compare it with the hoop.
 abbrev pub hoop_plan : HoopOrder → Plan
 hoop_plan order = reads order.file (λ bytes. hoop_read order (order.format.reads bytes))

@@ -1,4 +1,4 @@
--- words of the crates below that public clauses cite
+-- Definitions of the crates below that public clauses use.
 pub use Rattle.command_words.specs.Changes
 pub use Rattle.command_words.specs.Requests
 pub use Rattle.design_changes.specs.ChangedDesigns
@@ -23,7 +23,7 @@ pub mod Plans
 pub mod OrderNames
 pub mod Orders
 pub mod Texts
--- read these first: what each command does, and what each status of the program means
+-- Read Runs first, the guarantees of each exit status, then Sewings to Rewrites, the commands.
 pub mod Sewings
 pub mod Routes
 pub mod Checks

@@ -1,4 +1,5 @@
--- What each order names, and what the formats of its names mean.
+-- The records of orders: the file names of each command, and the formats of these files. A
+-- `Meaning` (format_traits) is a format: how it reads and writes designs.
 use Rattle.std.specs.Prelude.{ℕ, List}
 use Rattle.command_words.specs.declared.requests.CheckNames.{CheckNames}
 use Rattle.command_words.specs.declared.requests.Names.{Names}
@@ -6,43 +7,45 @@ use Rattle.command_words.specs.declared.requests.RouteNames.{RouteNames}
 use Rattle.command_words.specs.Changes.{Change}
 use Rattle.format_traits.specs.Meanings.{Meaning}
 
--- the files that a route or a double run names, and what the format of its output means
+-- The order of `route` or `double`: the drawing to read, the design and the certificate to write,
+-- and the format of the design.
 pub record RouteOrder : Type 0 where
   pub drawing : List ℕ
   pub out : List ℕ
   pub cert : List ℕ
   pub format : Meaning
 
--- the files that a check reads, and what the format of the design means
+-- The order of `check`: the drawing, the design and the certificate to read, and the format of the
+-- design.
 pub record CheckOrder : Type 0 where
   pub drawing : List ℕ
   pub file : List ℕ
   pub cert : List ℕ
   pub format : Meaning
 
--- the number of a sample drawing, and the file that it is written to
+-- The order of `sample`: the number of the sample drawing, and the file to write it to.
 pub record SampleOrder : Type 0 where
   pub number : ℕ
   pub drawing : List ℕ
 
--- the drawing that is read, and the file that it is written to
+-- The order of `migrate`: the drawing to read, and the file to write it to.
 pub record MigrateOrder : Type 0 where
   pub input : List ℕ
   pub output : List ℕ
 
--- the file that is traced, what its format means, and the drawing that is written
+-- The order of `trace`: the design to read, the drawing to write, and the format of the design.
 pub record TraceOrder : Type 0 where
   pub file : List ℕ
   pub drawing : List ℕ
   pub format : Meaning
 
--- the file that is shown, and what its format means
+-- The order of `show`: the design to read, and its format.
 pub record ShowOrder : Type 0 where
   pub file : List ℕ
   pub format : Meaning
 
--- the file that is read and the one that is written, what their formats mean,
--- and the changes between
+-- The order of `convert` or `edit`: the design to read, the file to write, their formats, and the
+-- changes to make.
 pub record RewriteOrder : Type 0 where
   pub input : List ℕ
   pub output : List ℕ
@@ -50,14 +53,15 @@ pub record RewriteOrder : Type 0 where
   pub target : Meaning
   pub changes : List Change
 
--- the file whose design is to fit into a hoop, what its format means, and the hoop's sides
+-- The order of `hoop`: the design to read, its format, and the sides of the hoop in tenths of a
+-- millimetre.
 pub record HoopOrder : Type 0 where
   pub file : List ℕ
   pub format : Meaning
   pub width : ℕ
   pub height : ℕ
 
--- the order of a route or of a double run by its names and by what its format means
+-- The order of `route` or `double`, from its names and the format.
 abbrev pub route_order : RouteNames → Meaning → RouteOrder
 route_order names format = record {
   drawing = names.drawing.now;
@@ -66,7 +70,7 @@ route_order names format = record {
   format = format;
 }
 
--- the order of a check by its names and by what its format means
+-- The order of `check`, from its names and the format.
 abbrev pub check_order : CheckNames → Meaning → CheckOrder
 check_order names format = record {
   drawing = names.drawing.now;
@@ -75,23 +79,23 @@ check_order names format = record {
   format = format;
 }
 
--- the order of a sample by its number and the name of its file
+-- The order of `sample`, from the number and the name of its file.
 abbrev pub sample_order : ℕ → List ℕ → SampleOrder
 sample_order number drawing = record { number = number; drawing = drawing }
 
--- the order of a migration by its names
+-- The order of `migrate`, from its names.
 abbrev pub migrate_order : (input output : List ℕ) → MigrateOrder
 migrate_order input output = record { input = input; output = output }
 
--- the order of tracing a file by what its format means
+-- The order of `trace`, from its names and the format.
 abbrev pub trace_order : (file drawing : List ℕ) → Meaning → TraceOrder
 trace_order file drawing format = record { file = file; drawing = drawing; format = format }
 
--- the order of showing a file by what its format means
+-- The order of `show`, from its name and the format.
 abbrev pub show_order : List ℕ → Meaning → ShowOrder
 show_order file format = record { file = file; format = format }
 
--- the order of a rewriting by its names, by what their formats mean, and by its changes
+-- The order of `convert` or `edit`, from its names, the formats and the changes.
 abbrev pub rewrite_order : Names → Meaning → Meaning → List Change → RewriteOrder
 rewrite_order names source target changes = record {
   input = names.input.now;
@@ -101,7 +105,7 @@ rewrite_order names source target changes = record {
   changes = changes;
 }
 
--- the order of checking a hoop
+-- The order of `hoop`, from its name, the format and the sides of the hoop.
 abbrev pub hoop_order : List ℕ → Meaning → ℕ → ℕ → HoopOrder
 hoop_order file format width height =
     record { file = file; format = format; width = width; height = height }

@@ -1,4 +1,5 @@
--- Requests that are complete: the formats that they need are there, and their names differ.
+-- Orders: complete requests. A request of the arguments (command_words) is complete if the formats
+-- of its files are known and its file names differ.
 use Rattle.std.specs.Prelude.{ℕ, Bool, ◌&&◌, not, List, [], ◌∷◌, Option, Some, None, bytes_eq, if◌then◌else◌}
 use Rattle.command_words.specs.Changes.{Change}
 use Rattle.command_words.specs.Requests.{Asked, asked_of, check, convert, double, edit, hoop, migrate, route, sample, show, trace}
@@ -7,11 +8,11 @@ use Rattle.format_traits.specs.Meanings.{Meaning}
 use Rattle.format_traits.specs.Endings.{format_of}
 use Rattle.stitch_cli.specs.OrderNames.{RouteOrder, CheckOrder, SampleOrder, MigrateOrder, ShowOrder, RewriteOrder, HoopOrder, TraceOrder, sample_order, migrate_order, trace_order}
 
--- no two of the three names are equal
+-- The test whether three names are distinct.
 abbrev pub are_apart : List ℕ → List ℕ → List ℕ → Bool
 are_apart a b c = not (bytes_eq a b) && (not (bytes_eq a c) && not (bytes_eq b c))
 
--- a complete request: the formats that it needs are there, and its names differ
+-- An order, with a case for each command; `convert` and `edit` are both rewriting.
 pub data Order : Type 0 where
   routing : RouteOrder → Order
   checking : CheckOrder → Order
@@ -23,43 +24,43 @@ pub data Order : Type 0 where
   showing : ShowOrder → Order
   hooping : HoopOrder → Order
 
--- the route of these names to that format, where there is one
+-- The order of `route`, if the format is known and the names differ.
 abbrev pub routing_to : (drawing out cert : List ℕ) → Option Meaning → Option Order
 routing_to drawing out cert None = None
 routing_to drawing out cert (Some format) = if are_apart drawing out cert
     then Some (routing (record { drawing = drawing; out = out; cert = cert; format = format }))
     else None
 
--- the double run of these names to that format, where there is one
+-- The order of `double`, if the format is known and the names differ.
 abbrev pub doubling_to : (drawing out cert : List ℕ) → Option Meaning → Option Order
 doubling_to drawing out cert None = None
 doubling_to drawing out cert (Some format) = if are_apart drawing out cert
     then Some (doubling (record { drawing = drawing; out = out; cert = cert; format = format }))
     else None
 
--- the check of these files by that format, where there is one
+-- The order of `check`, if the format is known.
 abbrev pub checking_by : (drawing file cert : List ℕ) → Option Meaning → Option Order
 checking_by drawing file cert None = None
 checking_by drawing file cert (Some format) =
     Some (checking (record { drawing = drawing; file = file; cert = cert; format = format }))
 
--- the migration between those files, where their names differ
+-- The order of `migrate`, if the names differ.
 abbrev pub migrating_to : (input output : List ℕ) → Option Order
 migrating_to input output =
     if bytes_eq input output then None else Some (migrating (migrate_order input output))
 
--- the tracing of that file by that format, where there is one, where the names differ
+-- The order of `trace`, if the format is known and the names differ.
 abbrev pub tracing_to : (file drawing : List ℕ) → Option Meaning → Option Order
 tracing_to file drawing None = None
 tracing_to file drawing (Some format) =
     if bytes_eq file drawing then None else Some (tracing (trace_order file drawing format))
 
--- the showing of that file by that format, where there is one
+-- The order of `show`, if the format is known.
 abbrev pub showing_by : List ℕ → Option Meaning → Option Order
 showing_by file None = None
 showing_by file (Some format) = Some (showing (record { file = file; format = format }))
 
--- the rewriting between those files by these formats, where there are both and the names differ
+-- The order of `convert` or `edit`, if both formats are known and the names differ.
 abbrev pub rewriting_by : (input output : List ℕ) → List Change → Option Meaning → Option Meaning
     → Option Order
 rewriting_by input output changes None target = None
@@ -74,13 +75,13 @@ rewriting_by input output changes (Some source) (Some target) =
       changes = changes;
     }))
 
--- the check of that file by that format, where there is one
+-- The order of `hoop`, if the format is known.
 abbrev pub hooping_by : List ℕ → ℕ → ℕ → Option Meaning → Option Order
 hooping_by file width height None = None
 hooping_by file width height (Some format) =
     Some (hooping (record { file = file; format = format; width = width; height = height }))
 
--- the request made complete, where it can be
+-- The order of a request, if it is complete.
 abbrev pub completed : List Meaning → Option Asked → Option Order
 completed formats None = None
 completed formats (Some (route drawing out cert)) =
@@ -102,11 +103,11 @@ completed formats (Some (edit input output edits)) =
 completed formats (Some (hoop file width height)) =
     hooping_by file width height (format_of formats file)
 
--- the complete request that the words spell, where they spell one
+-- The order that the arguments request, or none.
 abbrev pub order_of : List Meaning → List (List ℕ) → Option Order
 order_of formats words = completed formats (asked_of words)
 
--- the files that an order writes, in this order
+-- The names of the files that an order writes, in the order of writing.
 abbrev pub outputs_of : Order → List (List ℕ)
 outputs_of (routing order) = order.cert ∷ order.out ∷ []
 outputs_of (checking order) = []

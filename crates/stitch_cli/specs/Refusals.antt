@@ -1,5 +1,4 @@
--- Why an order is refused: each reason with what its line says. A name is the
--- bytes of a file's name.
+-- The reasons for which an order is refused. A name is the bytes of a file name.
 use Rattle.std.specs.Prelude.{ℕ, List}
 use Rattle.drawing_text.specs.declared.draw_fault.DrawFault.{DrawFault}
 use Rattle.format_traits.specs.declared.fault.ReadFault.{ReadFault}
@@ -10,7 +9,7 @@ use Rattle.design_changes.specs.declared.change_faults.ChangeFault.{ChangeFault}
 use Rattle.stitch_cli.specs.declared.halt.Refusal.{Refusal}
 use Rattle.stitch_cli.specs.declared.halt.Refusal.TheVariants as refusal
 
--- a reason; the limit of a step and of a stitch is that of the output's format
+-- A reason. The limit of a step or a stitch is that of the output format.
 pub data RefusalValue : Type 0 where
   too_long : (name : List ℕ) → RefusalValue
   undrawn : (name : List ℕ) → DrawFault → RefusalValue
@@ -23,7 +22,7 @@ pub data RefusalValue : Type 0 where
   too_large : (x y : ℕ) → RefusalValue
   untraced : (name : List ℕ) → TraceFault → RefusalValue
 
--- the reason that a refusal of the program is
+-- The reason of a refusal of the program.
 abbrev pub refusal_of : Refusal → RefusalValue
 refusal_of (refusal.TooLong name) = too_long name.now
 refusal_of (refusal.Undrawn name fault) = undrawn name.now fault

@@ -1,4 +1,4 @@
--- What the inner steps of a rewriting answer. No public clause cites this file.
+-- The results of the inner steps of rewriting. No public clause refers to this file.
 use Rattle.std.specs.Prelude.{◌≡◌, ℕ, List, Result, Ok, Err}
 use Rattle.design_changes.specs.declared.change_faults.Unchanged.{Unchanged}
 use Rattle.design_changes.specs.declared.change_faults.Unchanged.TheVariants as unchanged
@@ -14,7 +14,7 @@ use Rattle.stitch_cli.specs.Refusals.{RefusalValue, refusal_of, unwritten}
 use Rattle.stitch_cli.specs.Refusals as refused
 use Rattle.program_texts.specs.DesignReports.{written_report}
 
--- the file of a design and the report on it are the product
+-- The product of encoding a design: its file, and the report on it.
 pub record IsWrittenAs (name : List ℕ) (target : Meaning) (d : DesignValue)
     (product : ProductValue) : Type 0 where
   pub out : List ℕ
@@ -23,24 +23,24 @@ pub record IsWrittenAs (name : List ℕ) (target : Meaning) (d : DesignValue)
   pub within : MovesWithin target out
   pub made : product ≡ one_output name out (written_report (counts_of d))
 
--- the format can't write the design
+-- The reason for which a format cannot encode a design.
 pub record IsNotWritten (name : List ℕ) (target : Meaning) (d : DesignValue)
     (why : RefusalValue) : Type 0 where
   pub fault : WriteFault
   pub is : why ≡ unwritten name target.limit fault
   pub refuses : target.writes d ≡ Err fault
 
--- what comes of the writing of a design
+-- The result of encoding a design.
 abbrev pub WriteOf : List ℕ → Meaning → DesignValue → Result ProductValue RefusalValue → Type 0
 WriteOf name target d (Ok product) = IsWrittenAs name target d product
 WriteOf name target d (Err why) = IsNotWritten name target d why
 
--- the halt is for that reason
+-- A failure that is a refusal for that reason.
 abbrev pub IsRefusedAs : RefusalValue → Halt → Type 0
 IsRefusedAs reason (halt.Refused why) = refusal_of why ≡ reason
 IsRefusedAs reason _ = ⊥
 
--- the halt of a design that was not changed
+-- The failure of an order whose changes failed.
 abbrev pub IsUnchangedFor : (input output : List ℕ) → Unchanged → Halt → Type 0
 IsUnchangedFor input output unchanged.Memory why = why ≡ halt.Memory
 IsUnchangedFor input output (unchanged.For fault) why =

@@ -1,4 +1,4 @@
--- What the commands `convert` and `edit` come to: a design is read, changed, and written.
+-- The commands `convert` and `edit`: a design is read, changed and written.
 use Rattle.std.specs.Prelude.{◌≡◌, ℕ, List, Result, Ok, Err}
 use Rattle.design_model.specs.Counts.{counts_of}
 use Rattle.design_model.specs.Designs.{DesignValue}
@@ -14,8 +14,9 @@ use Rattle.stitch_cli.specs.Plans.{Plan, decides, reads, refuses}
 use Rattle.stitch_cli.specs.Products.{ProductValue, one_output}
 use Rattle.stitch_cli.specs.Refusals.{RefusalValue, unchanged, unread, unwritten}
 
--- the design becomes another by the changes, and that is written: what is written reads again as
--- the same acts, and no record of it moves farther than the limit
+-- The product of a rewritten design: the changes make another design, and the file of that is
+-- written. Read again, the file has the same acts, and no record moves farther than the limit of
+-- the format.
 pub record Rewritten (order : RewriteOrder) (loaded : Loaded)
     (product : ProductValue) : Type 0 where
   pub design : DesignValue
@@ -26,7 +27,8 @@ pub record Rewritten (order : RewriteOrder) (loaded : Loaded)
   pub within : MovesWithin order.target out
   pub made : product ≡ one_output order.output out (written_report (counts_of design))
 
--- a change is refused, or what the design became can't be written
+-- The reason for which a design is not rewritten: a change is refused, or the output format cannot
+-- encode the changed design.
 pub data NotRewritten (order : RewriteOrder) (loaded : Loaded) (why : RefusalValue) : Type 0 where
   not_changed : (fault : ChangeFault) → why ≡ unchanged order.input order.output fault
       → BecomesAll order.target.limit order.changes loaded.design (Err fault)
@@ -36,16 +38,16 @@ pub data NotRewritten (order : RewriteOrder) (loaded : Loaded) (why : RefusalVal
       → BecomesAll order.target.limit order.changes loaded.design (Ok design)
       → order.target.writes design ≡ Err fault → NotRewritten order loaded why
 
--- what comes of a design that was read
+-- The result of rewriting a design that was read.
 abbrev pub RewriteOf : RewriteOrder → Loaded → Result ProductValue RefusalValue → Type 0
 RewriteOf order loaded (Ok product) = Rewritten order loaded product
 RewriteOf order loaded (Err why) = NotRewritten order loaded why
 
--- a file that was read is rewritten, and one that was not is refused
+-- The plan for the result of reading the design: a design is rewritten, and a fault is refused.
 abbrev pub rewrite_read : RewriteOrder → Result Loaded ReadFault → Plan
 rewrite_read order (Ok loaded) = decides (RewriteOf order loaded)
 rewrite_read order (Err fault) = refuses (unread order.input fault)
 
--- the plan of writing a file's design into another
+-- The plan of `convert` or `edit`: read the design, then rewrite it.
 abbrev pub rewrite_plan : RewriteOrder → Plan
 rewrite_plan order = reads order.input (λ bytes. rewrite_read order (order.source.reads bytes))

@@ -1,4 +1,4 @@
--- What the command `route` comes to. Costs count steps.
+-- The command `route`: a drawing is sewn by walks of the least cost. Costs count steps.
 use Rattle.std.specs.Prelude.{◌≡◌, ℕ, List}
 use Rattle.std.specs.List.{AllZip}
 use Rattle.cut_certificate.specs.declared.certificate.PieceCert.{PieceCert}
@@ -12,7 +12,8 @@ use Rattle.stitch_cli.specs.OrderNames.{RouteOrder}
 use Rattle.stitch_cli.specs.Plans.{Plan}
 use Rattle.stitch_cli.specs.Sewings.{SewsIn, piece_reports, sewing_plan}
 
--- a drawing is sewn by best walks over its pieces: its design, its certificate and its report
+-- The result of routing a drawing: the file of the design, the text of the certificate, and the
+-- report. Each piece has a best walk: one of the least cost, with a certificate that proves it.
 pub record IsRouted (format : Meaning) (d : DrawingValue)
     (bytes cert report : List ℕ) : Type 0 where
   pub pieces : List (List ℕ)
@@ -23,6 +24,6 @@ pub record IsRouted (format : Meaning) (d : DrawingValue)
   pub cert_is : cert ≡ certificate_text certs
   pub report_is : report ≡ route_report (piece_reports d 1 pieces certs)
 
--- the plan of a route
+-- The plan of `route`.
 abbrev pub route_plan : RouteOrder → Plan
 route_plan order = sewing_plan IsRouted order

@@ -1,4 +1,10 @@
--- What each status of the program means.
+-- The exit statuses of the program, and what each one guarantees about files and streams. The
+-- arguments and the known formats request an order (Orders), or none. The plan of an order
+-- (Commands, Plans) says which files it reads, and what it accepts or refuses. A product (Products)
+-- is the files that an order writes and the report that it prints. Views before and after a run
+-- (RunViews) are what contracts see of the files, the standard output and the standard error. Files
+-- that the store hides have no content in a view: the facts about their content then hold
+-- trivially.
 use Rattle.std.specs.Prelude.{◌≡◌, ℕ, ◌⊎◌, Bool, true, false, List, Option, Some, None, IsSome}
 use Rattle.design_model.specs.WantOfMemory.{UnlessMemory}
 use Rattle.outside_io.specs.Files.{Files}
@@ -16,12 +22,12 @@ use Rattle.stitch_cli.specs.Texts.{refusal_line}
 use Rattle.stitch_cli.specs.RunSights.{Sights, IsUntouched, IsQuietRun}
 use Rattle.stitch_cli.specs.RunFailures.{Fails}
 
--- the words ask for this order
+-- The arguments request this order.
 abbrev pub AsksFor : Option Order → Order → Type 0
 AsksFor asked order = asked ≡ Some order
 
--- `Done`: the words ask for an order that makes this product: its outputs are written and its
--- report is printed, and nothing stands on the standard error
+-- Status `Done`: the requested order makes a product, the files of the product are written, the
+-- report is printed, and the standard error is unchanged.
 pub record IsDone (asked : Option Order) (before after : Sights) : Type 0 where
   pub order : Order
   pub asks : AsksFor asked order
@@ -31,7 +37,8 @@ pub record IsDone (asked : Option Order) (before after : Sights) : Type 0 where
   pub report : after.out ≡ fed before.out product.report
   pub err : after.err ≡ before.err
 
--- `Refused`: a step of the order that the words ask for refuses, and its line says why
+-- Status `Refused`: the plan of the requested order refuses for a reason, and the line of that
+-- reason is on the standard error. Files and standard output are unchanged.
 pub record IsRefused (asked : Option Order) (before after : Sights) : Type 0 where
   pub order : Order
   pub asks : AsksFor asked order
@@ -40,18 +47,21 @@ pub record IsRefused (asked : Option Order) (before after : Sights) : Type 0 whe
   pub untouched : IsUntouched before after
   pub told : after.err ≡ fed before.err (refusal_line why)
 
--- `Usage`: the words ask for nothing, and the usage text says what may be asked for
+-- Status `Usage`: the arguments request no order, the usage text is on the standard error, and
+-- files and standard output are unchanged.
 pub record IsUsage (asked : Option Order) (before after : Sights) : Type 0 where
   pub asks : asked ≡ None
   pub untouched : IsUntouched before after
   pub told : after.err ≡ fed before.err usage_text
 
--- `Memory`: nothing but the line that says so
+-- Status `Memory`: the line about memory is on the standard error, and files and standard output
+-- are unchanged.
 pub record IsMemory (before after : Sights) : Type 0 where
   pub untouched : IsUntouched before after
   pub told : after.err ≡ fed before.err memory_line
 
--- a step of the order failed, and the standard error has its line
+-- A failed run: a read, a write or the print of the report failed, and its line is on the standard
+-- error.
 pub record IsFailed (asked : Option Order) (before after : Sights) : Type 0 where
   pub order : Order
   pub asks : AsksFor asked order
@@ -59,7 +69,7 @@ pub record IsFailed (asked : Option Order) (before after : Sights) : Type 0 wher
   pub fails : Fails order before after line
   pub told : after.err ≡ fed before.err line
 
--- what a run that is not done came to: the status that it calls for, and its text
+-- The planned outcome of a run that is not done: the status, and the text for the standard error.
 pub data CallsFor (asked : Option Order) (before after : Sights) (planned : Status)
     (text : List ℕ) : Type 0 where
   usage : asked ≡ None → planned ≡ status.Usage → text ≡ usage_text → IsUntouched before after
@@ -74,35 +84,37 @@ pub data CallsFor (asked : Option Order) (before after : Sights) (planned : Stat
   memory : planned ≡ status.Memory → text ≡ memory_line → IsUntouched before after
       → CallsFor asked before after planned text
 
--- the standard error failed on the way of its text: all else is as that text would have told
+-- A lost report: the standard error failed while the text of the planned outcome was written.
+-- Everything else is as in that outcome.
 pub record IsUntold (asked : Option Order) (before after : Sights) : Type 0 where
   pub planned : Status
   pub text : List ℕ
   pub calls : CallsFor asked before after planned text
   pub broke : Broke before.err after.err text
 
--- `Fault`: a step of the order failed; or the text on the standard error could not be put
+-- Status `Fault`: a read, a write or the print of the report failed, or the standard error did.
 abbrev pub IsFault : Option Order → Sights → Sights → Type 0
 IsFault asked before after = IsFailed asked before after ⊎ IsUntold asked before after
 
--- files that the order doesn't write stay, and all files stay where the words ask for nothing
+-- Files that the order does not write are unchanged; all files are, if the arguments request no
+-- order.
 abbrev pub KeepsOthers : Option Order → Sights → Sights → Type 0
 KeepsOthers None before after = after.store.files ≡ before.store.files
 KeepsOthers (Some order) before after = ChangesAmong
     (outputs_of order) before.store.files after.store.files
 
--- the status that wants memory
+-- The test whether a status means out of memory.
 abbrev pub wants_memory : Status → Bool
 wants_memory status.Memory = true
 wants_memory other = false
 
--- what a status is, unless memory runs out
+-- The planned status, or out of memory.
 abbrev pub IsOrMemory : Status → Status → Type 0
 IsOrMemory s planned = UnlessMemory (wants_memory s) (s ≡ planned)
 
--- the words and the files decide, where files are told: nothing asked for is `Usage`; an order
--- that is accepted is done, one that is refused is refused, and one whose file is not there
--- fails, unless memory runs out
+-- The arguments and the files determine the status, if files are visible. No order is `Usage`, an
+-- accepted order `Done`, a refused order `Refused`, and an order whose input file is missing
+-- `Fault`. Out of memory is possible in the last three cases.
 pub record IsDecided (asked : Option Order) (files : Option Files) (s : Status) : Type 0 where
   pub usage : asked ≡ None → s ≡ status.Usage
   pub done : (order : Order) → AsksFor asked order → IsSome files → IsAccepted (plan_of order) files
@@ -113,8 +125,9 @@ pub record IsDecided (asked : Option Order) (files : Option Files) (s : Status) 
       → Misses (plan_of order) files name
       → IsOrMemory s status.Fault
 
--- how a run ends: what its status means, what stays whatever the status is, and that where no count
--- of faults rises the words and the files decide it
+-- The specification of a run: what each status guarantees, and which files are unchanged whatever
+-- the status is (`others`). If no fault is counted, the arguments and the files determine the
+-- status (`decided`).
 pub record RunEnds (asked : Option Order) (before after : Sights) (s : Status) : Type 0 where
   pub done : s ≡ status.Done → IsDone asked before after
   pub refused : s ≡ status.Refused → IsRefused asked before after

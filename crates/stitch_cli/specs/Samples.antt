@@ -1,4 +1,5 @@
--- What the command `sample` comes to. Costs count steps, weights of cuts halves of a step.
+-- The command `sample`: a generated drawing, and a summary of a route of it. Costs count steps,
+-- weights of cuts halves of a step.
 use Rattle.std.specs.Prelude.{◌≡◌, ℕ, ◌+◌, List, length, sum_by}
 use Rattle.std.specs.List.{AllZip}
 use Rattle.cut_certificate.specs.declared.certificate.PieceCert.{PieceCert}
@@ -17,20 +18,20 @@ use Rattle.stitch_cli.specs.Products.{ProductValue, one_output}
 use Rattle.program_texts.specs.PieceSums.{junction_count, odd_count}
 use Rattle.program_texts.specs.Reports.{summary_text}
 
--- the sum of a number over pieces of a drawing
+-- The sum of a number over pieces of a drawing.
 abbrev pub over_pieces : (PieceValue → ℕ) → DrawingValue → List (List ℕ) → ℕ
 over_pieces count d pieces = sum_by (λ lines. count (piece_of d lines)) pieces
 
--- what walks retrace in all
+-- The total cost that the walks retrace.
 abbrev pub retraced_sum : List PieceCert → ℕ
 retraced_sum certs = sum_by (λ cert. cert.retraced) certs
 
--- the total of all cuts
+-- The total weight of all cuts.
 abbrev pub cut_sum : List PieceCert → ℕ
 cut_sum certs = sum_by (λ cert. total_of cert.cuts) certs
 
--- what is told of the drawing with that number and of a route over its pieces: each walk puts the
--- needle down once more often than it costs steps
+-- The summary of a drawing and a route over its pieces. The needle penetrates once more per walk
+-- than the walk costs.
 abbrev pub summary_of : ℕ → DrawingValue → List (List ℕ) → List PieceCert → Summary
 summary_of number d pieces certs = record {
   number = number;
@@ -44,7 +45,8 @@ summary_of number d pieces certs = record {
   cuts = cut_sum certs;
 }
 
--- a drawing is written in its plain spelling, and the report tells of best walks over its pieces
+-- The product of `sample`: the drawing is written as its canonical text, and the report is the
+-- summary of best walks.
 pub record TellsOf (order : SampleOrder) (d : DrawingValue) (product : ProductValue) : Type 0 where
   pub pieces : List (List ℕ)
   pub certs : List PieceCert
@@ -53,6 +55,6 @@ pub record TellsOf (order : SampleOrder) (d : DrawingValue) (product : ProductVa
   pub made : product ≡ one_output order.drawing (plain_spelling d)
       (summary_text (summary_of order.number d pieces certs))
 
--- the plan of a sample: no number is refused
+-- The plan of `sample`: every number is accepted.
 abbrev pub sample_plan : SampleOrder → Plan
 sample_plan order = accepts (TellsOf order (sample_of order.number))

@@ -1,4 +1,4 @@
--- What the command `show` prints of a file that was read.
+-- The command `show`: a report on the contents of a design file.
 use Rattle.std.specs.Prelude.{◌≡◌, Result, Ok, Err}
 use Rattle.format_traits.specs.declared.fault.ReadFault.{ReadFault}
 use Rattle.format_traits.specs.declared.loaded.Loaded.{Loaded}
@@ -8,12 +8,12 @@ use Rattle.stitch_cli.specs.Plans.{Plan, accepts, reads, refuses}
 use Rattle.stitch_cli.specs.Products.{only_report}
 use Rattle.stitch_cli.specs.Refusals.{unread}
 
--- a file that was read is shown, and one that was not is refused
+-- The plan for the result of reading the design: its report is printed, and a fault is refused.
 abbrev pub show_read : ShowOrder → Result Loaded ReadFault → Plan
 show_read order (Ok loaded) = accepts (λ product. product
     ≡ only_report (show_report order.format.ending loaded))
 show_read order (Err fault) = refuses (unread order.file fault)
 
--- the plan of showing a file
+-- The plan of `show`: read the design, then print its report.
 abbrev pub show_plan : ShowOrder → Plan
 show_plan order = reads order.file (λ bytes. show_read order (order.format.reads bytes))

@@ -1,4 +1,4 @@
--- Why an order came to no product, as the program tells it.
+-- The lines on the standard error for an order that fails.
 use Rattle.std.specs.Prelude.{ℕ, List, codes, decimal}
 use Rattle.design_changes.specs.declared.change_faults.ChangeFault.{ChangeFault}
 use Rattle.design_changes.specs.declared.change_faults.ChangeFault.TheVariants as change
@@ -15,7 +15,7 @@ use Rattle.program_texts.specs.DesignFaults.{read_line, write_line, trace_line}
 use Rattle.program_texts.specs.Reasons.{act_no, counts_no, cuts_no, two_no, walk_no}
 use Rattle.program_texts.specs.UsageText.{usage_text}
 
--- why the changes of a design were refused
+-- The line for a refused change of a design.
 abbrev pub change_line : (input output : List ℕ) → ChangeFault → List ℕ
 change_line input output (change.RefitTooMany number) =
     command_line output number (codes "too many commands")
@@ -24,7 +24,7 @@ change_line input output (change.MovedOut number) =
 change_line input output (change.NoPlace place count) =
     place_text input (decimal place) (decimal count)
 
--- why a check says no
+-- The line for a failed check.
 abbrev pub reason_line : Reason → List ℕ
 reason_line (reason.Pieces found drawn) = counts_no (decimal found) (decimal drawn)
 reason_line (reason.Walk piece fault) = walk_no piece fault
@@ -34,7 +34,7 @@ reason_line (reason.Retraced piece said found) =
 reason_line (reason.Cuts piece fault) = cuts_no piece fault
 reason_line (reason.Acts number) = act_no (decimal number)
 
--- why an order was refused
+-- The line for a refused order.
 abbrev pub refusal_line : RefusalValue → List ℕ
 refusal_line (too_long name) = line_about name (codes "longer than 67108864 bytes")
 refusal_line (undrawn name fault) = draw_line name fault
@@ -49,7 +49,7 @@ refusal_line (disproved why) = reason_line why
 refusal_line (too_large x y) = large_text (decimal x) (decimal y)
 refusal_line (untraced name fault) = trace_line name fault
 
--- the text for an order that came to no product
+-- The text for a failure.
 abbrev pub halt_text : Halt → List ℕ
 halt_text halt.Unasked = usage_text
 halt_text (halt.Missing name) = unread_line name.now

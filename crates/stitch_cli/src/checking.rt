@@ -25,9 +25,9 @@ use program_texts::bytes_of;
 use route_core::{Verdict, judge};
 use std::alloc::Global;
 
-/// Whether a design sews a drawing by the walks of a certificate, and the certificate proves them least.
-/// The drawing, the design and the certificate are read in this order, each refused as it is read. The
-/// design's file is of the format at a place.
+/// Checks whether a design sews a drawing by the walks of a certificate, and the certificate proves them
+/// least. Reads the drawing, the design and the certificate, in this order. `place` is the index of the
+/// format of the design.
 pub(crate) fn check<'a, S: Store>(
     alloc: Global,
     names: CheckNames<'a>,
@@ -102,7 +102,7 @@ fn check_words<'a>(
     }
 }
 
-/// The verdict on a design and a certificate of a drawing.
+/// Returns the product of the verdict, or the failure of the check.
 fn judged<'a>(
     alloc: Global,
     drawing: &Drawing,

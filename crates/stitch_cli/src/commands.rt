@@ -24,7 +24,7 @@ use format_traits::{Format, find};
 use outside_io::Store;
 use std::alloc::Global;
 
-/// What the words ask for. It reads the inputs from the store, and writes nothing.
+/// Makes the product that the arguments request. Reads the inputs from the store, and writes nothing.
 pub(crate) fn make<'a, S: Store>(
     alloc: Global,
     words: &'a [String],

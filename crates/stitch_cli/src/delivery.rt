@@ -7,7 +7,8 @@ use crate::product::{Output, Product};
 use outside_io::{Failed, Sink, Store, write_whole};
 use program_texts::{Status, put_one, tell_unprinted, tell_unwritten};
 
-/// Writes the outputs of a product in order, and then puts its report. What fails has its line on `err`.
+/// Writes the outputs of a product in order, then prints its report to `out`. Reports a failed write or print
+/// on `err`.
 pub(crate) fn deliver<S: Store, O: Sink, E: Sink>(
     product: &Product<'_>,
     store: &mut S,
@@ -35,7 +36,7 @@ fn print<O: Sink, E: Sink>(report: &[u8], out: &mut O, err: &mut E) -> Status
     }
 }
 
-/// Writes the outputs in order, up to the first that can't be written, whose name is answered.
+/// Writes the outputs in order. Returns the name of the first that could not be written.
 fn write_all<'a, S: Store>(store: &mut S, outputs: &[Output<'a>]) -> Result<(), &'a str>
     requires named { AreNamed (all_written outputs.now) }
     requires apart { AreApart (all_written outputs.now) }

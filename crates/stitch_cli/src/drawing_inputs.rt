@@ -14,7 +14,7 @@ use line_graph::{DrawKind, Drawing};
 use outside_io::Store;
 use std::alloc::Global;
 
-/// The drawing that an input's file says.
+/// Reads and parses the drawing of an input file.
 pub(crate) fn drawing_in<'a, S: Store>(
     alloc: Global,
     store: &mut S,
@@ -31,7 +31,7 @@ pub(crate) fn drawing_in<'a, S: Store>(
     }
 }
 
-/// The drawing that an input's file says as version 2.
+/// Reads and parses the drawing of an input file as version 2.
 pub(crate) fn drawing_as2_in<'a, S: Store>(
     alloc: Global,
     store: &mut S,
@@ -49,7 +49,7 @@ pub(crate) fn drawing_as2_in<'a, S: Store>(
     }
 }
 
-/// What an input's file that says no drawing halts an order for.
+/// Returns the failure for an input file that is not a drawing.
 fn undrawn<'a>(name: &'a str, fault: DrawFault) -> Halt<'a>
     ensures { (says : List ℕ → Result DrawingValue DrawFault) (bytes : List ℕ) (old new : StoreSight)
         → ReadsInput name.now old new (Ok bytes) → Reads (says bytes) (Err fault)

@@ -10,7 +10,7 @@ use design_files::{LoadFault, load};
 use format_traits::{Format, Loaded};
 use outside_io::Store;
 
-/// The format at a place.
+/// Returns the format at an index.
 pub(crate) fn format_at(formats: &[Box<dyn Format>], place: usize) -> &Box<dyn Format>
     requires { place < length formats.now }
     ensures { slice_get (map (λ f. meaning f) formats.now) place ≡ Some (meaning result.now) }
@@ -18,7 +18,7 @@ pub(crate) fn format_at(formats: &[Box<dyn Format>], place: usize) -> &Box<dyn F
     &formats[place]
 }
 
-/// What an input's file reads as by the format at a place. No format's meaning changes.
+/// Reads and decodes an input file by the format at an index. No meaning of a format changes.
 pub(crate) fn load_at<'a, S: Store>(
     formats: &mut [Box<dyn Format>],
     place: usize,

@@ -9,27 +9,27 @@ use program_texts::Status;
 use route_core::Reason;
 use stitch_trace::TraceFault;
 
-/// Why an order was refused, with the name of the file that its line is about. Limits and steps are in
-/// tenths of a millimetre.
+/// Why an order is refused, with the name of the file in its line. Limits and steps are in tenths of a
+/// millimetre.
 #[derive(Debug, Drop)]
 pub enum Refusal<'a> {
     /// The input file has more than 64 MiB.
     TooLong {
         name: &'a str,
     },
-    /// The drawing's text has this fault; never for want of memory.
+    /// The text of the drawing has this fault, which is never out of memory.
     Undrawn {
         name: &'a str,
         fault: DrawFault,
     },
-    /// The drawing's step is above the limit of the output's format, which has that ending.
+    /// The step of the drawing exceeds the limit of the output format, whose file name ending is `ending`.
     StepTooLong {
         name: &'a str,
         step: u32,
         limit: u32,
         ending: Bytes,
     },
-    /// The input file is none of its format; never for want of memory.
+    /// The input file does not conform to its format, for this fault, which is never out of memory.
     Unread {
         name: &'a str,
         fault: ReadFault,
@@ -39,43 +39,44 @@ pub enum Refusal<'a> {
         names: Names<'a>,
         fault: ChangeFault,
     },
-    /// The output's format, which has that limit, can't write the design; never for want of memory.
+    /// The output format, which has that limit, cannot encode the design, for this fault, which is never out
+    /// of memory.
     Unwritten {
         name: &'a str,
         limit: u32,
         fault: WriteFault,
     },
-    /// That line of the certificate's text doesn't fit, counted from 1.
+    /// The text of the certificate is wrong at that line, counted from 1.
     Uncertified {
         name: &'a str,
         number: u32,
     },
-    /// The certificate and the design don't go with the drawing.
+    /// The verdict on the design and the certificate is no, for this reason.
     Disproved(Reason),
-    /// The design is larger than the hoop by so many tenths of a millimetre on each side.
+    /// The design exceeds the hoop by this excess on each axis, in tenths of a millimetre.
     TooLarge {
         x: u32,
         y: u32,
     },
-    /// The design of a file has no traced drawing; never for want of memory.
+    /// The design has no traced drawing, for this fault, which is never out of memory.
     Untraced {
         name: &'a str,
         fault: TraceFault,
     },
 }
 
-/// Why words came to no product.
+/// Why an order made no product.
 #[derive(Debug, Drop)]
 pub enum Halt<'a> {
-    /// They ask for nothing that the program does.
+    /// The arguments request nothing that the program does.
     Unasked,
-    /// An input file isn't there.
+    /// An input file does not exist.
     Missing(&'a str),
     /// A read of an input file failed.
     NotRead(&'a str),
-    /// What they ask for was refused.
+    /// The order is refused.
     Refused(Refusal<'a>),
-    /// Memory was wanted and not found.
+    /// Out of memory.
     Memory,
 }
 
@@ -92,7 +93,7 @@ impl<'a> From<Memory> for Halt<'a> {
 impl<'a> Halt<'a> {
     ghost use Rattle.stitch_cli.specs.Endings.{status_of};
 
-    /// The status that the program ends with.
+    /// Returns the exit status of the failure.
     pub fn status(&self) -> Status
         ensures { result ≡ status_of self.now }
     {

@@ -14,8 +14,8 @@ use outside_io::Store;
 use program_texts::bytes_of;
 use std::alloc::Global;
 
-/// Whether the design of a file of the format at a place fits into a hoop, whose sides are in tenths of a
-/// millimetre.
+/// Checks whether the design of a file fits a hoop, whose sides are in tenths of a millimetre. `place` is the
+/// index of the format of the file.
 pub(crate) fn hoop<'a, S: Store>(
     alloc: Global,
     file: &'a str,

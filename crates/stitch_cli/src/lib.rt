@@ -1,4 +1,4 @@
-//! The program's commands: the steps of each over a store and two sinks.
+//! The commands of the program: the steps of each over a store and two sinks.
 #![tactic(auto)]
 
 mod checking;

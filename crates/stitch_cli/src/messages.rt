@@ -15,7 +15,7 @@ use program_texts::{
 };
 use route_core::Reason;
 
-/// Tells why words came to no product. It takes no memory.
+/// Reports a failure on one line, or the usage text. Allocates nothing.
 pub(crate) fn tell_halt<E: Sink>(err: &mut E, why: Halt<'_>) -> Status
     ensures { Tells (halt_text why.entry) (status_of why.entry) (E.sight err.old)
         (E.sight err.new) result }
@@ -67,7 +67,7 @@ fn tell_change_fault<E: Sink>(err: &mut E, names: Names<'_>, fault: ChangeFault)
     }
 }
 
-/// Tells why a check says no.
+/// Reports the reason of a failed check.
 fn tell_reason<E: Sink>(err: &mut E, why: Reason) -> Status
     ensures { Tells (reason_line why) status.Refused (E.sight err.old) (E.sight err.new) result }
 {

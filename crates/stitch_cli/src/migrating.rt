@@ -16,7 +16,7 @@ use outside_io::Store;
 use program_texts::print_migration;
 use std::alloc::Global;
 
-/// A drawing as version 2 of its text, in the plain spelling of that version, and what is told of it.
+/// Rewrites a drawing as the canonical text of version 2, and reports on it.
 pub(crate) fn migrate<'a, S: Store>(
     alloc: Global,
     input: &'a str,

@@ -4,21 +4,21 @@ ghost use Rattle.stitch_cli.specs.Products.{one_output as one_output_value, only
 use design_model::{Bytes, Items, Memory};
 use std::alloc::Global;
 
-/// A file that a command writes: its name, and what it is to hold.
+/// A file that a command writes: its name, and its content.
 #[derive(Debug, Drop)]
 pub struct Output<'a> {
     pub name: &'a str,
     pub content: Bytes,
 }
 
-/// What a command makes: its outputs in the order in which they are written, and its report.
+/// The product of a command: its outputs in the order in which they are written, and its report.
 #[derive(Debug, Drop)]
 pub struct Product<'a> {
     pub outputs: Items<Output<'a>>,
     pub report: Bytes,
 }
 
-/// A product that writes nothing.
+/// Returns a product that writes no file.
 pub(crate) fn only_report<'a>(alloc: Global, report: Bytes) -> Product<'a>
     ensures { product_of result ≡ only_report_value report }
 {
@@ -28,7 +28,7 @@ pub(crate) fn only_report<'a>(alloc: Global, report: Bytes) -> Product<'a>
     }
 }
 
-/// A product that writes one file.
+/// Returns a product that writes one file.
 pub(crate) fn one_output<'a>(
     alloc: Global,
     output: Output<'a>,
@@ -42,7 +42,7 @@ pub(crate) fn one_output<'a>(
     Ok(Product { outputs, report })
 }
 
-/// A product that writes two files, one after the other.
+/// Returns a product that writes two files, in this order.
 pub(crate) fn two_outputs<'a>(
     alloc: Global,
     first: Output<'a>,

@@ -10,7 +10,7 @@ use design_model::Bytes;
 use outside_io::{GetFault, MAX_FILE, Store, read_whole};
 use std::alloc::Global;
 
-/// The bytes of an input's file.
+/// Reads the bytes of an input file.
 pub(crate) fn read_input<'a, S: Store>(
     alloc: Global,
     store: &mut S,
@@ -25,7 +25,7 @@ pub(crate) fn read_input<'a, S: Store>(
     }
 }
 
-/// What a file that was not read halts an order for.
+/// Returns the failure for an input file that was not read.
 pub(crate) fn unread<'a>(name: &'a str, fault: GetFault) -> Halt<'a>
     ensures { (old new : StoreSight) → ReadsWhole name.now most old new (Err fault)
         → new.files ≡ old.files → ReadsInput name.now old new (Err result) }

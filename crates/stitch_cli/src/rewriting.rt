@@ -20,14 +20,15 @@ use outside_io::Store;
 use program_texts::print_written;
 use std::alloc::Global;
 
-/// Where the formats of an input and of an output stand in the list of formats.
+/// The indexes of the formats of an input and of an output in the list of formats.
 #[derive(Clone, Copy, Debug, PartialEq, Eq)]
 pub(crate) struct Places {
     pub source: usize,
     pub target: usize,
 }
 
-/// The design of a file, after changes, as another file, each of the format at a place, which may be one.
+/// Reads the design of a file, changes it, and encodes it as another file. The two formats, given by index,
+/// may be one.
 pub(crate) fn rewrite<'a, S: Store>(
     alloc: Global,
     names: Names<'a>,
@@ -86,7 +87,7 @@ fn unchanged<'a>(names: Names<'a>, why: Unchanged) -> Halt<'a>
     }
 }
 
-/// The file of a changed design, and the report on it.
+/// Returns the product of a changed design: its file, and the report on it.
 fn written<'a>(
     alloc: Global,
     name: &'a str,

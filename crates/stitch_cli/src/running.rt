@@ -13,10 +13,12 @@ use outside_io::{Sink, Store};
 use program_texts::Status;
 use std::alloc::Global;
 
-/// Does what the words ask for: reads the inputs from the store, and where nothing is refused writes the
-/// outputs there and then prints the report to `out`. Where it is not done it puts one line, or the usage
-/// text, to `err`. The clauses speak of the order that the words ask for of these formats, and of what the
-/// store and the two sinks show before and after.
+/// Runs the command that the arguments request, and returns its exit status. Reads the inputs from the store.
+/// If nothing is refused, writes the outputs there, then prints the report to `out`. Otherwise prints one
+/// line, or the usage text, to `err`.
+///
+/// The clauses refer to the order that the arguments request, given these formats. They compare the views of
+/// the store and the two sinks before and after the run.
 pub fn run<S: Store, O: Sink, E: Sink>(
     alloc: Global,
     words: &[String],

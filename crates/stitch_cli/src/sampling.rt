@@ -18,7 +18,7 @@ use route_core::route_pieces;
 use sample_drawings::sample_drawing;
 use std::alloc::Global;
 
-/// The sample drawing of a number, and a summary of a route of it.
+/// Makes the sample drawing of a number, and a summary of a route of it.
 pub(crate) fn sample<'a>(alloc: Global, number: u32, name: &'a str) -> Result<Product<'a>, Halt<'a>>
     requires low { 1 ≤ number }
     requires high { number ≤ MAX_NUMBER }
@@ -39,7 +39,7 @@ fn sampled<'a>(alloc: Global, number: u32, name: &'a str) -> Result<Product<'a>,
     told(alloc, number, name, &drawing)
 }
 
-/// The plain spelling of a drawing, and what is told of it under that number.
+/// Returns the product of a sample drawing: its canonical text, and the summary under that number.
 fn told<'a>(
     alloc: Global,
     number: u32,

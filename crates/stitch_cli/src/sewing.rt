@@ -25,16 +25,16 @@ use program_texts::{bytes_of, print_double, print_route};
 use route_core::{Routed, double_pieces, route_pieces};
 use std::alloc::Global;
 
-/// By what walks the pieces of a drawing are sewn.
+/// The kind of walks that sew the pieces of a drawing.
 #[derive(Clone, Copy, Debug, PartialEq, Eq)]
 pub(crate) enum Way {
-    /// By walks that none undercuts.
+    /// Walks of the least cost.
     Least,
-    /// By double walks, whose certificate has no cuts.
+    /// Double walks, whose certificate has no cuts.
     Double,
 }
 
-/// The sewing of a drawing: its certificate, the design that sews it, and the report.
+/// Sews a drawing: makes its certificate, the file of the design that sews it, and the report.
 pub(crate) fn sew<'a, S: Store>(
     alloc: Global,
     way: Way,
@@ -78,7 +78,7 @@ fn sew_drawn<'a>(
     Ok(product)
 }
 
-/// What is made for a drawing whose step is within the limit of the format.
+/// Returns the product of a drawing whose step is within the limit of the format.
 fn sewn<'a>(
     alloc: Global,
     way: Way,
@@ -98,7 +98,7 @@ fn sewn<'a>(
     }
 }
 
-/// What is made for a drawing by walks that none undercuts.
+/// Returns the product of a drawing that is sewn by walks of the least cost.
 fn routed<'a>(
     alloc: Global,
     names: RouteNames<'a>,
@@ -120,7 +120,7 @@ fn routed<'a>(
     Ok(product)
 }
 
-/// What is made for a drawing by double walks.
+/// Returns the product of a drawing that is sewn by double walks.
 fn doubled<'a>(
     alloc: Global,
     names: RouteNames<'a>,
@@ -142,7 +142,7 @@ fn doubled<'a>(
     Ok(product)
 }
 
-/// The certificate, which is written first, the file of the design, and the report.
+/// Returns the product of a certificate, which is written first, a design file and a report.
 fn sewn_product<'a>(
     alloc: Global,
     names: RouteNames<'a>,
@@ -168,7 +168,7 @@ fn sewn_product<'a>(
     Ok(product)
 }
 
-/// The file of a design that sews the walks of a certificate.
+/// Returns the file of a design that sews the walks of a certificate.
 fn encoded(
     alloc: Global,
     format: &Box<dyn Format>,

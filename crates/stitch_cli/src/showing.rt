@@ -13,7 +13,7 @@ use outside_io::Store;
 use program_texts::print_loaded;
 use std::alloc::Global;
 
-/// The report on what a file holds, of the format at a place.
+/// Makes the report on the contents of a file. `place` is the index of the format of the file.
 pub(crate) fn show<'a, S: Store>(
     alloc: Global,
     file: &'a str,

@@ -20,8 +20,8 @@ use program_texts::print_tracing;
 use std::alloc::Global;
 use stitch_trace::{TraceFault, trace};
 
-/// The drawing of what a file of the format at a place sews, in the plain spelling of version 2, and what is
-/// told of it.
+/// Traces the drawing of what a file sews: makes the canonical text of version 2, and a report on it. `place`
+/// is the index of the format of the file.
 pub(crate) fn trace_file<'a, S: Store>(
     alloc: Global,
     file: &'a str,
