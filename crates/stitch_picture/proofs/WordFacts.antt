@@ -1,4 +1,4 @@
--- Worked values of what words ask for, and of the status where there is no picture.
+-- Worked values of parsed arguments, and of the status if there is no picture.
 use Rattle.std.proofs.Common.{◌≡◌, ℕ, List, true, false, [], ◌∷◌, Some, None, codes, map, replicate, refl}
 use Rattle.format_traits.specs.Meanings.{Meaning}
 use Rattle.stitch_picture.specs.declared.finish.Halt.TheVariants as halt
@@ -11,11 +11,11 @@ pub known_pictures : map is_svg (codes "a.svg" ∷ codes "a.SVG" ∷ codes "svg"
     ≡ true ∷ false ∷ false ∷ false ∷ false ∷ []
 known_pictures = refl
 
--- two names ask for a picture, the input first
+-- Two names request a picture, the input first.
 pub known_two_names : names_of (codes "a.pes" ∷ codes "b.svg" ∷ []) ≡ Some (record { input = codes "a.pes"; output = codes "b.svg" })
 known_two_names = refl
 
--- no other number of words does, no word without a byte, no other ending, and no name twice
+-- No other number of arguments, no empty argument, no other ending and no repeated name requests a picture.
 pub known_no_names : map names_of (
     [] ∷ (codes "a.pes" ∷ []) ∷ (codes "a.pes" ∷ codes "b.svg" ∷ codes "c.svg" ∷ []) ∷ ([] ∷ codes "b.svg" ∷ [])
     ∷ (codes "a.pes" ∷ [] ∷ []) ∷ (codes "a.svg" ∷ codes "b.pes" ∷ []) ∷ (codes "b.svg" ∷ codes "b.svg" ∷ []) ∷ [])
@@ -35,6 +35,6 @@ known_order m = refl
 pub known_no_format : (m : Meaning) → order_of (ending_as m (codes "dst") ∷ []) (codes "a.jef" ∷ codes "b.svg" ∷ []) ≡ None
 known_no_format m = refl
 
--- an input that can't be had is a fault, one that says no design is refused
+-- An input that can't be read is a fault; one that does not conform to its format is refused.
 pub known_statuses : map status_of (halt.NotRead ∷ halt.Refused ∷ halt.Memory ∷ []) ≡ status.Fault ∷ status.Refused ∷ status.Memory ∷ []
 known_statuses = refl

@@ -1,3 +1,3 @@
--- read this one first: how a run ends
+-- Read Runs first: the guarantees of each exit status.
 pub mod Runs
 pub mod Orders

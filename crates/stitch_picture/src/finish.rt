@@ -4,33 +4,33 @@ ghost use Rattle.stitch_picture.specs.Runs.{Tells};
 
 use outside_io::{Failed, Sink};
 
-/// How a call of the program ended, which is its exit status.
+/// The exit status of the program.
 #[derive(Clone, Copy, Debug, PartialEq, Eq)]
 pub enum Status {
     /// The picture is written.
     Done = 0,
-    /// The input file says no design. No file was changed.
+    /// The input file is too long, or does not conform to its format. No file was changed.
     Refused = 1,
-    /// The words ask for no picture. No file was changed.
+    /// The arguments request no picture. No file was changed.
     Usage = 2,
-    /// A file or standard error failed, or the input file isn't there.
+    /// A file or standard error failed, or the input file does not exist.
     Fault = 3,
-    /// Memory was wanted and not found. No file was changed.
+    /// Out of memory. No file was changed.
     Memory = 4,
 }
 
-/// Why there is no picture.
+/// Why no picture was made.
 #[derive(Clone, Copy, Debug, PartialEq, Eq)]
 pub enum Halt {
-    /// The input file isn't there, or a read failed.
+    /// The input file does not exist, or a read failed.
     NotRead,
-    /// The input file is too long, or none of its format.
+    /// The input file is too long, or does not conform to its format.
     Refused,
-    /// Memory was wanted and not found.
+    /// Out of memory.
     Memory,
 }
 
-/// Tells on one line why there is no picture.
+/// Reports a failure on one line.
 pub(crate) fn tell_halt<E: Sink>(err: &mut E, why: Halt, name: &str) -> Status
     ensures { Tells why result }
 {
@@ -41,7 +41,7 @@ pub(crate) fn tell_halt<E: Sink>(err: &mut E, why: Halt, name: &str) -> Status
     }
 }
 
-/// Tells what the words may be.
+/// Reports the usage text.
 pub(crate) fn tell_usage<E: Sink>(err: &mut E) -> Status
     ensures { (result ≡ status.Usage) ⊎ (result ≡ status.Fault) }
 {
@@ -51,7 +51,7 @@ pub(crate) fn tell_usage<E: Sink>(err: &mut E) -> Status
     }
 }
 
-/// Puts a line about a name, and answers the status that is planned where that went well.
+/// Reports a line about a name, and returns the planned status, or `Fault` if a put failed.
 pub(crate) fn tell<E: Sink>(err: &mut E, planned: Status, what: &[u8], name: &str) -> Status
     ensures { (result ≡ planned) ⊎ (result ≡ status.Fault) }
 {

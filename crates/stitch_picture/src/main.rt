@@ -1,5 +1,5 @@
-//! The program that shows a stitch file as a picture: it makes the real files, standard error and formats,
-//! and hands them with its words to `run`.
+//! A second program: draws the design of a stitch file as a picture. Creates the real files, standard error
+//! and formats, and passes them with the arguments to `run`.
 #![tactic(auto)]
 
 mod finish;

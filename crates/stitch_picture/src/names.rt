@@ -4,14 +4,14 @@ ghost use Rattle.stitch_picture.specs.Orders.{is_svg as is_an_svg, names_by, nam
 
 use outside_io::is_name;
 
-/// The input file and the picture's file.
+/// The names of the input file and of the picture file.
 #[derive(Clone, Copy, Debug)]
 pub struct Names<'a> {
     pub input: &'a str,
     pub output: &'a str,
 }
 
-/// The two names that the words ask for, where they are two names.
+/// Parses the arguments: two file names.
 pub(crate) fn names_in(words: &[String]) -> Option<Names<'_>>
     ensures value { option_map names_value result ≡ names_of (map string_bytes words.now) }
     ensures input { IfSome result (λ names. IsName names.input.now) }

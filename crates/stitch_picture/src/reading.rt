@@ -14,7 +14,7 @@ use format_traits::Format;
 use outside_io::{GetFault, Store};
 use std::alloc::Global;
 
-/// The picture of the design of a file.
+/// Reads a design file and returns its picture.
 pub(crate) fn picture_in<S: Store>(
     alloc: Global,
     input: &str,
@@ -41,7 +41,7 @@ fn drawn(alloc: Global, design: &Design) -> Result<Bytes, Halt>
     }
 }
 
-/// Why there is no picture of a file that was not read.
+/// Returns the failure for a file that was not read.
 fn unread(fault: GetFault) -> Halt
     ensures { (m : Meaning) (input : List ℕ) (old new : StoreSight)
         → ReadsWhole input MAX_FILE old new (Err fault) → ShowsFile m input old.files (Err result) }

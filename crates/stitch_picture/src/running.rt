@@ -11,8 +11,8 @@ use format_traits::{Format, find};
 use outside_io::{Failed, Sink, Store, write_whole};
 use std::alloc::Global;
 
-/// Writes the picture of the design that the first word's file holds to the file of the second word. Where
-/// it isn't done it puts one line to `err`.
+/// Draws the design in the file of the first argument, and writes the picture to the file of the second.
+/// Otherwise prints one line to `err`.
 pub fn run<S: Store, E: Sink>(
     alloc: Global,
     words: &[String],
