@@ -9,14 +9,14 @@ const LINE: &[u8] = b"redwork 1\nstep 10\ncolor 1\nline 0 0 40 0\n";
 
 const LINE_CERT: &[u8] = b"redwork-certificate 1\npiece 4\nwalk 1 -1\ncut 8 1\nend\n";
 
-/// Four junctions, each joined with each.
+/// Four junctions, each connected to each other by a line.
 const FOUR: &[u8] =
     b"redwork 1\nstep 30\ncolor 1\nline 0 0 30 0\nline 0 0 30 30\nline 0 0 0 30\nline 30 0 30 30\nline 30 0 0 30\nline 30 30 0 30\n";
 
 const FOUR_REPORT: &str =
     "block 1 piece 1 lines 6 cost 6 retraced 2 penetrations 9\npieces 1 penetrations 9\n";
 
-/// A line there and back, and what may be wrong with what is said of it.
+/// A line passed in both directions, and faults in its certificate.
 pub static JUDGED: &[Row] = &[
     Row {
         before: &[
@@ -125,7 +125,7 @@ pub static JUDGED: &[Row] = &[
     },
 ];
 
-/// The sample of number 75, whose four junctions are each joined with each.
+/// The sample drawing of number 75, whose four junctions are each connected to each other.
 pub static SAMPLED: &[Row] = &[Row {
     before: &[],
     steps: &[

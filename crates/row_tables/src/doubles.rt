@@ -4,7 +4,7 @@ const BOTH_WAYS: &[&str] = &["double", "a.rw", "b.dst", "b.cert"];
 
 const OF_DST: &[&str] = &["check", "a.rw", "b.dst", "b.cert"];
 
-/// A square of 30, there and back, a trim and the end.
+/// The records of a square of 30, passed in both directions, a trim and the end.
 const SQUARE_RECORDS: [u8; 39] = [
     0x00, 0x00, 0x03, 0x00, 0x05, 0x03, 0x00, 0x50, 0x03, 0x00, 0x0a, 0x03, 0x00, 0xa0, 0x03, 0x00,
     0x50, 0x03, 0x00, 0x05, 0x03, 0x00, 0xa0, 0x03, 0x00, 0x0a, 0x03, 0x82, 0x41, 0x83, 0x82, 0x82,
@@ -36,7 +36,7 @@ pub static DOUBLED: &[Row] = &[
             ),
         ],
     },
-    // Four junctions, each joined with each.
+    // Four junctions, each connected to each other by a line.
     Row {
         before: &[(
             "a.rw",

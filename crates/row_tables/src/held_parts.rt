@@ -1,6 +1,6 @@
 ghost use Rattle.std.specs.Prelude.{◌≡◌, ◌≤◌, true, length};
 
-/// Whether a file has so many bytes, and from that offset on these.
+/// Returns whether a file has `size` bytes, and contains these bytes at that offset.
 pub fn has_part(file: &[u8], size: usize, offset: usize, bytes: &[u8]) -> bool
     ensures size { (result ≡ true) → (length file.now ≡ size) }
     ensures within { (result ≡ true) → (offset ≤ size) }

@@ -1,5 +1,4 @@
-//! Rows of tests as data: the files that are there, commands one after another and what each leaves;
-//! and the rows of drawings.
+//! Cases of tests as data: the files before, commands one after another, and the expected results of each.
 #![tactic(auto)]
 
 mod checks;

@@ -1,4 +1,4 @@
-/// A DST file of these records behind any header; spaces are put.
+/// A DST file of these records after any header; the header is filled with spaces.
 #[macro_export]
 macro_rules! records {
     ($bytes:expr) => {
@@ -6,7 +6,7 @@ macro_rules! records {
     };
 }
 
-/// A step without a failing call.
+/// A step in which no call fails.
 #[macro_export]
 macro_rules! step {
     ($words:expr, $status:expr, $out:expr, $err:expr, $after:expr) => {
@@ -25,7 +25,7 @@ macro_rules! step {
     };
 }
 
-/// A step that is done, and prints and writes this.
+/// A step that is done, with its report and the files that it writes.
 #[macro_export]
 macro_rules! done {
     ($words:expr, $out:expr, $after:expr $(,)?) => {
@@ -33,7 +33,7 @@ macro_rules! done {
     };
 }
 
-/// A step that is refused, says why, and writes nothing.
+/// A step that is refused, with its line; it writes nothing.
 #[macro_export]
 macro_rules! refused {
     ($words:expr, $err:expr $(,)?) => {

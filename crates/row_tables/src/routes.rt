@@ -12,7 +12,7 @@ const TO_DST: &[&str] = &["route", "a.rw", "b.dst", "b.cert"];
 
 const TO_EXP: &[&str] = &["route", "a.rw", "b.exp", "b.cert"];
 
-/// The fields of the square's header.
+/// The fields of the header for the square.
 const SQUARE_FIELDS: &[u8] =
     b"LA:                \rST:      9\rCO:  0\r+X:   30\r-X:    0\r+Y:    0\r-Y:   30\rAX:+    0\rAY:+    0\rMX:+    0\rMY:+    0\rPD:******\r\x1a   ";
 
@@ -35,7 +35,7 @@ const TWO_SQUARES: &[u8] =
 
 const TWO_CERT: &[u8] = b"redwork-certificate 1\npiece 0\nwalk 1\npiece 0\nwalk 2\nend\n";
 
-/// Spelled freely, from another point on; the step is 25, so each side takes two.
+/// A drawing text in a free layout, which starts at another point. The step is 25: each side takes two.
 const FREE: &[u8] = b"# a square\r\n redwork\t1\r\ncolor 05\n\nline 7 -3 37 -3 37 27 7 27 7 -3";
 
 const TWO_REPORT: &str =
@@ -89,7 +89,7 @@ pub static CLOSED: &[Row] = &[
 ];
 
 pub static MEETING: &[Row] = &[
-    // A line there and back.
+    // A line, passed in both directions.
     Row {
         before: &[(
             "a.rw",
@@ -101,7 +101,7 @@ pub static MEETING: &[Row] = &[
             &[],
         )],
     },
-    // Two junctions that three lines join.
+    // Two junctions, connected by three lines.
     Row {
         before: &[(
             "a.rw",
@@ -129,7 +129,7 @@ pub static MEETING: &[Row] = &[
             &[],
         )],
     },
-    // Four junctions, each joined with each.
+    // Four junctions, each connected to each other by a line.
     Row {
         before: &[(
             "a.rw",
@@ -235,7 +235,7 @@ pub static PATTERN: &[Row] = &[Row {
     ],
 }];
 
-/// A step of 125, which EXP takes; texts that say no drawing; drawings beyond their limits.
+/// A step of 125, which EXP accepts; texts that are not drawings; drawings that exceed their limits.
 pub static NOT_ROUTED: &[Row] = &[
     Row {
         before: &[(

@@ -1,29 +1,29 @@
-/// What a file holds.
+/// The content of a file.
 #[derive(Clone, Copy, Debug)]
 pub enum Holds {
-    /// These bytes.
+    /// Exactly these bytes.
     Bytes(&'static [u8]),
-    /// A text, filled with spaces up to that length, and then so many times these bytes.
+    /// A text, filled with spaces up to that length, and then n times these bytes.
     Behind(&'static [u8], usize, usize, &'static [u8]),
-    /// So many bytes, and from that offset on these.
+    /// A content of n bytes, with these bytes at that offset.
     At(usize, usize, &'static [u8]),
-    /// What the file of that name holds.
+    /// The content of the file of that name.
     Same(&'static str),
-    /// There is no such file.
+    /// No such file exists.
     Nothing,
 }
 
-/// What is printed.
+/// The expected report.
 #[derive(Clone, Copy, Debug)]
 pub enum Says {
-    /// This text.
+    /// Exactly this text.
     All(&'static str),
     /// A text that ends with this.
     Last(&'static str),
 }
 
-/// Which calls fail, by their numbers: of the store, counted over the whole row, and of the puts on
-/// standard output and on standard error. They count from 1, so that 0 fails none.
+/// The calls that fail, by their numbers: calls of the store, counted over the entire case, and puts on
+/// standard output and on standard error. They count from 1: 0 means that none fails.
 #[derive(Clone, Copy, Debug)]
 pub struct Calls {
     pub store: u64,
@@ -31,7 +31,7 @@ pub struct Calls {
     pub err: u64,
 }
 
-/// A command with its exit status, and what it leaves.
+/// A command with its exit status, and the expected results.
 #[derive(Clone, Copy, Debug)]
 pub struct Step {
     pub words: &'static [&'static str],
@@ -42,7 +42,7 @@ pub struct Step {
     pub after: &'static [(&'static str, Holds)],
 }
 
-/// The files that are there, and commands one after another.
+/// The files before, and commands one after another.
 #[derive(Clone, Copy, Debug)]
 pub struct Row {
     pub before: &'static [(&'static str, Holds)],

@@ -4,9 +4,9 @@ const TO_DST: &[&str] = &["route", "a.rw", "b.dst", "b.cert"];
 
 const OF_DST: &[&str] = &["check", "a.rw", "b.dst", "b.cert"];
 
-/// Drawings with starts and ends, and what refuses them.
+/// Drawings with starts and ends of walks, and their faults.
 pub static ENDED: &[Row] = &[
-    // From one end of a stroke to the other, and from its far end there and back.
+    // From the start of a line to its end, and from its end back to its end.
     Row {
         before: &[(
             "a.rw",
@@ -73,7 +73,7 @@ pub static ENDED: &[Row] = &[
         )],
         steps: &[refused!(TO_DST, "stitch: a.rw: line 11: start or end repeated\n")],
     },
-    // A walk that the certificate begins elsewhere, and one that it ends elsewhere.
+    // A walk that starts elsewhere in the certificate, and one that ends elsewhere.
     Row {
         before: &[
             (

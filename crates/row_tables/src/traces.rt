@@ -6,9 +6,9 @@ const OF_DST: &[&str] = &["trace", "b.dst", "s.rw"];
 
 const OF_EXP: &[&str] = &["trace", "a.exp", "s.rw"];
 
-/// What files sew, drawn.
+/// Drawings of what files sew.
 pub static TRACED: &[Row] = &[
-    // A closed line, of which each link is new.
+    // A closed line, each link of which is sewn once.
     Row {
         before: &[(
             "a.rw",
@@ -30,7 +30,7 @@ pub static TRACED: &[Row] = &[
             ),
         ],
     },
-    // A line there and back, of which each link is new once.
+    // A line passed in both directions: each link is drawn once.
     Row {
         before: &[(
             "a.rw",
@@ -52,7 +52,7 @@ pub static TRACED: &[Row] = &[
             ),
         ],
     },
-    // A line that comes back to a point inside it, and a second block.
+    // A line that returns to a point inside it, and a second block.
     Row {
         before: &[(
             "a.exp",
@@ -80,7 +80,7 @@ pub static TRACED: &[Row] = &[
             step!(OF_DST, 3, Says::All(""), "stitch: cannot read b.dst\n", &[]),
         ],
     },
-    // A link is longer than a step may be.
+    // A link that exceeds the maximum of a step.
     Row {
         before: &[(
             "a.pec",

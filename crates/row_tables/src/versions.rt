@@ -10,7 +10,7 @@ const TO_TWO: &[&str] = &["migrate", "a.rw", "s.rw"];
 const CROSSED: &[u8] =
     b"redwork 2\nstep 10\ncolor 1\nline 0 0 10 0\nline 10 0 20 0\nline 10 -10 10 0\nline 10 0 10 10\n";
 
-/// A drawing in its version, and the same lines migrated.
+/// A drawing in version 1, and its lines migrated to version 2.
 pub static VERSIONS: &[Row] = &[
     Row {
         before: &[(
@@ -30,7 +30,7 @@ pub static VERSIONS: &[Row] = &[
                 "lines 4 pieces 1 cost 4\n",
                 &[("s.rw", Holds::Bytes(CROSSED))],
             ),
-            // What is migrated stays as it is, in a file of any name.
+            // A migrated drawing is unchanged by a second migration, in a file of any name.
             done!(
                 &["migrate", "s.rw", "b.dst"],
                 "lines 4 pieces 1 cost 4\n",
@@ -80,7 +80,7 @@ pub static VERSIONS: &[Row] = &[
     },
 ];
 
-/// Texts that say no drawing of version 2, and one that isn't there.
+/// Texts that are not drawings of version 2, and a missing file.
 pub static NOT_MIGRATED: &[Row] = &[
     Row {
         before: &[("a.rw", Holds::Bytes(b"redwork 4\ncolor 1\nline 0 0 9 9\n"))],
@@ -104,7 +104,7 @@ pub static NOT_MIGRATED: &[Row] = &[
             ),
         ],
     },
-    // Each of the points inside the line is listed again: 1,024 sections, and one more.
+    // Each inner point of the line is listed twice: 1,024 sections, and then one more.
     Row {
         before: &[(
             "a.rw",
