@@ -1,4 +1,4 @@
-//! The program: it makes the real files, streams and formats, and hands them with its words to `run`.
+//! The program: creates the real files, streams and formats, and passes them with the arguments to `run`.
 #![tactic(auto)]
 
 #[cfg(test)]

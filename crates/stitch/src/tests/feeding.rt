@@ -1,4 +1,4 @@
-//! That a stitch file is fed to its format, and not decoded whole.
+//! A stitch file is fed to its format part by part, and not decoded as a whole.
 use crate::tests::rows::behind;
 use design_model::{Bytes, Command, Design, Memory};
 use dst_codec::Dst;
@@ -8,7 +8,7 @@ use std::alloc::Global;
 use std::test::Fail;
 use stitch_cli::{Status, run};
 
-/// The DST format, but for whole files it has never memory.
+/// The DST format, except that decoding an entire file always runs out of memory.
 #[derive(Drop)]
 struct FedAlone {
     dst: Dst,

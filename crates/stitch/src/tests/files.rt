@@ -4,7 +4,7 @@ use std::test::Fail;
 
 const SHOW: &[&str] = &["show", "a.dst"];
 
-/// Cut off in its second record; three jumps, which read as a trim; two jumps; a stop alone.
+/// A file cut off in its second record; three jumps, which are read as a trim; two jumps; only a stop.
 static SHOWN: &[Row] = &[
     Row {
         before: &[("a.dst", records!(&[0x00, 0x05, 0x03, 0x00, 0x05]))],
@@ -48,7 +48,7 @@ static SHOWN: &[Row] = &[
     },
 ];
 
-/// Files that are none of their format; the last has too many commands.
+/// Files that do not conform to their format; the last has too many commands.
 static NOT_SHOWN: &[Row] = &[
     Row {
         before: &[("a.dst", Holds::Behind(b"", 511, 0, b""))],

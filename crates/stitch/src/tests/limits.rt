@@ -10,7 +10,7 @@ const HEAD: &[u8] = b"redwork 1\n";
 
 const LINES: &[u8] = b"color 1\nline 0 0 10 0 0 0\n";
 
-/// A drawing of a head of that length and so many times a middle, and the step that routes it.
+/// A drawing text of a head of that length and n times a middle, and the step that routes it.
 macro_rules! routed {
     ($head:expr, $length:expr, $times:expr, $middle:expr, $step:expr) => {
         Row {
@@ -20,7 +20,7 @@ macro_rules! routed {
     };
 }
 
-/// Drawings at a limit and beyond it: blocks, points and the step.
+/// Drawings at a limit and above it: blocks, points and the step.
 static DRAWINGS: &[Row] = &[
     routed!(
         HEAD,
@@ -71,7 +71,7 @@ static DRAWINGS: &[Row] = &[
     ),
 ];
 
-/// A text that is no certificate, and the line that `check` puts.
+/// A text that is not a certificate, and the line that `check` reports.
 macro_rules! unread {
     ($text:expr, $line:expr) => {
         Row {

@@ -2,7 +2,7 @@ use super::rows::play;
 use row_tables::{Holds, Row, done, refused};
 use std::test::Fail;
 
-/// Designs as lists, lists as designs, and texts that are none.
+/// Designs written as stitch lists, lists read as designs, and texts that are not lists.
 static LISTS: &[Row] = &[
     Row {
         before: &[(
@@ -33,7 +33,7 @@ static LISTS: &[Row] = &[
             ),
         ],
     },
-    // A float in four jumps is one line.
+    // A float in four jumps is one line of the list.
     Row {
         before: &[(
             "a.exp",

@@ -30,7 +30,7 @@ const WRITE_CERT: &str = "stitch: cannot write b.cert\n";
 
 const WRITE_DESIGN: &str = "stitch: cannot write b.dst\n";
 
-/// Over these files a command fails, where these calls do; it prints nothing.
+/// A command that fails over these files if these calls fail; it prints nothing.
 macro_rules! fault {
     ($before:expr, $words:expr, ($store:expr, $out:expr, $err:expr), $line:expr, $after:expr) => {
         Row {
@@ -51,7 +51,7 @@ macro_rules! fault {
     };
 }
 
-/// A route whose call of the store of that number fails, and what it leaves: the certificate and the design.
+/// A route in which the store call of that number fails, and the expected certificate and design files.
 macro_rules! stopped {
     ($call:expr, $line:expr, $cert:expr, $design:expr) => {
         fault!(
@@ -64,7 +64,7 @@ macro_rules! stopped {
     };
 }
 
-/// A fault names its file, and leaves what was written before. The name d.dst has no room.
+/// A fault names its file. Files written before it are unchanged. The name d.dst has no room.
 static FAULTS: &[Row] = &[
     stopped!(1, READ, Holds::Nothing, Holds::Nothing),
     stopped!(2, READ, Holds::Nothing, Holds::Nothing),
@@ -105,7 +105,7 @@ static FAULTS: &[Row] = &[
     ),
 ];
 
-/// A line is one put, and one that can't be put is a fault.
+/// A line is one put; a failed put is a fault.
 static LINES: &[Row] = &[
     fault!(&[], &[], (0, 1, 1), "", &[]),
     fault!(

@@ -11,15 +11,15 @@ const SQUARE: &[(&str, Holds)] = &[(
     Holds::Bytes(b"redwork 1\nstep 30\ncolor 5\nline 0 0 30 0 30 30 0 30 0 0\n"),
 )];
 
-/// Where a first part of a file has its end.
+/// The position of the end of file in a prefix.
 #[derive(Clone, Copy)]
 enum Ends {
     From(usize),
     At(&'static [usize]),
 }
 
-/// A routed file, and what `show` says of its first parts: they have no signature below one length, are
-/// too short below another, and have their end as told.
+/// A routed file, and the results of `show` on its prefixes. Below one length the signature is missing, below
+/// another the file is too short; the file ends at that position.
 #[derive(Clone, Copy)]
 struct File {
     written: &'static str,
@@ -72,14 +72,14 @@ fn has_end(ends: Ends, count: usize) -> bool {
     }
 }
 
-/// How many commands so many first bytes of the DST file show: one a record, but that the third jump reads
-/// as a trim and a jump.
+/// Returns the number of commands in the first n bytes of the DST file: one for each record, except that the
+/// third jump is read as a trim and a jump.
 fn dst_commands(count: usize) -> usize {
     let records = count.saturating_sub(512) / 3;
     if records < 8 { records } else { 9 }
 }
 
-/// Whether a text has this line, which isn't its first and comes with the ends of lines around it.
+/// Returns whether a text contains this line, given with the line terminators around it.
 fn has_line(text: &[u8], line: &[u8]) -> bool {
     for start in 0..text.len() {
         if text[start..].starts_with(line) {
@@ -89,7 +89,7 @@ fn has_line(text: &[u8], line: &[u8]) -> bool {
     false
 }
 
-/// Shows so many first bytes of a file, and compares what is said.
+/// Runs `show` on the first n bytes of a file, and compares the report.
 fn shows(
     rt: &impl Abort,
     alloc: Global,

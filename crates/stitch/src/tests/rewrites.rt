@@ -8,7 +8,7 @@ const FLOAT: [u8; 20] = [
     0x64, 0x00, 0x00, 0x00,
 ];
 
-/// The same in DST with a trim before the jumps.
+/// In DST: a stitch, a trim, four jumps of 100 to the right, and a stitch.
 const CUT_FLOAT: [u8; 30] = [
     0x00, 0x00, 0x03, 0x82, 0x41, 0x83, 0x82, 0x82, 0x83, 0x82, 0x41, 0x83, 0x09, 0x04, 0x87, 0x09,
     0x04, 0x87, 0x09, 0x04, 0x87, 0x09, 0x04, 0x87, 0x00, 0x00, 0x03, 0x00, 0x00, 0xF3,
@@ -20,7 +20,7 @@ const FIVE: &[u8] = &[
     0x00, 0x00,
 ];
 
-/// Their records in PEC.
+/// In PEC: five stitches with two stops.
 const FIVE_RECORDS: &[u8] = &[
     0x00, 0x00, 0x3E, 0x41, 0x80, 0x3F, 0x80, 0x00, 0xFE, 0xB0, 0x02, 0x00, 0x00, 0xFE, 0xB0, 0x01,
     0x00, 0x00, 0xFF,
@@ -38,7 +38,7 @@ const THREE: &[u8] = &[
     0x00, 0x00,
 ];
 
-/// The same as it is written.
+/// The EXP file of these acts, as the program writes it.
 const THREE_WRITTEN: &[u8] = &[
     0x00, 0x00, 0x80, 0x01, 0x00, 0x00, 0x80, 0x04, 0x14, 0x0A, 0x00, 0x00, 0x80, 0x80, 0x07, 0x00,
     0x80, 0x04, 0x05, 0x05, 0x00, 0x00,
@@ -79,7 +79,7 @@ static REFITS: &[Row] = &[
             ),
         ],
     },
-    // A float of 400 is too long for DST; where it is cut, the jumps follow a trim.
+    // A float of 400 is too long for DST; if it is cut, the jumps follow a trim.
     Row {
         before: &[("a.exp", Holds::Bytes(&FLOAT))],
         steps: &[
@@ -184,7 +184,7 @@ static WRITTEN: &[Row] = &[
 ];
 
 static EDITS: &[Row] = &[
-    // A quarter turn brings what points to the right downwards.
+    // A quarter turn maps the right to the bottom.
     Row {
         before: &[("a.exp", Holds::Bytes(&[0x00, 0x00, 0x1E, 0x00]))],
         steps: &[done!(

@@ -1,4 +1,4 @@
-//! The one function that runs rows of tests: commands one after another over one store.
+//! Runs the cases of tests: commands one after another over one store.
 use dst_codec::Dst;
 use exp_codec::Exp;
 use format_traits::Format;
@@ -11,12 +11,12 @@ use std::test::Fail;
 use stitch_cli::{Status, run};
 use stitch_text::List;
 
-/// The names that have room for what commands write.
+/// The file names that have room for what commands write.
 const WRITTEN: [&str; 10] = [
     "b.dst", "b.exp", "b.pec", "b.pes", "b.cert", "c.exp", "c.pes", "s.rw", "b.lst", "c.dst",
 ];
 
-/// Runs the rows.
+/// Runs the cases.
 pub fn play(rt: &impl Abort, alloc: Global, rows: &[Row]) -> Result<(), Fail> {
     for row in rows {
         let mut store = stocked(alloc, row.before)?;
@@ -27,7 +27,7 @@ pub fn play(rt: &impl Abort, alloc: Global, rows: &[Row]) -> Result<(), Fail> {
     Ok(())
 }
 
-/// A store with these files, and with room for what is written.
+/// Returns a store with these files, and with room for what is written.
 pub fn stocked(alloc: Global, before: &[(&'static str, Holds)]) -> Result<MemStore, Fail> {
     let mut store = MemStore::new(alloc);
     for (name, holds) in before {
@@ -51,7 +51,7 @@ fn put(alloc: Global, store: &mut MemStore, name: &str, holds: Holds) -> Result<
     Ok(())
 }
 
-/// A text, filled with spaces up to that length, and then so many times these bytes.
+/// Returns a text, filled with spaces up to that length, and then n times these bytes.
 pub fn behind(
     alloc: Global,
     text: &[u8],
@@ -91,7 +91,7 @@ fn take(rt: &impl Abort, alloc: Global, step: &Step, store: &mut MemStore) -> Re
     Ok(())
 }
 
-/// How long the files are that commands write.
+/// Returns the lengths of the files that commands write.
 fn sizes(store: &MemStore) -> [Option<usize>; 10] {
     let mut sizes = [None; 10];
     for (size, name) in sizes.iter_mut().zip(WRITTEN) {
@@ -115,7 +115,7 @@ fn is_held(store: &MemStore, name: &str, holds: Holds) -> bool {
     }
 }
 
-/// The status of the program over its five formats.
+/// Runs the program over its five formats, and returns its exit status.
 pub fn answer(
     alloc: Global,
     words: &[&str],

@@ -15,7 +15,7 @@ const USAGE: &str = "usage: stitch route DRAWING OUT CERT
        stitch double DRAWING OUT CERT
 ";
 
-/// A step whose words ask for nothing.
+/// A step whose arguments request nothing.
 macro_rules! unasked {
     ($words:expr) => {
         step!($words, 2, Says::All(""), USAGE, &[])
